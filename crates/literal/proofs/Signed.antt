@@ -1,0 +1,56 @@
+-- What the machine's signed operations make of an i32, in the integers' own terms.
+use mathlib.Core.Path.{_≡_, refl}
+use mathlib.Core.Bool.{true, false, true≢false}
+use Prim.Native.Nat.{_<_}
+use native.Mathlib.Nat.{zero-add, not-suc-le-zero}
+use native.Mathlib.Omega.{arith}
+use borrow.Author.Tests.{ltb-true}
+use lib.IntN.{ℤ, pos, negsuc, natAbs, _-ℤ_}
+use lib.Signed.{ltZ}
+use mir.Syntax.{w32, w64}
+use mir.Val.{Fits, SFits, toZ, ofZ}
+use mir.ValLaws.{toZ-ofZ}
+use Rattle.literal.specs.Literal.{wanted}
+
+pub widens : (x : ℤ) → SFits w32 x → SFits w64 x
+widens x f = record { sfits = omega (arith, f .sfits) }
+
+-- an i32, as it lies in an i64
+abbrev pub wide : ℤ → ℤ
+wide x = toZ w64 (ofZ w64 (toZ w32 (ofZ w32 x)))
+
+pub wide-is : (x : ℤ) → SFits w32 x → wide x ≡ x
+wide-is x f = rw (toZ-ofZ w32 x f) (toZ-ofZ w64 x (widens x f))
+
+-- the magnitude of an i32 fits an i64 and a usize
+pub magnitude-fits : (x : ℤ) → SFits w32 x → SFits w64 (pos (natAbs x))
+magnitude-fits (pos n) f = record { sfits = omega (arith, f .sfits) }
+magnitude-fits (negsuc n) f = record { sfits = omega (arith, f .sfits) }
+
+pub magnitude-usize : (x : ℤ) → SFits w32 x → Fits w64 (natAbs x)
+magnitude-usize x f = record { fits = omega (arith, magnitude-fits x f .sfits) }
+
+negated : (x : ℤ) → ltZ x (pos 0) ≡ true → pos 0 -ℤ x ≡ pos (natAbs x)
+negated (pos n) e = absurd (not-suc-le-zero (ltb-true n 0 e))
+negated (negsuc n) e = rw zero-add
+
+-- a negative number's negation is its magnitude
+pub negative : (x : ℤ) → SFits w32 x → ltZ (wide x) (pos 0) ≡ true → pos 0 -ℤ wide x ≡ pos (natAbs x)
+negative x f e = rw (wide-is x f) (negated x (rw (wide-is x f) at e))
+
+-- what is not negative is its own magnitude
+plain : (x : ℤ) → ltZ x (pos 0) ≡ false → x ≡ pos (natAbs x)
+plain (pos n) e = refl
+plain (negsuc n) e = absurd (true≢false e)
+
+pub nonnegative : (x : ℤ) → SFits w32 x → ltZ (wide x) (pos 0) ≡ false → wide x ≡ pos (natAbs x)
+nonnegative x f e = rw (wide-is x f) (plain x (rw (wide-is x f) at e))
+
+-- the sign says which value a literal wants
+pub wanted-negative : (x : ℤ) → ltZ x (pos 0) ≡ true → wanted x ≡ 0
+wanted-negative (pos n) e = absurd (not-suc-le-zero (ltb-true n 0 e))
+wanted-negative (negsuc n) e = refl
+
+pub wanted-positive : (x : ℤ) → ltZ x (pos 0) ≡ false → wanted x ≡ 1
+wanted-positive (pos n) e = refl
+wanted-positive (negsuc n) e = absurd (true≢false e)

@@ -1,0 +1,52 @@
+// Variables, clauses and literals: the one place with signed arithmetic. Everything above works on
+// the numbers and booleans that these functions give.
+ghost use mathlib.Core.Path.{_≡_};
+ghost use Rattle.literal.specs.Literal.{variable, wanted, value, holds};
+
+// A variable's number, from 1 (document 01: a setting).
+pub struct Variable(pub usize);
+
+// A clause's number, from 1 (document 01: a rule).
+pub struct Clause(pub usize);
+
+// The variable of a literal. The detour over i64 takes in the least i32, whose magnitude no i32 has.
+pub fn variable_of(x: i32) -> Variable
+    ensures { λ r. ⌜ r .0 ≡ variable x ⌝ }
+{
+    let wide = x as i64;
+    if wide < 0 {
+        Variable((-wide) as usize)
+    } else {
+        Variable(wide as usize)
+    }
+}
+
+// The value that makes a literal hold: 1 for on, 0 for off.
+pub fn wanted_by(x: i32) -> u8
+    ensures { λ r. ⌜ r ≡ wanted x ⌝ }
+{
+    if x < 0 { 0 } else { 1 }
+}
+
+// A variable's value in an assignment, 2 where it has none.
+pub fn value_of(v: Variable, assignment: &[u8]) -> u8
+    ensures { λ r. ⌜ r ≡ value (now (assignment .entry)) (v .0) ⌝ }
+{
+    let number = v.0;
+    if number == 0 {
+        return 2;
+    }
+    let at = number - 1;
+    if at < assignment.len() {
+        assignment[at]
+    } else {
+        2
+    }
+}
+
+// Whether a literal holds in an assignment.
+pub fn holds_in(x: i32, assignment: &[u8]) -> bool
+    ensures { λ r. ⌜ r ≡ holds (now (assignment .entry)) x ⌝ }
+{
+    value_of(variable_of(x), assignment) == wanted_by(x)
+}
