@@ -1,0 +1,75 @@
+-- `formula::clause_end` meets its contract. The loop's invariant: from here to the clause's end is as far as from the start.
+use mathlib.Core.Path.{_≡_, sym, ap, _∙_}
+use Prim.Native.Nat.{_+_, _-_, _≤_}
+use native.Mathlib.Omega.{arith}
+use lib.IntN.{pos}
+use lib.ListN.{length, getD, drop}
+use borrow.Author.Needs.{needs}
+use Rattle.literal.specs.Laws.{as-read}
+use Rattle.literal.specs.Literal.{variable}
+use Rattle.formula.specs.Formula.{clauseLength}
+use Rattle.formula.specs.Laws.{length-closed, length-literal, length-past}
+use Rattle.formula.proofs.clause_end.Statement.{statement}
+use Rattle.formula.proofs.clause_end.Tie as tie
+
+abbrev Inv-loop : tie.InvT-loop
+Inv-loop list from i₀ i = (from ≤ i) × (from + clauseLength (drop from list) ≡ i + clauseLength (drop i list))
+
+abbrev μ-loop : tie.MeasureT-loop
+μ-loop list from i₀ i = length list - i
+
+loop-holds : tie.Need-loop-holds Inv-loop μ-loop
+loop-holds c = search needs
+
+mul-variable-of : tie.Need-mul-variable-of Inv-loop μ-loop
+mul-variable-of c = search needs
+
+shared-slice-copy-out-variable-of : tie.Need-shared-slice-copy-out-variable-of Inv-loop μ-loop
+shared-slice-copy-out-variable-of c = search needs
+
+variable-of-requires : tie.Need-variable-of-requires Inv-loop μ-loop
+variable-of-requires c κs = search needs
+
+-- what the callee was handed is the list's element
+handed : (c : tie.After-struct-known Inv-loop μ-loop)
+    → c .before .variable-of .result .0 ≡ variable (getD (c .before .before .before .before .before .args .list .now) (c .before .before .before .before .loop .i) (pos 0))
+handed c =
+    c .before .variable-of .ensures
+    ∙ ap variable (as-read (getD (c .before .before .before .before .before .args .list .now) (c .before .before .before .before .loop .i) (pos 0)) (c .before .before .variable-of-arg .given))
+
+returns : tie.Need-returns Inv-loop μ-loop
+returns c =
+    let l = c .before .before .before .before .before .before .args .list .now in
+    let i = c .before .before .before .before .before .loop .i in
+    omega (arith, length-closed l i (c .before .before .before .before .loop-test .taken) (sym (handed (c .before)) ∙ c .if1 .taken))
+
+add-i : tie.Need-add-i Inv-loop μ-loop
+add-i c = search needs
+
+loop-less : tie.Need-loop-less Inv-loop μ-loop
+loop-less c = search needs
+
+loop-again : tie.Need-loop-again Inv-loop μ-loop
+loop-again c =
+    let l = c .before .before .before .before .before .before .args .list .now in
+    let i = c .before .before .before .before .before .loop .i in
+    omega (arith, length-literal l i (c .before .before .before .before .loop-test .taken) (λ e. c .if1 .left (handed (c .before) ∙ e)))
+
+returns-2 : tie.Need-returns-2 Inv-loop μ-loop
+returns-2 c = omega (arith, length-past (c .before .before .args .list .now) (c .before .loop .i) (c .loop-test .left))
+
+pub clause-end-spec : {M : Type 1} → statement M
+clause-end-spec =
+    tie.close
+    (tie.spec
+    Inv-loop
+    μ-loop
+    loop-holds
+    mul-variable-of
+    shared-slice-copy-out-variable-of
+    variable-of-requires
+    returns
+    add-i
+    loop-less
+    loop-again
+    returns-2)
