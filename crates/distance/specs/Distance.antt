@@ -1,0 +1,59 @@
+-- DISTANCE-SAT: how far an assignment is from what was wished, and the nearest of all that satisfy a formula.
+-- A wish row (document 01: "A wish row has n bytes: 0 off, 1 on, 2 free") is the reference assignment of document 000.
+use mathlib.Core.Bool.{Bool, cond}
+use mathlib.Core.List.{List, [], _∷_, _++_, map}
+use mathlib.Core.Option.{Option, none, some}
+use Prim.Native.Nat.{ℕ, zero, suc, _+_, _-_, min}
+use lib.Dec.{eqb, ltb, leb}
+use lib.IntN.{ℤ}
+use Rattle.formula.specs.Formula.{clauses, models}
+
+-- how much a byte of the wish row counts: 1 for a wish, 0 where the variable is free
+abbrev pub weight : ℕ → ℕ
+weight w = cond (ltb w 2) 1 0
+
+-- "Its broken wishes are the wished settings with the other value": what a value breaks of the wish at its variable
+abbrev pub cost : ℕ → ℕ → ℕ
+cost w b = cond (eqb b (1 - w)) (weight w) 0
+
+-- the number of wishes of a row
+abbrev pub wishes : List ℕ → ℕ
+wishes [] = 0
+wishes (w ∷ row) = weight w + wishes row
+
+-- the number of wishes that an assignment breaks (document 000: disagreement)
+abbrev pub disagreement : List ℕ → List ℕ → ℕ
+disagreement [] a = 0
+disagreement (w ∷ row) [] = 0
+disagreement (w ∷ row) (b ∷ a) = cost w b + disagreement row a
+
+-- "A choice has n bytes, 0 or 1": all of them, off before on, compared from variable 1 upward
+abbrev pub choices : ℕ → List (List ℕ)
+choices zero = [] ∷ []
+choices (suc n) = map (λ (a : List ℕ). 0 ∷ a) (choices n) ++ map (λ (a : List ℕ). 1 ∷ a) (choices n)
+
+-- those elements of a list that pass a test
+abbrev pub keep {ℓ} : {A : Type ℓ} → (A → Bool) → List A → List A
+keep p [] = []
+keep p (x ∷ l) = cond (p x) (x ∷ keep p l) (keep p l)
+
+-- the least number of a list
+abbrev pub least : List ℕ → Option ℕ
+least [] = none
+least (k ∷ ks) = some (lesser k (least ks))
+  where
+    lesser : ℕ → Option ℕ → ℕ
+    lesser k none = k
+    lesser k (some j) = min k j
+
+-- the choices that meet the rules
+abbrev pub permitted : ℕ → List ℤ → List (List ℕ)
+permitted n list = keep (λ (a : List ℕ). models a (clauses list)) (choices n)
+
+-- the choices that meet the rules with at most d broken wishes
+abbrev pub within : ℕ → List ℤ → List ℕ → ℕ → List (List ℕ)
+within n list row d = keep (λ (a : List ℕ). leb (disagreement row a) d) (permitted n list)
+
+-- "Nearest gives the least number of broken wishes with a choice, or none when the rules can't be met."
+abbrev pub nearest : ℕ → List ℤ → List ℕ → Option ℕ
+nearest n list row = least (map (disagreement row) (permitted n list))
