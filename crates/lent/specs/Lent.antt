@@ -1,0 +1,55 @@
+-- What a call is lent, and the one order in which its causes to refuse count (document 01, "Refusals"): "Then lent values: 14, 13 (rules, wishes, choice), 11, 12. Last 15."
+use mathlib.Core.Bool.{Bool, not, _||_}
+use mathlib.Core.List.{List, [], _∷_}
+use mathlib.Core.Option.{Option, none, some}
+use Prim.Native.Nat.{ℕ}
+use lib.Dec.{eqb, ltb}
+use lib.IntN.{ℤ}
+use lib.ListN.{length}
+use Rattle.formula.specs.Formula.{clauses, literals}
+use Rattle.refusal.specs.declared.Refusal.{Refusal}
+use Rattle.refusal.specs.Reply.{first, cause, causeAt}
+use Rattle.lent.specs.Limits.{maxVariables, maxLimit, maxWishVariables, maxWishClauses, maxWishLiterals}
+use Rattle.lent.specs.Sound.{unread, badRule, badWish, badChoice}
+
+-- The values lent to a call: n, the limit d (0 in a call that takes none), the rule list (empty in a call that takes none), the wish row and the given choice if it takes them, and how many elements its output needs and was lent (0 and 0 in a call that has none).
+pub record Lent : Type 0 where
+  pub n : ℕ
+  pub d : ℕ
+  pub rules : List ℤ
+  pub row : Option (List ℕ)
+  pub choice : Option (List ℕ)
+  pub needed : ℕ
+  pub room : ℕ
+
+-- a cause that only a part which the call takes can give
+abbrev pub ofPart : Option (List ℕ) → (List ℕ → Option Refusal) → Option Refusal
+ofPart none f = none
+ofPart (some part) f = f part
+
+-- 14: "n outside 1 to 640, or d above 64"
+abbrev pub outOfRange : ℕ → ℕ → Bool
+outOfRange n d = eqb n 0 || (ltb maxVariables n || ltb maxLimit d)
+
+-- 11: "wish row or given choice not of length n"
+abbrev pub wrongLength : ℕ → List ℕ → Bool
+wrongLength n part = not (eqb (length part) n)
+
+-- 12: "a call that takes a wish row, even one all free, with n above 256, over 4,096 rules or 16,384 entries"
+abbrev pub tooLarge : ℕ → List ℤ → Bool
+tooLarge n rules =
+    ltb maxWishVariables n || (ltb maxWishClauses (length (clauses rules)) || ltb maxWishLiterals (literals (clauses rules)))
+
+-- the refusal that a call gives for what it was lent, if any
+abbrev pub refusalOf : Lent → Option Refusal
+refusalOf s =
+    first
+    (cause (outOfRange (s .n) (s .d)) 14 0
+    ∷ causeAt 13 (badRule (s .n) unread 0 (s .rules))
+    ∷ ofPart (s .row) (λ (row : List ℕ). causeAt 13 (badWish 0 0 row))
+    ∷ ofPart (s .choice) (λ (choice : List ℕ). causeAt 13 (badChoice 0 choice))
+    ∷ ofPart (s .row) (λ (row : List ℕ). cause (wrongLength (s .n) row) 11 0)
+    ∷ ofPart (s .choice) (λ (choice : List ℕ). cause (wrongLength (s .n) choice) 11 0)
+    ∷ ofPart (s .row) (λ (row : List ℕ). cause (tooLarge (s .n) (s .rules)) 12 0)
+    ∷ cause (ltb (s .room) (s .needed)) 15 (s .needed)
+    ∷ [])

@@ -1,0 +1,4 @@
+pub mod Laws
+pub mod Lent
+pub mod Limits
+pub mod Sound
