@@ -1,6 +1,6 @@
 -- The equations by which proofs scan lent lists, element by element.
 use mathlib.Core.Path.{_≡_, refl, sym, ap, ap₂, _∙_}
-use mathlib.Core.Bool.{Bool, true, false, cond, not, _&&_, true≢false}
+use mathlib.Core.Bool.{Bool, true, false, cond, not, _&&_, _||_, true≢false}
 use mathlib.Core.List.{List, [], _∷_}
 use mathlib.Core.Option.{Option, none, some, Option·some-ne-none}
 use Prim.Native.Nat.{ℕ, zero, suc, _+_, _≤_, _<_, zero-le}
@@ -11,11 +11,12 @@ use lib.Dec.{eqb, ltb, leb}
 use lib.IntN.{ℤ, pos}
 use lib.ListN.{length, getD, drop, set, drop-of-length-le}
 use lib.Seq.{drop-cons}
-use borrow.Author.Tests.{lt-ltb, le-ltb, le-leb, lt-leb, eq-eqb, ne-eqb}
+use borrow.Author.Tests.{lt-ltb, le-ltb, le-leb, lt-leb, eq-eqb, ne-eqb, eqb-false, ltb-false}
 use Rattle.literal.specs.Literal.{variable}
 use Rattle.formula.specs.Formula.{any, closes, onto, clauses, literals}
 use Rattle.distance.specs.Distance.{weight, wishes}
-use Rattle.lent.specs.Limits.{maxClauses, maxLiterals, maxWishes}
+use Rattle.lent.specs.Lent.{outOfRange}
+use Rattle.lent.specs.Limits.{maxVariables, maxClauses, maxLiterals, maxWishes, maxLimit}
 use Rattle.lent.specs.Sound.{Scan, unread, mayJoin, stands, after, unclosed, badRule, badWish, badChoice}
 
 -- a choice: a good byte, a bad byte, the end
@@ -150,3 +151,17 @@ zeros-literal list i h z =
 
 pub zeros-end : (list : List ℤ) (i : ℕ) → length list ≤ i → (zeros (drop i list) ≡ 0) × (nonzeros (drop i list) ≡ 0)
 zeros-end list i h = (rw (drop-of-length-le list h), rw (drop-of-length-le list h))
+
+-- the numbers of a call that is not refused with 14
+pub in-range : (n d : ℕ) → outOfRange n d ≡ false → (0 < n) × (n ≤ maxVariables) × (d ≤ maxLimit)
+in-range n d e =
+    let none = or-false (eqb n 0) (ltb maxVariables n || ltb maxLimit d) e in
+    let rest = or-false (ltb maxVariables n) (ltb maxLimit d) (none .1) in
+    (positive n (eqb-false n 0 (none .0)), ltb-false maxVariables n (rest .0), ltb-false maxLimit d (rest .1))
+  where
+    or-false : (a b : Bool) → a || b ≡ false → (a ≡ false) × (b ≡ false)
+    or-false true b e = absurd (true≢false e)
+    or-false false b e = (refl, e)
+
+    positive : (n : ℕ) → (n ≡ 0 → ⊥) → 0 < n
+    positive n z = omega arith

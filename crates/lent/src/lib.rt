@@ -1,10 +1,13 @@
 // The checks of what a call is lent: each cause of document 01's table 11 to 14, in a function.
 mod choice;
+mod problem;
 mod range;
 mod row;
 mod rules;
 
 pub use choice::scan_choice;
+pub use problem::Problem;
+pub use problem::scan_problem;
 pub use range::check_range;
 pub use row::RowScan;
 pub use row::scan_row;
