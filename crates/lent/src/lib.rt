@@ -4,6 +4,7 @@ mod problem;
 mod range;
 mod row;
 mod rules;
+mod size;
 
 pub use choice::scan_choice;
 pub use problem::Problem;
@@ -13,3 +14,5 @@ pub use row::RowScan;
 pub use row::scan_row;
 pub use rules::RuleScan;
 pub use rules::scan_rules;
+pub use size::check_length;
+pub use size::check_size;
