@@ -1,5 +1,5 @@
 -- The equations by which proofs find the first cause.
-use mathlib.Core.Path.{_≡_, refl}
+use mathlib.Core.Path.{_≡_, refl, sym}
 use mathlib.Core.Bool.{Bool, true, false}
 use mathlib.Core.List.{List, [], _∷_, _++_}
 use mathlib.Core.Option.{Option, none, some, Option·some-ne-none}
@@ -13,12 +13,13 @@ first-some o causes r e = rw e
 pub first-none : (o : Option Refusal) (causes : List (Option Refusal)) → o ≡ none → first (o ∷ causes) ≡ first causes
 first-none o causes e = rw e
 
+pub first-last : (o : Option Refusal) → first (o ∷ []) ≡ o
+first-last none = refl
+first-last (some r) = refl
+
 -- of two runs of causes, the first that has one decides
 pub first-early : (l m : List (Option Refusal)) (r : Refusal) → first l ≡ some r → first (l ++ m) ≡ some r
-first-early [] m r e = absurd (Option·some-ne-none r (sym-none e))
-  where
-    sym-none : first [] ≡ some r → some r ≡ none
-    sym-none e = mathlib.Core.Path.sym e
+first-early [] m r e = absurd (Option·some-ne-none r (sym e))
 first-early (none ∷ l) m r e = first-early l m r e
 first-early (some s ∷ l) m r e = e
 
