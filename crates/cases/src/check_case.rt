@@ -14,23 +14,19 @@ pub fn run(line: &[u8]) -> bool {
     let mut rules = arrays::numbers();
     let mut row = arrays::bytes();
     let mut choice = arrays::bytes();
-    answer(line, at, &mut rules, &mut row, &mut choice);
-    true
-}
-
-fn answer(line: &[u8], at: usize, rules: &mut [i32], row: &mut [u8], choice: &mut [u8]) {
     let n = text::read_number(line, at);
-    let first = list::read_numbers(line, n.next, rules);
-    let second = list::read_bytes(line, first.next, row);
-    let third = list::read_bytes(line, second.next, choice);
+    let first = list::read_numbers(line, n.next, &mut rules);
+    let second = list::read_bytes(line, first.next, &mut row);
+    let third = list::read_bytes(line, second.next, &mut choice);
     if third.next != line.len() {
         report::malformed();
-        return;
+        return true;
     }
     let k = first.end;
     let w = second.end;
     let c = third.end;
     show(checking::check(n.value, &rules[..k], &row[..w], &choice[..c]));
+    true
 }
 
 fn show(answer: Checked) {

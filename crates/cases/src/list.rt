@@ -3,15 +3,23 @@
 use crate::arrays;
 use crate::text;
 ghost use mathlib.Core.Path.{_≡_};
-ghost use mathlib.Core.Bool.{true};
-ghost use Prim.Native.Nat.{_+_, _≤_, _<_};
+ghost use Prim.Native.Nat.{_≤_, _<_};
 ghost use lib.ListN.{length};
 ghost use Rattle.cases.specs.Prefix.{Prefix};
 
-// How far a list is filled, and the place in the line after what was read.
+// How far a list is filled, and the place in the line after it.
 pub struct Filled {
     pub end: usize,
     pub next: usize,
+}
+
+// The last element that was read, the place after it, and how many further elements a repeat still
+// has, each from how many places before.
+struct Element {
+    value: i32,
+    next: usize,
+    left: usize,
+    back: usize,
 }
 
 // A list of signed numbers.
@@ -20,15 +28,26 @@ pub fn read_numbers(line: &[u8], at: usize, out: &mut [i32]) -> Filled
 {
     let count = text::read_number(line, at);
     let end = count.value;
-    let from = count.next;
     if out.len() < end {
         return nothing(line);
     }
-    let next = elements(line, from, &mut out[..end]);
-    Filled { end, next }
+    let mut element = single(0, count.next);
+    let mut i = 0;
+    while i < end {
+        element = following(line, element, out, i);
+        let value = element.value;
+        out[i] = value;
+        i += 1;
+    }
+    if 0 < element.left {
+        return nothing(line);
+    }
+    Filled {
+        end,
+        next: element.next,
+    }
 }
 
-// What is no list.
 fn nothing(line: &[u8]) -> Filled
     ensures { λ r. ⌜ r .end ≡ 0 ⌝ }
 {
@@ -38,81 +57,52 @@ fn nothing(line: &[u8]) -> Filled
     }
 }
 
-fn elements(line: &[u8], at: usize, out: &mut [i32]) -> usize {
-    let mut next = at;
-    let mut i = 0;
-    while i < out.len() {
-        let filled = element(line, next, out, i);
-        i = filled.end;
-        next = filled.next;
-    }
-    next
-}
-
-// An element, or a repeat, from an index on.
-fn element(line: &[u8], at: usize, out: &mut [i32], i: usize) -> Filled
-    requires { ⌜ i < length (now out) ⌝ }
-    ensures { λ r. ⌜ (i < r .end) × (r .end ≤ length (now (out .entry))) ⌝ }
-{
-    let mark = text::past_byte(line, text::past_byte(line, at, b' '), b'@');
-    if mark <= line.len() {
-        return repeat(line, mark, out, i);
-    }
-    let x = text::read_signed(line, at);
-    let value = x.value;
-    out[i] = value;
-    Filled {
-        end: i + 1,
-        next: x.next,
+fn single(value: i32, next: usize) -> Element {
+    Element {
+        value,
+        next,
+        left: 0,
+        back: 0,
     }
 }
 
-fn repeat(line: &[u8], at: usize, out: &mut [i32], i: usize) -> Filled
-    requires { ⌜ i < length (now out) ⌝ }
-    ensures { λ r. ⌜ (i < r .end) × (r .end ≤ length (now (out .entry))) ⌝ }
+// The element of index i of a list in which those before it stand.
+fn following(line: &[u8], before: Element, list: &[i32], i: usize) -> Element
+    requires { ⌜ i < length (now list) ⌝ }
 {
-    let first = text::read_number(line, at);
-    let second = text::read_number(line, first.next);
-    let count = first.value;
-    let back = second.value;
-    if is_repeat(i, count, back, out.len()) {
-        let end = i + count;
-        copy_on(out, i, end, back);
-        return Filled {
-            end,
-            next: second.next,
-        };
+    let element = repeat_from(line, before);
+    if element.left == 0 {
+        let x = text::read_signed(line, element.next);
+        return single(x.value, x.next);
     }
-    Filled {
-        end: out.len(),
-        next: line.len() + 1,
+    let back = element.back;
+    if i < back {
+        return single(0, line.len() + 1);
+    }
+    Element {
+        value: list[i - back],
+        next: element.next,
+        left: element.left - 1,
+        back,
     }
 }
 
-// Whether there are elements to repeat, and space for them.
-fn is_repeat(i: usize, count: usize, back: usize, space: usize) -> bool
-    requires { ⌜ i ≤ space ⌝ }
-    ensures { λ r. ⌜ (r ≡ true → (0 < count) × (i + count ≤ space) × (0 < back) × (back ≤ i)) ⌝ }
-{
-    if count == 0 {
-        return false;
+// Begins a repeat where one is written.
+fn repeat_from(line: &[u8], before: Element) -> Element {
+    if 0 < before.left {
+        return before;
     }
-    if space - i < count {
-        return false;
+    let mark = text::past_byte(line, text::past_byte(line, before.next, b' '), b'@');
+    if line.len() < mark {
+        return before;
     }
-    if back == 0 {
-        return false;
-    }
-    back <= i
-}
-
-fn copy_on(out: &mut [i32], from: usize, end: usize, back: usize)
-    requires { ⌜ (end ≤ length (now out)) × (0 < back) × (back ≤ from) ⌝ }
-{
-    let mut i = from;
-    while i < end {
-        out[i] = out[i - back];
-        i += 1;
+    let count = text::read_number(line, mark);
+    let back = text::read_number(line, count.next);
+    Element {
+        value: 0,
+        next: back.next,
+        left: count.value,
+        back: back.value,
     }
 }
 

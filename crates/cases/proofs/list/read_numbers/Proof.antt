@@ -1,53 +1,86 @@
 -- `cases::list::read_numbers` meets its contract.
 use mathlib.Core.Path.{_≡_}
-use mathlib.Core.List.{_++_}
+use Prim.Native.Nat.{_-_}
 use native.Mathlib.Omega.{arith}
-use lib.ListN.{length, drop}
-use lib.Seq.{length-front}
-use Rattle.cases.specs.Prefix.{prefix}
+use lib.ListN.{length}
 use borrow.Author.Needs.{needs}
+use Rattle.cases.specs.Prefix.{prefix}
 use Rattle.cases.proofs.list.read_numbers.Statement.{statement}
 use Rattle.cases.proofs.list.read_numbers.Tie as tie
 
-read-number-requires : tie.Need-read-number-requires
+abbrev Inv-loop : tie.InvT-loop
+Inv-loop line at out₀ end element₀ i₀ out element i = length out ≡ length out₀
+
+abbrev μ-loop : tie.MeasureT-loop
+μ-loop line at out₀ end element₀ i₀ out element i = end - i
+
+read-number-requires : tie.Need-read-number-requires Inv-loop μ-loop
 read-number-requires c κs = search needs
 
-nothing-requires : tie.Need-nothing-requires
+nothing-requires : tie.Need-nothing-requires Inv-loop μ-loop
 nothing-requires c κs = search needs
 
-returns : tie.Need-returns
+returns : tie.Need-returns Inv-loop μ-loop
 returns c = search needs
 
-slice-relend-prefix-elements : tie.Need-slice-relend-prefix-elements
-slice-relend-prefix-elements c = search needs
+single-requires : tie.Need-single-requires Inv-loop μ-loop
+single-requires c κs = search needs
 
-slice-aggregate-elements : tie.Need-slice-aggregate-elements
-slice-aggregate-elements c =
-    prefix (c .before .before .read-number .result .value) (c .before .before .before .before .args .out .now) (omega arith) .1
+loop-holds : tie.Need-loop-holds Inv-loop μ-loop
+loop-holds c = search needs
 
-elements-requires : tie.Need-elements-requires
-elements-requires c κs = search needs
+following-requires : tie.Need-following-requires Inv-loop μ-loop
+following-requires c κs = search needs
 
-same-length : tie.Need-same-length
+mul-value : tie.Need-mul-value Inv-loop μ-loop
+mul-value c = search needs
+
+slice-set-from-value : tie.Need-slice-set-from-value Inv-loop μ-loop
+slice-set-from-value c = search needs
+
+add-i : tie.Need-add-i Inv-loop μ-loop
+add-i c = search needs
+
+loop-less : tie.Need-loop-less Inv-loop μ-loop
+loop-less c = search needs
+
+loop-again : tie.Need-loop-again Inv-loop μ-loop
+loop-again c = search needs
+
+nothing-requires-2 : tie.Need-nothing-requires-2 Inv-loop μ-loop
+nothing-requires-2 c κs = search needs
+
+same-length : tie.Need-same-length Inv-loop μ-loop
 same-length c = search needs
 
-returns-2 : tie.Need-returns-2
-returns-2 c =
-    let end = c .before .before .before .before .read-number .result .value in
-    let out = c .before .before .before .before .before .before .args .out .now in
-    let last = c .before .elements .last .1 .1 .0 in
-    let same : length (last ++ drop end out) ≡ length out = length-front out last end (c .before .elements .kept .1 .1 .0) in
-    prefix end (last ++ drop end out) (omega arith)
+returns-2 : tie.Need-returns-2 Inv-loop μ-loop
+returns-2 c = search needs
+
+same-length-2 : tie.Need-same-length-2 Inv-loop μ-loop
+same-length-2 c = search needs
+
+returns-3 : tie.Need-returns-3 Inv-loop μ-loop
+returns-3 c = prefix (c .before .before .before .before .before .before .read-number .result .value) (c .before .before .before .loop .out) (omega arith)
 
 pub read-numbers-spec : {M : Type 1} → statement M
 read-numbers-spec =
     tie.close
     (tie.spec
+    Inv-loop
+    μ-loop
     read-number-requires
     nothing-requires
     returns
-    slice-relend-prefix-elements
-    slice-aggregate-elements
-    elements-requires
+    single-requires
+    loop-holds
+    following-requires
+    mul-value
+    slice-set-from-value
+    add-i
+    loop-less
+    loop-again
+    nothing-requires-2
     same-length
-    returns-2)
+    returns-2
+    same-length-2
+    returns-3)
