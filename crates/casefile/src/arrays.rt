@@ -2,15 +2,6 @@
 ghost use mathlib.Core.Path.{_≡_};
 ghost use lib.ListN.{length};
 
-// The input must be shorter than this.
-pub const INPUT: usize = 1048576;
-
-pub fn input() -> [u8; 1048576]
-    ensures { λ r. ⌜ 1048576 ≡ length r ⌝ }
-{
-    [0; 1048576]
-}
-
 // The longest list: more than the entries and closing zeros of the largest sound one.
 pub fn numbers() -> [i32; 40960]
     ensures { λ r. ⌜ 40960 ≡ length r ⌝ }

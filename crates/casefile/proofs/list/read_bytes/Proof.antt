@@ -1,9 +1,9 @@
--- `cases::list::read_bytes` meets its contract.
+-- `casefile::list::read_bytes` meets its contract.
 use native.Mathlib.Omega.{arith}
-use Rattle.cases.specs.Prefix.{prefix}
+use Rattle.casefile.specs.Prefix.{prefix}
 use borrow.Author.Needs.{needs}
-use Rattle.cases.proofs.list.read_bytes.Statement.{statement}
-use Rattle.cases.proofs.list.read_bytes.Tie as tie
+use Rattle.casefile.proofs.list.read_bytes.Statement.{statement}
+use Rattle.casefile.proofs.list.read_bytes.Tie as tie
 
 numbers-requires : tie.Need-numbers-requires
 numbers-requires c κs = search needs

@@ -1,9 +1,9 @@
--- `cases::text::line_end` meets its contract.
+-- `casefile::text::line_end` meets its contract.
 use Prim.Native.Nat.{_-_, _≤_}
 use lib.ListN.{length}
 use borrow.Author.Needs.{needs}
-use Rattle.cases.proofs.text.line_end.Statement.{statement}
-use Rattle.cases.proofs.text.line_end.Tie as tie
+use Rattle.casefile.proofs.text.line_end.Statement.{statement}
+use Rattle.casefile.proofs.text.line_end.Tie as tie
 
 abbrev Inv-loop : tie.InvT-loop
 Inv-loop text from i₀ i = (from ≤ i) × (i ≤ length text)

@@ -1,9 +1,9 @@
--- `cases::text::digits` meets its contract.
+-- `casefile::text::digits` meets its contract.
 use Prim.Native.Nat.{_-_}
 use lib.ListN.{length}
 use borrow.Author.Needs.{needs}
-use Rattle.cases.proofs.text.digits.Statement.{statement}
-use Rattle.cases.proofs.text.digits.Tie as tie
+use Rattle.casefile.proofs.text.digits.Statement.{statement}
+use Rattle.casefile.proofs.text.digits.Tie as tie
 
 abbrev Inv-loop : tie.InvT-loop
 Inv-loop line from value₀ i₀ value i = Unit {0}

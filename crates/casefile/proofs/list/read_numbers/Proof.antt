@@ -1,12 +1,12 @@
--- `cases::list::read_numbers` meets its contract.
+-- `casefile::list::read_numbers` meets its contract.
 use mathlib.Core.Path.{_≡_}
 use Prim.Native.Nat.{_-_}
 use native.Mathlib.Omega.{arith}
 use lib.ListN.{length}
 use borrow.Author.Needs.{needs}
-use Rattle.cases.specs.Prefix.{prefix}
-use Rattle.cases.proofs.list.read_numbers.Statement.{statement}
-use Rattle.cases.proofs.list.read_numbers.Tie as tie
+use Rattle.casefile.specs.Prefix.{prefix}
+use Rattle.casefile.proofs.list.read_numbers.Statement.{statement}
+use Rattle.casefile.proofs.list.read_numbers.Tie as tie
 
 abbrev Inv-loop : tie.InvT-loop
 Inv-loop line at out₀ end element₀ i₀ out element i = length out ≡ length out₀

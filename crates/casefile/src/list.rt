@@ -5,7 +5,7 @@ use crate::text;
 ghost use mathlib.Core.Path.{_≡_};
 ghost use Prim.Native.Nat.{_≤_, _<_};
 ghost use lib.ListN.{length};
-ghost use Rattle.cases.specs.Prefix.{Prefix};
+ghost use Rattle.casefile.specs.Prefix.{Prefix};
 
 // How far a list is filled, and the place in the line after it.
 pub struct Filled {
@@ -76,6 +76,9 @@ fn following(line: &[u8], before: Element, list: &[i32], i: usize) -> Element
         return single(x.value, x.next);
     }
     let back = element.back;
+    if back == 0 {
+        return single(0, line.len() + 1);
+    }
     if i < back {
         return single(0, line.len() + 1);
     }

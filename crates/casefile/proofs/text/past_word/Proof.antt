@@ -1,9 +1,9 @@
--- `cases::text::past_word` meets its contract.
+-- `casefile::text::past_word` meets its contract.
 use Prim.Native.Nat.{_-_}
 use lib.ListN.{length}
 use borrow.Author.Needs.{needs}
-use Rattle.cases.proofs.text.past_word.Statement.{statement}
-use Rattle.cases.proofs.text.past_word.Tie as tie
+use Rattle.casefile.proofs.text.past_word.Statement.{statement}
+use Rattle.casefile.proofs.text.past_word.Tie as tie
 
 abbrev Inv-loop : tie.InvT-loop
 Inv-loop line word i₀ i = Unit {0}
