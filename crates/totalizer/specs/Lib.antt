@@ -1,3 +1,7 @@
+pub mod Choice
+pub mod Counters
 pub mod Example
 pub mod Meaning
+pub mod Rows
 pub mod Totalizer
+pub mod Trees

@@ -91,7 +91,7 @@ over-under k c = go (ltb k c) refl
     go false e = sym (lt-ltb c (suc k) (omega (arith, ltb-false k c e)))
 
 -- opposite outputs have opposite truth
-abbrev Signed : (ℤ → Bool) → (ℕ → ℤ) → ℕ → Type 0
+abbrev pub Signed : (ℤ → Bool) → (ℕ → ℤ) → ℕ → Type 0
 Signed h a m = (k : ℕ) → k < m → h (negℤ (a (suc k))) ≡ not (h (a (suc k)))
 
 -- where outputs count c, what a clause says by them
@@ -230,7 +230,7 @@ module _ (h : ℤ → Bool) (a b r : ℕ → ℤ) (p q x y : ℕ) (xp : x ≤ p)
         go true u = on k (ltb-true k (x + y) u)
         go false u = off k l (ltb-false k (x + y) u)
 
-count-most : (h : ℤ → Bool) (t : Tree) → count h t ≤ size t
+pub count-most : (h : ℤ → Bool) (t : Tree) → count h t ≤ size t
 count-most h (leaf x) = one (h x)
   where
     one : (b : Bool) → cond b 1 0 ≤ 1
@@ -249,16 +249,16 @@ right-counts h n (leaf x) r (suc k) l = absurd (omega arith)
 right-counts h n (node s t) r k l = r .2 k l
 
 -- they are literals of the variables 1 to n + added t
-output-variable : (n : ℕ) (t : Tree) (k : ℕ) → Over n t → k < size t → (0 < variable (output n t (suc k))) × (variable (output n t (suc k)) ≤ n + added t)
+pub output-variable : (n : ℕ) (t : Tree) (k : ℕ) → Over n t → k < size t → (0 < variable (output n t (suc k))) × (variable (output n t (suc k)) ≤ n + added t)
 output-variable n (leaf x) k o l = (o .0, omega arith)
 output-variable n (node s t) k o l = (omega arith, omega arith)
 
-signed : (h : ℤ → Bool) (n m : ℕ) (t : Tree) → Opposite h m → n + added t ≤ m → Over n t → Signed h (output n t) (size t)
+pub signed : (h : ℤ → Bool) (n m : ℕ) (t : Tree) → Opposite h m → n + added t ≤ m → Over n t → Signed h (output n t) (size t)
 signed h n m t u l o k hk =
     let v : (0 < variable (output n t (suc k))) × (variable (output n t (suc k)) ≤ n + added t) = output-variable n t k o hk in
     u (output n t (suc k)) (v .0) (omega arith)
 
-over-more : (n m : ℕ) (t : Tree) → n ≤ m → Over n t → Over m t
+pub over-more : (n m : ℕ) (t : Tree) → n ≤ m → Over n t → Over m t
 over-more n m (leaf x) l o = (o .0, omega arith)
 over-more n m (node s t) l o = (over-more n m s l (o .0), over-more n m t l (o .1))
 
