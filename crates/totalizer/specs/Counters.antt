@@ -42,13 +42,14 @@ getD-tally (suc m) c k d h = go (eqb k m) refl (getD-tally m c k d)
 pub length-counters : (h : ℤ → Bool) (t : Tree) → length (counters h t) ≡ added t
 length-counters h (leaf x) = refl
 length-counters h (node s t) =
-    omega
-    ( arith
-    , length-append (counters h s ++ counters h t) (tally (size s + size t) (count h s + count h t))
-    , length-append (counters h s) (counters h t)
-    , length-tally (size s + size t) (count h s + count h t)
-    , length-counters h s
-    , length-counters h t )
+    omega (
+      arith,
+      length-append (counters h s ++ counters h t) (tally (size s + size t) (count h s + count h t)),
+      length-append (counters h s) (counters h t),
+      length-tally (size s + size t) (count h s + count h t),
+      length-counters h s,
+      length-counters h t,
+    )
 
 -- the bytes of m variables after n
 abbrev pub segment : List ℕ → ℕ → ℕ → List ℕ
@@ -65,9 +66,10 @@ segment-add e n m k = take-add m k (drop n e) ∙ ap (λ (r : List ℕ). take m 
 
 -- two pairs of lists with equal joins
 join-split : (l m r s : List ℕ) → length l ≡ length r → l ++ m ≡ r ++ s → (l ≡ r) × (m ≡ s)
-join-split l m r s h e =
-    ( sym (take-append-seam l m) ∙ ap₂ (λ (k : ℕ) (w : List ℕ). take k w) h e ∙ take-append-seam r s
-    , sym (drop-append-seam l m) ∙ ap₂ (λ (k : ℕ) (w : List ℕ). drop k w) h e ∙ drop-append-seam r s )
+join-split l m r s h e = (
+  sym (take-append-seam l m) ∙ ap₂ (λ (k : ℕ) (w : List ℕ). take k w) h e ∙ take-append-seam r s,
+  sym (drop-append-seam l m) ∙ ap₂ (λ (k : ℕ) (w : List ℕ). drop k w) h e ∙ drop-append-seam r s,
+)
 
 -- a byte that is 0 or 1, and the test that it is 1
 bit-byte : (w : ℕ) (b : Bool) → w < 2 → eqb w 1 ≡ b → w ≡ cond b 1 0
@@ -88,11 +90,11 @@ module _ (N : ℕ) (e : List ℕ) (ch : Choice N e) where
   counts-tally n m c h r =
       ext-getD 2 (segment e n m) (tally m c) (omega (arith, length-segment e n m (omega (arith, ch .size)), length-tally m c))
       (λ (k : ℕ) (l : k < length (segment e n m)).
-        let hk : k < m = omega (arith, length-segment e n m (omega (arith, ch .size))) in
-        getD-segment e n m k hk
-        ∙ sym (at n k)
-        ∙ bit-byte (value e (n + suc k)) (ltb k c) (choice-value N e ch (n + suc k) (omega arith) (omega arith)) (r k hk)
-        ∙ sym (getD-tally m c k 2 hk))
+      let hk : k < m = omega (arith, length-segment e n m (omega (arith, ch .size))) in
+      getD-segment e n m k hk
+      ∙ sym (at n k)
+      ∙ bit-byte (value e (n + suc k)) (ltb k c) (choice-value N e ch (n + suc k) (omega arith) (omega arith)) (r k hk)
+      ∙ sym (getD-tally m c k 2 hk))
 
   tally-counts : (n m c : ℕ) → segment e n m ≡ tally m c → Counts (holds e) (λ (k : ℕ). pos (n + k)) m c
   tally-counts n m c q k h =
@@ -121,22 +123,24 @@ module _ (N : ℕ) (e : List ℕ) (ch : Choice N e) where
       let ls : length (segment e n (added s)) ≡ added s = length-segment e n (added s) (omega (arith, ch .size)) in
       let lt : length (segment e (n + added s) (added t)) ≡ added t = length-segment e (n + added s) (added t) (omega (arith, ch .size)) in
       let whole : (segment e n (added s) ++ segment e (n + added s) (added t) ≡ counters (holds e) s ++ counters (holds e) t)
-              × (segment e (n + (added s + added t)) (size s + size t) ≡ own) =
-              join-split (segment e n (added s) ++ segment e (n + added s) (added t)) (segment e (n + (added s + added t)) (size s + size t))
-              (counters (holds e) s ++ counters (holds e) t) own
-              (omega
-              ( arith
-              , length-append (segment e n (added s)) (segment e (n + added s) (added t))
-              , length-append (counters (holds e) s) (counters (holds e) t)
-              , length-counters (holds e) s
-              , length-counters (holds e) t ))
-              (sym (segment-node n s t) ∙ q) in
+      × (segment e (n + (added s + added t)) (size s + size t) ≡ own) =
+      join-split (segment e n (added s) ++ segment e (n + added s) (added t)) (segment e (n + (added s + added t)) (size s + size t))
+      (counters (holds e) s ++ counters (holds e) t) own
+      (omega (
+        arith,
+        length-append (segment e n (added s)) (segment e (n + added s) (added t)),
+        length-append (counters (holds e) s) (counters (holds e) t),
+        length-counters (holds e) s,
+        length-counters (holds e) t,
+      ))
+      (sym (segment-node n s t) ∙ q) in
       let two : (segment e n (added s) ≡ counters (holds e) s) × (segment e (n + added s) (added t) ≡ counters (holds e) t) =
-              join-split (segment e n (added s)) (segment e (n + added s) (added t)) (counters (holds e) s) (counters (holds e) t)
-              (ls ∙ sym (length-counters (holds e) s)) (whole .0) in
-      ( segment-right n s (omega arith) (two .0)
-      , segment-right (n + added s) t (omega arith) (two .1)
-      , tally-counts (n + (added s + added t)) (size s + size t) (count (holds e) s + count (holds e) t) (whole .1) )
+      join-split (segment e n (added s)) (segment e (n + added s) (added t)) (counters (holds e) s) (counters (holds e) t)
+      (ls ∙ sym (length-counters (holds e) s)) (whole .0) in (
+        segment-right n s (omega arith) (two .0),
+        segment-right (n + added s) t (omega arith) (two .1),
+        tally-counts (n + (added s + added t)) (size s + size t) (count (holds e) s + count (holds e) t) (whole .1),
+      )
 
   -- the limit clause of a group that is right: at most d of its leaves hold
   limit-says : (n : ℕ) (l : List ℤ) (d : ℕ) → 0 < length l → Over n (tree l) → n + added (tree l) ≤ N → Right (holds e) n (tree l)
@@ -154,12 +158,14 @@ module _ (N : ℕ) (e : List ℕ) (ch : Choice N e) where
           × (held (holds e) l ≤ d → models e (cond b ((negℤ (output n (tree l) (suc d)) ∷ []) ∷ []) []) ≡ true)
       go true q =
           let x : Bool = holds e (negℤ (output n (tree l) (suc d))) in
-          let one : (x || false) && true ≡ not (ltb d (held (holds e) l)) = and-true (x || false) ∙ or-false x ∙ says (ltb-true d (length l) q) in
-          ( λ (m : (x || false) && true ≡ true). ltb-false d (held (holds e) l) (not-true (ltb d (held (holds e) l)) (sym one ∙ m))
-          , λ (m : held (holds e) l ≤ d). one ∙ ap not (le-ltb d (held (holds e) l) m) )
-      go false q =
-          ( λ (m : _≡_ {A = Bool} true true). omega (arith, ltb-false d (length l) q, tree-count (holds e) l z, tree-size l z, count-most (holds e) (tree l))
-          , λ (m : held (holds e) l ≤ d). refl )
+          let one : (x || false) && true ≡ not (ltb d (held (holds e) l)) = and-true (x || false) ∙ or-false x ∙ says (ltb-true d (length l) q) in (
+            λ (m : (x || false) && true ≡ true). ltb-false d (held (holds e) l) (not-true (ltb d (held (holds e) l)) (sym one ∙ m)),
+            λ (m : held (holds e) l ≤ d). one ∙ ap not (le-ltb d (held (holds e) l) m),
+          )
+      go false q = (
+        λ (m : _≡_ {A = Bool} true true). omega (arith, ltb-false d (length l) q, tree-count (holds e) l z, tree-size l z, count-most (holds e) (tree l)),
+        λ (m : held (holds e) l ≤ d). refl,
+      )
 
   -- The clauses over some leaves hold exactly when at most d of the leaves hold and the bytes after n are the counters.
   pub atMost-says : (n : ℕ) (l : List ℤ) (d : ℕ) → Within n l → n + added (tree l) ≤ N → models e (atMost n l d) ≡ true
@@ -169,9 +175,10 @@ module _ (N : ℕ) (e : List ℕ) (ch : Choice N e) where
       let u : models e (totalizer n (tree (x ∷ l))) && models e (limit n (x ∷ l) d) ≡ true = sym (all-append (satisfied e) (totalizer n (tree (x ∷ l))) (limit n (x ∷ l) d)) ∙ m in
       let o : Over n (tree (x ∷ l)) = tree-over n (x ∷ l) (omega arith) w in
       let r : Right (holds e) n (tree (x ∷ l)) =
-              totalizer-right (holds e) N (choice-opposite N e ch) n (tree (x ∷ l)) h o (and-left (models e (totalizer n (tree (x ∷ l)))) (models e (limit n (x ∷ l) d)) u) in
-      ( limit-says n (x ∷ l) d (omega arith) o h r .0 (and-right (models e (totalizer n (tree (x ∷ l)))) (models e (limit n (x ∷ l) d)) u)
-      , right-segment n (tree (x ∷ l)) h r )
+      totalizer-right (holds e) N (choice-opposite N e ch) n (tree (x ∷ l)) h o (and-left (models e (totalizer n (tree (x ∷ l)))) (models e (limit n (x ∷ l) d)) u) in (
+        limit-says n (x ∷ l) d (omega arith) o h r .0 (and-right (models e (totalizer n (tree (x ∷ l)))) (models e (limit n (x ∷ l) d)) u),
+        right-segment n (tree (x ∷ l)) h r,
+      )
 
   pub atMost-met : (n : ℕ) (l : List ℤ) (d : ℕ) → Within n l → n + added (tree l) ≤ N
       → held (holds e) l ≤ d → segment e n (added (tree l)) ≡ counters (holds e) (tree l) → models e (atMost n l d) ≡ true

@@ -24,11 +24,12 @@ use Rattle.totalizer.specs.Trees.{held, held-append, Within}
 leavesFrom-length : (v : ℕ) (row : List ℕ) → length (leavesFrom v row) ≡ wishes row
 leavesFrom-length v [] = refl
 leavesFrom-length v (w ∷ row) =
-    omega
-    ( arith
-    , length-append (replicate (weight w) (breaking v w)) (leavesFrom (suc v) row)
-    , length-replicate (weight w) (breaking v w)
-    , leavesFrom-length (suc v) row )
+    omega (
+      arith,
+      length-append (replicate (weight w) (breaking v w)) (leavesFrom (suc v) row),
+      length-replicate (weight w) (breaking v w),
+      leavesFrom-length (suc v) row,
+    )
 
 pub leaves-length : (row : List ℕ) → length (leaves row) ≡ wishes row
 leaves-length row = leavesFrom-length 1 row

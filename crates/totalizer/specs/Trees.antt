@@ -34,8 +34,11 @@ size-leaves : (t : Tree) → size t ≡ length (leavesOf t)
 size-leaves (leaf x) = refl
 size-leaves (node s t) = omega (arith, length-append (leavesOf s) (leavesOf t), size-leaves s, size-leaves t)
 
+pub halving-size : (k : ℕ) (l : List ℤ) → 0 < length l → length l ≤ k → size (halving k l) ≡ length l
+halving-size k l z h = size-leaves (halving k l) ∙ ap length (halving-leaves k l z h)
+
 pub tree-size : (l : List ℤ) → 0 < length l → size (tree l) ≡ length l
-tree-size l h = size-leaves (tree l) ∙ ap length (tree-leaves l h)
+tree-size l h = halving-size (length l) l h (omega arith)
 
 -- how many literals of a list hold
 abbrev pub held : (ℤ → Bool) → List ℤ → ℕ
