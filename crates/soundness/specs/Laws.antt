@@ -7,7 +7,7 @@ use native.Mathlib.Omega.{arith}
 use lib.Dec.{leb, eqb}
 use lib.IntN.{ℤ, pos}
 use lib.ListN.{length, length-append}
-use borrow.Author.Tests.{leb-true, le-leb, not-true}
+use borrow.Author.Tests.{leb-true, le-leb, not-true, ne-eqb}
 use Rattle.literal.specs.Literal.{variable, value, wanted, holds}
 use Rattle.formula.specs.Formula.{any, all, closes, onto, clauses, literals, satisfied, models}
 use Rattle.lent.specs.Sound.{mayJoin}
@@ -86,6 +86,10 @@ joined n read x c h =
 
 pub joins : (n : ℕ) (read : List ℤ) (x : ℤ) (c : List ℤ) → Joined n read x c → joining n read (x ∷ c) ≡ true
 joins n read x c h = rw (h .literal, le-leb (variable x) n (h .range), h .apart, h .rest)
+
+-- a literal joins where its variable is new
+pub mayJoin-new : (u : ℤ) (read : List ℤ) (x : ℤ) → (variable x ≡ variable u → ⊥) → mayJoin read x ≡ true → mayJoin (u ∷ read) x ≡ true
+mayJoin-new u read x h e = rw (ne-eqb (variable x) (variable u) h) e
 
 -- a clause over n variables is one over more, and holds no 0
 pub joining-more : (n m : ℕ) (read c : List ℤ) → n ≤ m → joining n read c ≡ true → joining m read c ≡ true

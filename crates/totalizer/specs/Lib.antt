@@ -1,6 +1,7 @@
 pub mod Choice
 pub mod Counters
 pub mod Example
+pub mod Formed
 pub mod Meaning
 pub mod Rows
 pub mod Sizes

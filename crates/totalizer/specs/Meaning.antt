@@ -68,14 +68,14 @@ unequal i j p q h = go (eqb i p) refl
 apart : (i j p q : ℕ) → eqb i p && eqb j q ≡ false → i ≡ p → j ≡ q → ⊥
 apart i j p q h e f = true≢false (sym (and-both (eqb i p) (eqb j q) (eq-eqb i p e) (eq-eqb j q f)) ∙ h)
 
-not-first : (i j : ℕ) → eqb i 0 && eqb j 0 ≡ false → 0 < i + j
+pub not-first : (i j : ℕ) → eqb i 0 && eqb j 0 ≡ false → 0 < i + j
 not-first i j h = go (ltb 0 (i + j)) refl
   where
     go : (b : Bool) → ltb 0 (i + j) ≡ b → 0 < i + j
     go true e = ltb-true 0 (i + j) e
     go false e = absurd (apart i j 0 0 h (omega (arith, ltb-false 0 (i + j) e)) (omega (arith, ltb-false 0 (i + j) e)))
 
-not-last : (i j p q : ℕ) → i ≤ p → j ≤ q → eqb i p && eqb j q ≡ false → i + j < p + q
+pub not-last : (i j p q : ℕ) → i ≤ p → j ≤ q → eqb i p && eqb j q ≡ false → i + j < p + q
 not-last i j p q hi hj h = go (ltb (i + j) (p + q)) refl
   where
     go : (b : Bool) → ltb (i + j) (p + q) ≡ b → i + j < p + q
@@ -263,7 +263,7 @@ over-more n m (leaf x) l o = (o .0, omega arith)
 over-more n m (node s t) l o = (over-more n m s l (o .0), over-more n m t l (o .1))
 
 -- a test of the clauses of two parts and of their adder
-parts : (p : List ℤ → Bool) (n : ℕ) (s t : Tree)
+pub parts : (p : List ℤ → Bool) (n : ℕ) (s t : Tree)
     → all p (totalizer n (node s t))
     ≡ all p (totalizer n s)
     && all p (totalizer (n + added s) t)
