@@ -8,8 +8,8 @@ use lib.Dec.{leb, eqb}
 use lib.IntN.{ℤ, pos}
 use lib.ListN.{length, length-append}
 use borrow.Author.Tests.{leb-true, le-leb, not-true, ne-eqb}
-use Rattle.literal.specs.Literal.{variable, value, wanted, holds}
-use Rattle.formula.specs.Formula.{any, all, closes, onto, clauses, literals, satisfied, models}
+use Rattle.literal.specs.Literal.{variable, value, wanted}
+use Rattle.formula.specs.Formula.{all, closes, onto, clauses, literals, satisfied, models}
 use Rattle.lent.specs.Sound.{mayJoin}
 use Rattle.soundness.specs.Flat.{flat, zeroFree, joining, wellFormed}
 

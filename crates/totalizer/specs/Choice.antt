@@ -1,26 +1,22 @@
 -- Choices, and what their first variables say.
-use mathlib.Core.Path.{_≡_, refl, sym, ap, _∙_}
+use mathlib.Core.Path.{_≡_, refl, ap}
 use mathlib.Core.Bool.{Bool, true, false, not, cond, _&&_}
-use mathlib.Core.List.{List, [], _∷_, _++_}
+use mathlib.Core.List.{List, [], _∷_}
 use mathlib.Core.Option.{none, some}
-use Prim.Native.Nat.{ℕ, zero, suc, _+_, _≤_, _<_}
+use Prim.Native.Nat.{ℕ, zero, suc, _≤_, _<_}
 use native.Mathlib.Omega.{arith}
 use native.Mathlib.Nat.{not-suc-le-zero, le-of-suc-le-suc}
 use lib.Dec.{eqb, ltb}
-use lib.IntN.{ℤ, pos, negsuc, negℤ}
+use lib.IntN.{ℤ, pos, negsuc}
 use lib.ListN.{length, getD, take, length-take}
 use lib.Seq.{getD-take}
-use borrow.Author.Tests.{ltb-true, lt-ltb}
+use borrow.Author.Tests.{ltb-true}
 use Rattle.literal.specs.Literal.{variable, value, wanted, holds}
 use Rattle.formula.specs.Formula.{all}
 use Rattle.lent.specs.Sound.{badChoice}
 use Rattle.soundness.specs.Laws.{and-left, and-right, and-both}
+use Rattle.totalizer.specs.Totalizer.{Choice}
 use Rattle.totalizer.specs.Meaning.{Opposite}
-
--- "A choice has n bytes, 0 or 1."
-pub record Choice (n : ℕ) (a : List ℕ) : Type 0 where
-  pub size : length a ≡ n
-  pub binary : all (λ (b : ℕ). ltb b 2) a ≡ true
 
 byte-at : (a : List ℕ) → all (λ (b : ℕ). ltb b 2) a ≡ true → (i : ℕ) → i < length a → getD a i 2 < 2
 byte-at [] e i h = absurd (not-suc-le-zero h)

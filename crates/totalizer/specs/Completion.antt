@@ -2,20 +2,19 @@
 use mathlib.Core.Path.{_≡_, refl, sym, ap, ap₂, _∙_}
 use mathlib.Core.Bool.{Bool, true, false, cond, _&&_}
 use mathlib.Core.List.{List, [], _∷_, _++_}
-use Prim.Native.Nat.{ℕ, zero, suc, _+_, _≤_, _<_}
+use Prim.Native.Nat.{ℕ, zero, suc, _+_, _≤_}
 use native.Mathlib.Omega.{arith}
 use lib.Dec.{ltb}
 use lib.IntN.{ℤ}
-use lib.ListN.{length, take, drop, length-append, length-take, length-drop, take-append-drop}
+use lib.ListN.{take, drop, length-append, length-take, length-drop, take-append-drop}
 use lib.Seq.{take-all, take-at, drop-at}
 use Rattle.literal.specs.Literal.{variable, holds}
 use Rattle.formula.specs.Formula.{all}
 use Rattle.soundness.specs.Laws.{and-both, all-append}
-use Rattle.totalizer.specs.Totalizer.{Tree, leaf, node, tree, size, added, leaves, rewrittenVariables, count, tally, counters, completion}
-use Rattle.totalizer.specs.Meaning.{Over}
+use Rattle.totalizer.specs.Totalizer.{Tree, leaf, node, tree, size, added, leaves, rewrittenVariables, count, tally, counters, completion, Over, Choice}
 use Rattle.totalizer.specs.Trees.{held, Within, tree-over}
 use Rattle.totalizer.specs.Counters.{segment, length-counters}
-use Rattle.totalizer.specs.Choice.{Choice, holds-take}
+use Rattle.totalizer.specs.Choice.{holds-take}
 
 -- two assignments that agree on the variables 1 to n
 module _ (n : ℕ) (g h : ℤ → Bool) (same : (x : ℤ) → variable x ≤ n → g x ≡ h x) where

@@ -1,6 +1,5 @@
 -- In bytes: a totalizer's clauses hold of a choice exactly when the bytes of its variables are the counters.
 use mathlib.Core.Path.{_≡_, refl, sym, ap, ap₂, _∙_}
-use mathlib.Core.Logic.{_↔_}
 use mathlib.Core.Bool.{Bool, true, false, cond, not, _&&_, _||_, and-true, or-false}
 use mathlib.Core.List.{List, [], _∷_, _++_}
 use Prim.Native.Nat.{ℕ, zero, suc, _+_, _≤_, _<_}
@@ -11,13 +10,13 @@ use lib.IntN.{ℤ, pos, negℤ}
 use lib.ListN.{length, getD, take, drop, length-append, length-take, length-drop, List·getD-append}
 use lib.Seq.{take-append-seam, drop-append-seam, take-add, drop-drop, getD-take, getD-drop, getD-at, ext-getD}
 use borrow.Author.Tests.{ltb-true, ltb-false, le-ltb, eqb-true, eqb-false, not-true}
-use Rattle.literal.specs.Literal.{variable, value, holds}
+use Rattle.literal.specs.Literal.{value, holds}
 use Rattle.formula.specs.Formula.{satisfied, models}
 use Rattle.soundness.specs.Laws.{and-left, and-right, and-both, all-append}
-use Rattle.totalizer.specs.Totalizer.{Tree, leaf, node, tree, size, added, output, totalizer, limit, atMost, count, tally, counters}
-use Rattle.totalizer.specs.Meaning.{Over, Counts, Signed, Right, count-most, right-counts, signed, totalizer-right, right-totalizer}
+use Rattle.totalizer.specs.Totalizer.{Tree, leaf, node, tree, size, added, output, totalizer, limit, atMost, count, tally, counters, Over, Counts, Right, Choice}
+use Rattle.totalizer.specs.Meaning.{count-most, right-counts, signed, totalizer-right, right-totalizer}
 use Rattle.totalizer.specs.Trees.{held, Within, tree-size, tree-count, tree-over}
-use Rattle.totalizer.specs.Choice.{Choice, choice-value, choice-opposite}
+use Rattle.totalizer.specs.Choice.{choice-value, choice-opposite}
 
 pub length-tally : (m c : ℕ) → length (tally m c) ≡ m
 length-tally zero c = refl
@@ -143,7 +142,7 @@ module _ (N : ℕ) (e : List ℕ) (ch : Choice N e) where
       )
 
   -- the limit clause of a group that is right: at most d of its leaves hold
-  limit-says : (n : ℕ) (l : List ℤ) (d : ℕ) → 0 < length l → Over n (tree l) → n + added (tree l) ≤ N → Right (holds e) n (tree l)
+  pub limit-says : (n : ℕ) (l : List ℤ) (d : ℕ) → 0 < length l → Over n (tree l) → n + added (tree l) ≤ N → Right (holds e) n (tree l)
       → (models e (limit n l d) ≡ true → held (holds e) l ≤ d) × (held (holds e) l ≤ d → models e (limit n l d) ≡ true)
   limit-says n l d z o h r = go (ltb d (length l)) refl
     where

@@ -1,8 +1,7 @@
 -- Document 01's example of rewriting.
 use mathlib.Core.Path.{_≡_, refl}
-use mathlib.Core.List.{List, [], _∷_}
-use lib.IntN.{ℤ, pos, negsuc}
-use Prim.Native.Nat.{ℕ}
+use mathlib.Core.List.{[], _∷_}
+use lib.IntN.{pos, negsuc}
 use Rattle.formula.specs.Formula.{clauses}
 use Rattle.totalizer.specs.Totalizer.{rewrittenVariables, rewritten}
 

@@ -1,6 +1,6 @@
 -- The clauses of a totalizer over leaves with rising variables are well-formed: no variable occurs twice in one.
 use mathlib.Core.Path.{_≡_, refl, sym, ap, _∙_}
-use mathlib.Core.Bool.{Bool, true, false, cond, not, _&&_}
+use mathlib.Core.Bool.{Bool, true, false, cond, _&&_}
 use mathlib.Core.List.{List, [], _∷_, _++_}
 use Prim.Native.Nat.{ℕ, zero, suc, _+_, _≤_, _<_}
 use native.Mathlib.Nat.{le-refl}
@@ -10,14 +10,13 @@ use lib.IntN.{ℤ, pos, negsuc, negℤ}
 use lib.ListN.{length}
 use borrow.Author.Tests.{ne-eqb, ltb-true, le-ltb}
 use Rattle.literal.specs.Literal.{variable}
-use Rattle.formula.specs.Formula.{all, closes}
 use Rattle.lent.specs.Sound.{mayJoin}
 use Rattle.soundness.specs.Flat.{joining, wellFormed}
 use Rattle.soundness.specs.Laws.{and-both, all-append, joins, mayJoin-new}
-use Rattle.totalizer.specs.Totalizer.{Tree, leaf, node, tree, size, added, output, lower, upper, up, down, below, adder, totalizer, limit, atMost}
-use Rattle.totalizer.specs.Meaning.{Over, below-all, not-first, not-last, output-variable, over-more, parts}
-use Rattle.totalizer.specs.Trees.{leavesOf, Within, tree-leaves, tree-size, tree-over}
-use Rattle.totalizer.specs.Rows.{Rising, rising-within}
+use Rattle.totalizer.specs.Totalizer.{Tree, leaf, node, tree, size, added, output, lower, upper, up, down, below, adder, totalizer, limit, atMost, Over}
+use Rattle.totalizer.specs.Meaning.{below-all, not-first, not-last, output-variable, parts}
+use Rattle.totalizer.specs.Trees.{leavesOf, tree-leaves, tree-size}
+use Rattle.totalizer.specs.Rows.{Rising}
 
 -- leaves with variables above lo and up to hi, those of a left part below those of its right part
 abbrev Ordered : ℕ → ℕ → Tree → Type 0

@@ -1,7 +1,6 @@
 -- What the clauses of a totalizer say, of any assignment: they hold exactly when every output of every group counts the leaves of its group.
 use mathlib.Core.Path.{_≡_, refl, sym, ap, ap₂, _∙_}
-use mathlib.Core.Logic.{_↔_}
-use mathlib.Core.Bool.{Bool, true, false, cond, not, _&&_, _||_, or-false, or-true, or-assoc, and-true, false≢true, true≢false}
+use mathlib.Core.Bool.{Bool, true, false, cond, not, _&&_, _||_, or-false, or-assoc, and-true, true≢false, Bool·not-not}
 use mathlib.Core.List.{List, [], _∷_, _++_}
 use Prim.Native.Nat.{ℕ, zero, suc, _+_, _-_, _≤_, _<_, min}
 use native.Mathlib.Nat.{not-suc-le-zero}
@@ -12,25 +11,17 @@ use borrow.Author.Tests.{ltb-true, ltb-false, lt-ltb, le-ltb, eqb-true, eqb-fals
 use Rattle.literal.specs.Literal.{variable}
 use Rattle.formula.specs.Formula.{any, all}
 use Rattle.soundness.specs.Laws.{and-left, and-right, and-both, all-append}
-use Rattle.totalizer.specs.Totalizer.{Tree, leaf, node, size, added, output, lower, upper, up, down, below, adder, totalizer, count}
+use Rattle.totalizer.specs.Totalizer.{Tree, leaf, node, size, added, output, lower, upper, up, down, below, adder, totalizer, on, count, Over, Counts, Right}
 
--- An assignment says of every literal whether it holds. Of the variables 1 to n, opposite literals are told apart.
+-- An assignment h says of every literal whether it holds. Here opposite literals of the variables 1 to n have opposite truth.
 abbrev pub Opposite : (ℤ → Bool) → ℕ → Type 0
 Opposite h n = (x : ℤ) → 0 < variable x → variable x ≤ n → h (negℤ x) ≡ not (h x)
 
--- every leaf is a literal of the variables 1 to n
-abbrev pub Over : ℕ → Tree → Type 0
-Over n (leaf x) = (0 < variable x) × (variable x ≤ n)
-Over n (node s t) = Over n s × Over n t
-
--- the outputs a1..am count c: "r(k) on exactly when at least k .. hold", with k one more than here
-abbrev pub Counts : (ℤ → Bool) → (ℕ → ℤ) → ℕ → ℕ → Type 0
-Counts h a m c = (k : ℕ) → k < m → h (a (suc k)) ≡ ltb k c
-
--- every group in a group, and itself, counts its leaves that hold
-abbrev pub Right : (ℤ → Bool) → ℕ → Tree → Type 0
-Right h n (leaf x) = Unit {0}
-Right h n (node s t) = Right h n s × Right h (n + added s) t × Counts h (output n (node s t)) (size s + size t) (count h s + count h t)
+-- that is so where every variable has a truth value of its own
+pub on-opposite : (σ : ℕ → Bool) (n : ℕ) → Opposite (on σ) n
+on-opposite σ n (pos zero) z h = absurd (not-suc-le-zero z)
+on-opposite σ n (pos (suc k)) z h = refl
+on-opposite σ n (negsuc k) z h = sym (Bool·not-not (σ (suc k)))
 
 -- tests of two lists, one after the other
 any-append : (h : ℤ → Bool) (c d : List ℤ) → any h (c ++ d) ≡ any h c || any h d
@@ -149,14 +140,14 @@ module _ (h : ℤ → Bool) (a b r : ℕ → ℤ) (p q x y : ℕ) (xp : x ≤ p)
   up-met : Counts h r (p + q) (x + y) → (i j : ℕ) → i ≤ p → j ≤ q → all (any h) (up a b r i j) ≡ true
   up-met cr i j hi hj = skip (eqb i 0 && eqb j 0) refl
     where
-      on : (k : ℕ) → k ≡ i + j → 0 < i + j → i ≤ x → j ≤ y → h (r (i + j)) ≡ true
-      on zero e l ix jy = absurd (omega arith)
-      on (suc k) e l ix jy = ap (λ (m : ℕ). h (r m)) (sym e) ∙ cr k (omega arith) ∙ lt-ltb k (x + y) (omega arith)
+      held : (k : ℕ) → k ≡ i + j → 0 < i + j → i ≤ x → j ≤ y → h (r (i + j)) ≡ true
+      held zero e l ix jy = absurd (omega arith)
+      held (suc k) e l ix jy = ap (λ (m : ℕ). h (r m)) (sym e) ∙ cr k (omega arith) ∙ lt-ltb k (x + y) (omega arith)
 
       right : (s t : Bool) → ltb x i ≡ s → ltb y j ≡ t → 0 < i + j → s || t || h (r (i + j)) ≡ true
       right true t es et l = refl
       right false true es et l = refl
-      right false false es et l = on (i + j) refl l (ltb-false x i es) (ltb-false y j et)
+      right false false es et l = held (i + j) refl l (ltb-false x i es) (ltb-false y j et)
 
       skip : (s : Bool) → eqb i 0 && eqb j 0 ≡ s → all (any h) (cond s [] ((lower a i ++ lower b j ++ r (i + j) ∷ []) ∷ [])) ≡ true
       skip true e = refl
@@ -204,8 +195,8 @@ module _ (h : ℤ → Bool) (a b r : ℕ → ℤ) (p q x y : ℕ) (xp : x ≤ p)
         j (omega arith)
 
     -- the pair whose up clause makes output k + 1 hold, where it should
-    on : (k : ℕ) → k < x + y → h (r (suc k)) ≡ true
-    on k l =
+    reached : (k : ℕ) → k < x + y → h (r (suc k)) ≡ true
+    reached k l =
         let i : ℕ = min x (suc k) in
         let j : ℕ = suc k - i in
         let sum : i + j ≡ suc k = omega arith in
@@ -214,8 +205,8 @@ module _ (h : ℤ → Bool) (a b r : ℕ → ℤ) (p q x y : ℕ) (xp : x ≤ p)
         (and-left (all (any h) (up a b r i j)) (all (any h) (down a p b q r i j)) (at i j (omega arith) (omega arith)))
 
     -- and the pair whose down clause keeps it off, where it should
-    off : (k : ℕ) → k < p + q → x + y ≤ k → h (r (suc k)) ≡ false
-    off k l m =
+    unreached : (k : ℕ) → k < p + q → x + y ≤ k → h (r (suc k)) ≡ false
+    unreached k l m =
         let i : ℕ = min p (k - y) in
         let j : ℕ = k - i in
         let sum : i + j ≡ k = omega arith in
@@ -227,8 +218,8 @@ module _ (h : ℤ → Bool) (a b r : ℕ → ℤ) (p q x y : ℕ) (xp : x ≤ p)
     adder-counts k l = go (ltb k (x + y)) refl
       where
         go : (t : Bool) → ltb k (x + y) ≡ t → h (r (suc k)) ≡ t
-        go true u = on k (ltb-true k (x + y) u)
-        go false u = off k l (ltb-false k (x + y) u)
+        go true u = reached k (ltb-true k (x + y) u)
+        go false u = unreached k l (ltb-false k (x + y) u)
 
 pub count-most : (h : ℤ → Bool) (t : Tree) → count h t ≤ size t
 count-most h (leaf x) = one (h x)

@@ -3,7 +3,7 @@ use mathlib.Core.Path.{_≡_, sym, ap, _∙_}
 use mathlib.Core.Bool.{Bool, true, _&&_}
 use mathlib.Core.List.{List, _++_}
 use mathlib.Core.Option.{none}
-use Prim.Native.Nat.{ℕ, _+_, _≤_}
+use Prim.Native.Nat.{ℕ, _≤_}
 use native.Mathlib.Omega.{arith}
 use lib.IntN.{ℤ}
 use lib.ListN.{length, take, length-take}
@@ -14,11 +14,11 @@ use Rattle.lent.specs.Sound.{unread, badRule}
 use Rattle.soundness.specs.Flat.{wellFormed}
 use Rattle.soundness.specs.Laws.{and-left, and-right, and-both, all-append, models-by-values}
 use Rattle.soundness.specs.Soundness.{sound, clauses-behind}
-use Rattle.totalizer.specs.Totalizer.{leaves, tree, added, atMost, counters, rewrittenVariables, rewritten, completion}
+use Rattle.totalizer.specs.Totalizer.{leaves, atMost, rewrittenVariables, rewritten, completion, Choice}
 use Rattle.totalizer.specs.Trees.{held, Within}
 use Rattle.totalizer.specs.Rows.{Rising, leaves-rising, leaves-within, held-leaves}
-use Rattle.totalizer.specs.Choice.{Choice, holds-take, value-take}
-use Rattle.totalizer.specs.Counters.{segment, atMost-says, atMost-met}
+use Rattle.totalizer.specs.Choice.{holds-take, value-take}
+use Rattle.totalizer.specs.Counters.{atMost-says, atMost-met}
 use Rattle.totalizer.specs.Completion.{held-same, segment-completion, completion-segment}
 use Rattle.totalizer.specs.Formed.{atMost-formed}
 

@@ -3,20 +3,19 @@ use mathlib.Core.Path.{_≡_, refl, sym, ap, ap₂, _∙_}
 use mathlib.Core.Bool.{Bool, true, false, cond, _&&_}
 use mathlib.Core.List.{List, [], _∷_, _++_}
 use mathlib.Core.Option.{none, some}
-use Prim.Native.Nat.{ℕ, zero, suc, _+_, _-_, _≤_, _<_}
-use native.Mathlib.Nat.{le-refl}
+use Prim.Native.Nat.{ℕ, zero, suc, _+_, _≤_, _<_}
 use native.Mathlib.Omega.{arith}
 use lib.Dec.{eqb, ltb, leb}
 use lib.IntN.{ℤ, pos, negℤ}
 use lib.ListN.{length, getD, drop, replicate, length-append, length-replicate}
 use lib.Seq.{drop-cons}
-use borrow.Author.Tests.{leb-true, le-ltb}
+use borrow.Author.Tests.{leb-true}
 use Rattle.literal.specs.Literal.{variable, holds}
 use Rattle.distance.specs.Distance.{weight, cost, wishes, disagreement}
 use Rattle.distance.specs.Laws.{weight-free, cost-free}
 use Rattle.lent.specs.Limits.{maxWishes}
 use Rattle.lent.specs.Sound.{badWish}
-use Rattle.soundness.specs.Laws.{and-left, and-right}
+use Rattle.soundness.specs.Laws.{and-right}
 use Rattle.totalizer.specs.Totalizer.{breaking, leavesFrom, leaves}
 use Rattle.totalizer.specs.Trees.{held, held-append, Within}
 

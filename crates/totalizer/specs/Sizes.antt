@@ -3,7 +3,7 @@ use mathlib.Core.Path.{_≡_, refl, sym, ap, ap₂, _∙_}
 use mathlib.Core.Bool.{Bool, true, false, cond, _&&_}
 use mathlib.Core.List.{List, [], _∷_, _++_}
 use Prim.Native.Nat.{ℕ, zero, suc, _+_, _-_, _*_, _^_, _/_, _≤_, _<_}
-use native.Mathlib.Nat.{not-suc-le-zero, mul-add, add-mul, suc-mul, mul-suc, mul-comm, mul-assoc, mul-le-mul, pow-suc, zero-mul, mul-zero}
+use native.Mathlib.Nat.{not-suc-le-zero, mul-add, add-mul, suc-mul, mul-suc, mul-comm, mul-assoc, mul-le-mul, pow-suc, zero-mul}
 use native.Mathlib.Omega.{arith}
 use lib.Dec.{eqb, ltb}
 use lib.IntN.{ℤ, negℤ}

@@ -1,7 +1,7 @@
 -- What document 01 says of rewriting into plain rules.
 use mathlib.Core.Path.{_≡_, refl, sym, ap, _∙_}
 use mathlib.Core.Logic.{_↔_}
-use mathlib.Core.Bool.{true}
+use mathlib.Core.Bool.{Bool, true}
 use mathlib.Core.List.{List, [], _++_}
 use mathlib.Core.Option.{none}
 use Prim.Native.Nat.{ℕ, _+_, _≤_}
@@ -9,22 +9,29 @@ use native.Mathlib.Omega.{arith}
 use lib.IntN.{ℤ}
 use lib.ListN.{length, take, length-append}
 use Rattle.literal.specs.Literal.{holds}
-use Rattle.formula.specs.Formula.{clauses, literals, models}
+use Rattle.formula.specs.Formula.{any, all, clauses, literals, models}
 use Rattle.distance.specs.Distance.{wishes, disagreement}
-use Rattle.lent.specs.Limits.{maxVariables, maxClauses, maxLiterals, maxWishes, maxWishVariables, maxWishClauses, maxWishLiterals}
+use Rattle.lent.specs.Limits.{maxVariables, maxClauses, maxLiterals, maxWishVariables, maxWishClauses, maxWishLiterals}
 use Rattle.lent.specs.Sound.{unread, badRule, badWish}
-use Rattle.soundness.specs.Flat.{flat, joining, wellFormed}
+use Rattle.soundness.specs.Flat.{joining, wellFormed}
 use Rattle.soundness.specs.Laws.{and-both, all-append, literals-append, wellFormed-more}
-use Rattle.soundness.specs.Soundness.{Sound, sound, flat-sound, behind}
-use Rattle.totalizer.specs.Totalizer.{leaves, tree, added, totalizer, atMost, rewrittenVariables, rewritten, completion}
-use Rattle.totalizer.specs.Meaning.{Right}
+use Rattle.soundness.specs.Soundness.{sound, flat-sound, behind}
+use Rattle.totalizer.specs.Totalizer.{Tree, on, leaves, tree, added, totalizer, atMost, rewrittenVariables, rewritten, completion, Over, Right, Choice}
+use Rattle.totalizer.specs.Meaning.{on-opposite, totalizer-right, right-totalizer}
 use Rattle.totalizer.specs.Rows.{leaves-length, sound-wishes}
-use Rattle.totalizer.specs.Choice.{Choice, choice-take}
+use Rattle.totalizer.specs.Choice.{choice-take}
 use Rattle.totalizer.specs.Counters.{segment-right}
 use Rattle.totalizer.specs.Completion.{completion-segment, completion-choice, completion-take}
 use Rattle.totalizer.specs.Sizes.{added-most, added-64, added-3, added-1, clauses-64, clauses-3, clauses-1, atMost-most}
 use Rattle.totalizer.specs.Rewritten as Rewritten
 use Rattle.totalizer.specs.Rewritten.{row-within, row-formed, rewritten-says, rewritten-met}
+
+-- Of any assignment of the variables, the clauses of a group hold exactly when every output of every group in it is right. The leaves may be any literals of the variables 1 to n, repeated or not.
+pub meaning : (σ : ℕ → Bool) (n : ℕ) (t : Tree) → Over n t → (all (any (on σ)) (totalizer n t) ≡ true) ↔ Right (on σ) n t
+meaning σ n t o = (
+  totalizer-right (on σ) (n + added t) (on-opposite σ (n + added t)) n t (omega arith) o,
+  right-totalizer (on σ) (n + added t) (on-opposite σ (n + added t)) n t (omega arith) o,
+)
 
 -- "The result holds the given rules, then the groups' rules in that same order, then, if d < m, one rule -s(d+1)."
 pub rewritten-clauses : (n : ℕ) (list : List ℤ) (row : List ℕ) (d : ℕ) → badRule n unread 0 list ≡ none → length row ≡ n

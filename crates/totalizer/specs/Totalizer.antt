@@ -1,11 +1,13 @@
 -- "Rewriting into plain rules" (document 01): the totalizer of Bailleux and Boufkhad (2003) over the wishes of a row. Its tree is built first, and all else goes by the tree.
-use mathlib.Core.Bool.{Bool, cond, _&&_}
+use mathlib.Core.Path.{_≡_}
+use mathlib.Core.Bool.{Bool, true, cond, not, _&&_}
 use mathlib.Core.List.{List, [], _∷_, _++_}
-use Prim.Native.Nat.{ℕ, zero, suc, _+_, _/_}
+use Prim.Native.Nat.{ℕ, zero, suc, _+_, _/_, _≤_, _<_}
 use lib.Dec.{eqb, ltb}
-use lib.IntN.{ℤ, pos, negℤ}
+use lib.IntN.{ℤ, pos, negsuc, negℤ}
 use lib.ListN.{length, take, drop, replicate}
-use Rattle.literal.specs.Literal.{holds}
+use Rattle.literal.specs.Literal.{variable, holds}
+use Rattle.formula.specs.Formula.{all}
 use Rattle.distance.specs.Distance.{weight}
 use Rattle.soundness.specs.Flat.{flat}
 
@@ -35,7 +37,7 @@ halving (suc k) (x ∷ y ∷ l) =
     let m : ℕ = length (x ∷ y ∷ l) in
     node (halving k (take (m / 2) (x ∷ y ∷ l))) (halving k (drop (m / 2) (x ∷ y ∷ l)))
 
--- the whole group of some leaves, of which there is at least one
+-- The whole group of some leaves. Where there are none it stands for nothing: one leaf alone adds no variable and no clause.
 abbrev pub tree : List ℤ → Tree
 tree l = halving (length l) l
 
@@ -103,6 +105,16 @@ rewrittenVariables n row = n + added (tree (leaves row))
 abbrev pub rewritten : ℕ → List ℤ → List ℕ → ℕ → List ℤ
 rewritten n list row d = list ++ flat (atMost n (leaves row) d)
 
+-- "A choice has n bytes, 0 or 1."
+pub record Choice (n : ℕ) (a : List ℕ) : Type 0 where
+  pub size : length a ≡ n
+  pub binary : all (λ (b : ℕ). ltb b 2) a ≡ true
+
+-- the truth of a literal, from that of the variables
+abbrev pub on : (ℕ → Bool) → ℤ → Bool
+on σ (pos v) = σ v
+on σ (negsuc k) = not (σ (suc k))
+
 -- how many of a group's leaves hold
 abbrev pub count : (ℤ → Bool) → Tree → ℕ
 count h (leaf x) = cond (h x) 1 0
@@ -113,11 +125,25 @@ abbrev pub tally : ℕ → ℕ → List ℕ
 tally zero c = []
 tally (suc m) c = tally m c ++ cond (ltb m c) 1 0 ∷ []
 
--- the added counters by rising variable: "r(k) of a group on exactly when at least k of that group's leaves hold"
+-- the added counters by rising variable, those of a group showing how many of its leaves hold
 abbrev pub counters : (ℤ → Bool) → Tree → List ℕ
 counters h (leaf x) = []
 counters h (node s t) = counters h s ++ counters h t ++ tally (size s + size t) (count h s + count h t)
 
--- the one completion of a choice that meets every rewritten rule
+-- "The one completion that meets every rewritten rule": the choice, and then the added counters
 abbrev pub completion : List ℕ → List ℕ → List ℕ
 completion row a = a ++ counters (holds a) (tree (leaves row))
+
+-- outputs a1..am that count c: "r(k) .. on exactly when at least k .. hold" (k + 1 here, so that k < c says it)
+abbrev pub Counts : (ℤ → Bool) → (ℕ → ℤ) → ℕ → ℕ → Type 0
+Counts h a m c = (k : ℕ) → k < m → h (a (suc k)) ≡ ltb k c
+
+-- every group in a group, and itself, counts its leaves that hold
+abbrev pub Right : (ℤ → Bool) → ℕ → Tree → Type 0
+Right h n (leaf x) = Unit {0}
+Right h n (node s t) = Right h n s × Right h (n + added s) t × Counts h (output n (node s t)) (size s + size t) (count h s + count h t)
+
+-- every leaf is a literal of the variables 1 to n
+abbrev pub Over : ℕ → Tree → Type 0
+Over n (leaf x) = (0 < variable x) × (variable x ≤ n)
+Over n (node s t) = Over n s × Over n t

@@ -1,15 +1,13 @@
 -- The tree of some leaves has these leaves, in their order.
-use mathlib.Core.Path.{_≡_, refl, sym, ap, ap₂, _∙_}
+use mathlib.Core.Path.{_≡_, refl, ap, ap₂, _∙_}
 use mathlib.Core.Bool.{Bool, cond}
 use mathlib.Core.List.{List, [], _∷_, _++_}
 use Prim.Native.Nat.{ℕ, zero, suc, _+_, _/_, _≤_, _<_}
 use native.Mathlib.Omega.{arith}
-use native.Mathlib.Nat.{not-suc-le-zero, le-of-suc-le-suc, add-assoc}
 use lib.IntN.{ℤ}
 use lib.ListN.{length, take, drop, length-append, length-take, length-drop, take-append-drop}
 use Rattle.literal.specs.Literal.{variable}
-use Rattle.totalizer.specs.Totalizer.{Tree, leaf, node, halving, tree, size, count}
-use Rattle.totalizer.specs.Meaning.{Over}
+use Rattle.totalizer.specs.Totalizer.{Tree, leaf, node, halving, tree, size, count, Over}
 
 abbrev pub leavesOf : Tree → List ℤ
 leavesOf (leaf x) = x ∷ []
