@@ -37,9 +37,13 @@ module _ (n : ℕ) (g h : ℤ → Bool) (same : (x : ℤ) → variable x ≤ n �
   counters-same [] w = refl
   counters-same (x ∷ l) w = counters-over (tree (x ∷ l)) (tree-over n (x ∷ l) (omega arith) w)
 
+-- every counter is 0 or 1
 tally-binary : (m c : ℕ) → all (λ (b : ℕ). ltb b 2) (tally m c) ≡ true
 tally-binary zero c = refl
-tally-binary (suc m) c = all-append (λ (b : ℕ). ltb b 2) (tally m c) (cond (ltb m c) 1 0 ∷ []) ∙ and-both (all (λ (b : ℕ). ltb b 2) (tally m c)) (all (λ (b : ℕ). ltb b 2) (cond (ltb m c) 1 0 ∷ [])) (tally-binary m c) (one (ltb m c))
+tally-binary (suc m) c =
+    let last : List ℕ = cond (ltb m c) 1 0 ∷ [] in
+    all-append (λ (b : ℕ). ltb b 2) (tally m c) last
+    ∙ and-both (all (λ (b : ℕ). ltb b 2) (tally m c)) (all (λ (b : ℕ). ltb b 2) last) (tally-binary m c) (one (ltb m c))
   where
     one : (b : Bool) → ltb (cond b 1 0) 2 && true ≡ true
     one true = refl
@@ -56,6 +60,7 @@ counters-binary h (node s t) =
     ∙ and-both (binary (counters h s)) (binary (counters h t)) (counters-binary h s) (counters-binary h t))
     (tally-binary (size s + size t) (count h s + count h t))
 
+-- so the completion of a choice is a choice
 pub completion-choice : (n : ℕ) (row a : List ℕ) → Choice n a → Choice (rewrittenVariables n row) (completion row a)
 completion-choice n row a c =
     let own : List ℕ = counters (holds a) (tree (leaves row)) in
@@ -66,11 +71,13 @@ completion-choice n row a c =
           ∙ and-both (all (λ (b : ℕ). ltb b 2) a) (all (λ (b : ℕ). ltb b 2) own) (c .binary) (counters-binary (holds a) (tree (leaves row)));
     }
 
+-- and it keeps the choice
 pub completion-take : (n : ℕ) (row a : List ℕ) → Choice n a → take n (completion row a) ≡ a
 completion-take n row a c = take-at a (counters (holds a) (tree (leaves row))) n (c .size)
 
 -- A choice of all variables is the completion of its first n exactly when its bytes after n are the counters.
 module _ (n : ℕ) (row e : List ℕ) (c : Choice (rewrittenVariables n row) e) (w : Within n (leaves row)) where
+  -- the added variables are all that is left, and the counters are those of the first n
   tail : segment e n (added (tree (leaves row))) ≡ drop n e
   tail = take-all (added (tree (leaves row))) (drop n e) (omega (arith, length-drop n e, c .size))
 

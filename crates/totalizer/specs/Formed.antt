@@ -59,7 +59,8 @@ abbrev Apart : (ℕ → Type 0) → (ℕ → Type 0) → Type 0
 Apart P Q = (v w : ℕ) → P v → Q w → v ≡ w → ⊥
 
 -- a literal in range that may join, and the rest of the clause
-enter : (N : ℕ) (read : List ℤ) (x : ℤ) (c : List ℤ) → (0 < variable x) × (variable x ≤ N) → mayJoin read x ≡ true → joining N (x ∷ read) c ≡ true → joining N read (x ∷ c) ≡ true
+enter : (N : ℕ) (read : List ℤ) (x : ℤ) (c : List ℤ) → (0 < variable x) × (variable x ≤ N) → mayJoin read x ≡ true
+    → joining N (x ∷ read) c ≡ true → joining N read (x ∷ c) ≡ true
 enter N read x c h m e =
     joins N read x c
     (record { literal = ne-eqb (variable x) 0 (λ (q : variable x ≡ 0). omega arith); range = h .1; apart = m; rest = e })

@@ -33,51 +33,6 @@ leavesFrom-length v (w ∷ row) =
 pub leaves-length : (row : List ℕ) → length (leaves row) ≡ wishes row
 leaves-length row = leavesFrom-length 1 row
 
--- literals whose variables rise, above lo and up to hi
-abbrev pub Rising : ℕ → ℕ → List ℤ → Type 0
-Rising lo hi [] = lo ≤ hi
-Rising lo hi (x ∷ l) = (lo < variable x) × Rising (variable x) hi l
-
-rising-from : (lo mid hi : ℕ) (l : List ℤ) → lo ≤ mid → Rising mid hi l → Rising lo hi l
-rising-from lo mid hi [] h r = omega arith
-rising-from lo mid hi (x ∷ l) h r = (omega arith, r .1)
-
-breaking-variable : (k w : ℕ) → variable (breaking (suc k) w) ≡ suc k
-breaking-variable k w = go (eqb w 0)
-  where
-    go : (b : Bool) → variable (cond b (pos (suc k)) (negℤ (pos (suc k)))) ≡ suc k
-    go true = refl
-    go false = refl
-
-rising-row : (v : ℕ) (row : List ℕ) → Rising v (v + length row) (leavesFrom (suc v) row)
-rising-row v [] = omega arith
-rising-row v (w ∷ row) = go (ltb w 2) (rising-row (suc v) row)
-  where
-    go : (b : Bool) → Rising (suc v) (suc v + length row) (leavesFrom (suc (suc v)) row)
-        → Rising v (v + suc (length row)) (replicate (cond b 1 0) (breaking (suc v) w) ++ leavesFrom (suc (suc v)) row)
-    go true r =
-        let q : variable (breaking (suc v) w) ≡ suc v = breaking-variable v w in
-        let top : suc v + length row ≡ v + suc (length row) = omega arith in
-        (omega arith, rw (q, ← top) r)
-    go false r =
-        let top : suc v + length row ≡ v + suc (length row) = omega arith in
-        rising-from v (suc v) (v + suc (length row)) (leavesFrom (suc (suc v)) row) (omega arith) (rw (← top) r)
-
-pub leaves-rising : (row : List ℕ) → Rising 0 (length row) (leaves row)
-leaves-rising row = let top : 0 + length row ≡ length row = omega arith in rw top at (rising-row 0 row)
-
-rising-top : (lo hi : ℕ) (l : List ℤ) → Rising lo hi l → lo ≤ hi
-rising-top lo hi [] r = r
-rising-top lo hi (x ∷ l) r = omega (arith, rising-top (variable x) hi l (r .1))
-
-pub rising-within : (lo hi : ℕ) (l : List ℤ) → Rising lo hi l → Within hi l
-rising-within lo hi [] r = tt
-rising-within lo hi (x ∷ l) r = (omega arith, rising-top (variable x) hi l (r .1), rising-within (variable x) hi l (r .1))
-
--- they are literals of the row's variables
-pub leaves-within : (row : List ℕ) → Within (length row) (leaves row)
-leaves-within row = rising-within 0 (length row) (leaves row) (leaves-rising row)
-
 held-replicate : (h : ℤ → Bool) (k : ℕ) (x : ℤ) → held h (replicate k x) ≡ cond (h x) k 0
 held-replicate h k x = go (h x) refl
   where
@@ -117,6 +72,51 @@ held-from a i (w ∷ row) h =
 -- the leaves that hold are the wishes that are broken
 pub held-leaves : (a row : List ℕ) → length row ≤ length a → held (holds a) (leaves row) ≡ disagreement row a
 held-leaves a row h = held-from a 0 row (omega arith)
+
+-- literals whose variables rise, above lo and up to hi
+abbrev pub Rising : ℕ → ℕ → List ℤ → Type 0
+Rising lo hi [] = lo ≤ hi
+Rising lo hi (x ∷ l) = (lo < variable x) × Rising (variable x) hi l
+
+rising-from : (lo mid hi : ℕ) (l : List ℤ) → lo ≤ mid → Rising mid hi l → Rising lo hi l
+rising-from lo mid hi [] h r = omega arith
+rising-from lo mid hi (x ∷ l) h r = (omega arith, r .1)
+
+either : (b : Bool) (x y : ℤ) (v : ℕ) → variable x ≡ v → variable y ≡ v → variable (cond b x y) ≡ v
+either true x y v h k = h
+either false x y v h k = k
+
+breaking-variable : (k w : ℕ) → variable (breaking (suc k) w) ≡ suc k
+breaking-variable k w = either (eqb w 0) (pos (suc k)) (negℤ (pos (suc k))) (suc k) refl refl
+
+rising-row : (v : ℕ) (row : List ℕ) → Rising v (v + length row) (leavesFrom (suc v) row)
+rising-row v [] = omega arith
+rising-row v (w ∷ row) = go (ltb w 2) (rising-row (suc v) row)
+  where
+    go : (b : Bool) → Rising (suc v) (suc v + length row) (leavesFrom (suc (suc v)) row)
+        → Rising v (v + suc (length row)) (replicate (cond b 1 0) (breaking (suc v) w) ++ leavesFrom (suc (suc v)) row)
+    go true r =
+        let q : variable (breaking (suc v) w) ≡ suc v = breaking-variable v w in
+        let top : suc v + length row ≡ v + suc (length row) = omega arith in
+        (omega arith, rw (q, ← top) r)
+    go false r =
+        let top : suc v + length row ≡ v + suc (length row) = omega arith in
+        rising-from v (suc v) (v + suc (length row)) (leavesFrom (suc (suc v)) row) (omega arith) (rw (← top) r)
+
+pub leaves-rising : (row : List ℕ) → Rising 0 (length row) (leaves row)
+leaves-rising row = let top : 0 + length row ≡ length row = omega arith in rw top at (rising-row 0 row)
+
+rising-top : (lo hi : ℕ) (l : List ℤ) → Rising lo hi l → lo ≤ hi
+rising-top lo hi [] r = r
+rising-top lo hi (x ∷ l) r = omega (arith, rising-top (variable x) hi l (r .1))
+
+pub rising-within : (lo hi : ℕ) (l : List ℤ) → Rising lo hi l → Within hi l
+rising-within lo hi [] r = tt
+rising-within lo hi (x ∷ l) r = (omega arith, rising-top (variable x) hi l (r .1), rising-within (variable x) hi l (r .1))
+
+-- they are literals of the row's variables
+pub leaves-within : (row : List ℕ) → Within (length row) (leaves row)
+leaves-within row = rising-within 0 (length row) (leaves row) (leaves-rising row)
 
 wishes-from : (m i : ℕ) (row : List ℕ) → badWish m i row ≡ none → m ≤ maxWishes → m + wishes row ≤ maxWishes
 wishes-from m i [] e h = omega arith

@@ -23,8 +23,7 @@ use Rattle.totalizer.specs.Choice.{choice-take}
 use Rattle.totalizer.specs.Counters.{segment-right}
 use Rattle.totalizer.specs.Completion.{completion-segment, completion-choice, completion-take}
 use Rattle.totalizer.specs.Sizes.{added-most, added-64, added-3, added-1, clauses-64, clauses-3, clauses-1, atMost-most}
-use Rattle.totalizer.specs.Rewritten as Rewritten
-use Rattle.totalizer.specs.Rewritten.{row-within, row-formed, rewritten-says, rewritten-met}
+use Rattle.totalizer.specs.Rewritten.{row-within, row-formed, rewritten-clauses, rewritten-says, rewritten-met}
 
 -- Of any assignment of the variables, the clauses of a group hold exactly when every output of every group in it is right. The leaves may be any literals of the variables 1 to n, repeated or not.
 pub meaning : (σ : ℕ → Bool) (n : ℕ) (t : Tree) → Over n t → (all (any (on σ)) (totalizer n t) ≡ true) ↔ Right (on σ) n t
@@ -32,11 +31,6 @@ meaning σ n t o = (
   totalizer-right (on σ) (n + added t) (on-opposite σ (n + added t)) n t (omega arith) o,
   right-totalizer (on σ) (n + added t) (on-opposite σ (n + added t)) n t (omega arith) o,
 )
-
--- "The result holds the given rules, then the groups' rules in that same order, then, if d < m, one rule -s(d+1)."
-pub rewritten-clauses : (n : ℕ) (list : List ℤ) (row : List ℕ) (d : ℕ) → badRule n unread 0 list ≡ none → length row ≡ n
-    → clauses (rewritten n list row d) ≡ clauses list ++ atMost n (leaves row) d
-rewritten-clauses n list row d ok long = Rewritten.rewritten-clauses n list row d ok long
 
 -- The completion of a choice is one: "A completion of a choice gives every setting of the result a value, and settings 1 to n the values of the choice."
 pub completion-completes : (n : ℕ) (row a : List ℕ) → Choice n a → Choice (rewrittenVariables n row) (completion row a) × (take n (completion row a) ≡ a)

@@ -1,4 +1,4 @@
--- The tree of some leaves has these leaves, in their order.
+-- The tree of some leaves splits as document 01 says, and has these leaves, in their order.
 use mathlib.Core.Path.{_≡_, refl, ap, ap₂, _∙_}
 use mathlib.Core.Bool.{Bool, cond}
 use mathlib.Core.List.{List, [], _∷_, _++_}
@@ -9,6 +9,37 @@ use lib.ListN.{length, take, drop, length-append, length-take, length-drop, take
 use Rattle.literal.specs.Literal.{variable}
 use Rattle.totalizer.specs.Totalizer.{Tree, leaf, node, halving, tree, size, count, Over}
 
+-- how often halving may be done does not matter, if it is often enough
+halving-enough : (j k : ℕ) (l : List ℤ) → length l ≤ j → length l ≤ k → halving j l ≡ halving k l
+halving-enough zero zero l hj hk = refl
+halving-enough zero (suc k) [] hj hk = refl
+halving-enough zero (suc k) (x ∷ l) hj hk = absurd (omega arith)
+halving-enough (suc j) zero [] hj hk = refl
+halving-enough (suc j) zero (x ∷ l) hj hk = absurd (omega arith)
+halving-enough (suc j) (suc k) [] hj hk = refl
+halving-enough (suc j) (suc k) (x ∷ []) hj hk = refl
+halving-enough (suc j) (suc k) (x ∷ y ∷ l) hj hk =
+    let whole : List ℤ = x ∷ y ∷ l in
+    let m : ℕ = length whole / 2 in
+    ap₂ node
+    (halving-enough j k (take m whole) (omega (arith, length-take m whole)) (omega (arith, length-take m whole)))
+    (halving-enough j k (drop m whole) (omega (arith, length-drop m whole)) (omega (arith, length-drop m whole)))
+
+-- "A group of one leaf is that entry. A group of m above 1 splits into the first floor(m/2) leaves and the rest."
+pub tree-one : (x : ℤ) → tree (x ∷ []) ≡ leaf x
+tree-one x = refl
+
+pub tree-split : (l : List ℤ) → 1 < length l → tree l ≡ node (tree (take (length l / 2) l)) (tree (drop (length l / 2) l))
+tree-split [] h = absurd (omega arith)
+tree-split (x ∷ []) h = absurd (omega arith)
+tree-split (x ∷ y ∷ l) h =
+    let whole : List ℤ = x ∷ y ∷ l in
+    let m : ℕ = length whole / 2 in
+    ap₂ node
+    (halving-enough (suc (length l)) (length (take m whole)) (take m whole) (omega (arith, length-take m whole)) (omega arith))
+    (halving-enough (suc (length l)) (length (drop m whole)) (drop m whole) (omega (arith, length-drop m whole)) (omega arith))
+
+-- the leaves of a group, in order
 abbrev pub leavesOf : Tree → List ℤ
 leavesOf (leaf x) = x ∷ []
 leavesOf (node s t) = leavesOf s ++ leavesOf t
