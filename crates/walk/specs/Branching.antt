@@ -1,0 +1,72 @@
+-- The branching variable. Document 01, step 4: "Pick: among open rules whose unsettled entries all go against wishes, take those with fewest unsettled entries [..]. Their unsettled settings are candidates. If no such rule exists, candidates are the unsettled settings of all open rules."
+use mathlib.Core.Bool.{Bool, cond, not, _&&_, _||_}
+use mathlib.Core.List.{List, [], _∷_, map}
+use mathlib.Core.Option.{Option, none, some}
+use Prim.Native.Nat.{ℕ, zero, suc, _+_, _-_, _*_, _^_, min}
+use lib.Dec.{eqb, ltb}
+use lib.IntN.{ℤ}
+use lib.ListN.{length}
+use Rattle.literal.specs.Literal.{variable, wanted, value}
+use Rattle.formula.specs.Formula.{any, all}
+use Rattle.distance.specs.Distance.{cost, keep, least}
+use Rattle.walk.specs.State.{isTwo, isUnassigned, unassignedIn, isOpen}
+
+-- a value breaks a wish if it costs something there
+abbrev pub breaks : ℕ → ℕ → Bool
+breaks w b = ltb 0 (cost w b)
+
+-- a literal goes against a wish if making it hold breaks the wish of its variable
+abbrev pub isAgainst : List ℕ → ℤ → Bool
+isAgainst row x = breaks (value row (variable x)) (wanted x)
+
+-- an open clause "whose unsettled entries all go against wishes" (document 000: falsified by the reference assignment)
+abbrev pub isOpposed : List ℕ → List ℕ → List ℤ → Bool
+isOpposed row a c = isOpen a c && all (λ (x : ℤ). not (isUnassigned a x) || isAgainst row x) c
+
+-- how many unassigned literals the shortest of them have, if there are any
+abbrev pub fewest : List ℕ → List ℕ → List (List ℤ) → Option ℕ
+fewest row a f = least (map (unassignedIn a) (keep (isOpposed row a) f))
+
+-- the clauses that give the candidates
+abbrev pub isSource : List ℕ → List ℕ → Option ℕ → List ℤ → Bool
+isSource row a none c = isOpen a c
+isSource row a (some k) c = isOpposed row a c && eqb (unassignedIn a c) k
+
+abbrev pub mentions : ℕ → List ℤ → Bool
+mentions v c = any (λ (x : ℤ). eqb (variable x) v) c
+
+abbrev pub isCandidate : List ℕ → List ℕ → List (List ℤ) → ℕ → Bool
+isCandidate row a f v = isTwo (value a v) && any (λ (c : List ℤ). isSource row a (fewest row a f) c && mentions v c) f
+
+-- "An open rule with k unsettled entries weighs 4 to the power 10 - min(k, 10)."
+abbrev pub clauseWeight : List ℕ → List ℤ → ℕ
+clauseWeight a c = cond (isOpen a c) (4 ^ (10 - min (unassignedIn a c) 10)) 0
+
+-- the literal of variable v that wants the value b stands in a clause
+abbrev pub contains : ℕ → ℕ → List ℤ → Bool
+contains v b c = any (λ (x : ℤ). eqb (variable x) v && eqb (wanted x) b) c
+
+-- "P and Q the weights of open rules holding v and -v": P at b = 1, Q at b = 0
+abbrev pub weightOf : List ℕ → ℕ → ℕ → List (List ℤ) → ℕ
+weightOf a v b [] = 0
+weightOf a v b (c ∷ f) = cond (contains v b c) (clauseWeight a c) 0 + weightOf a v b f
+
+-- "the score is 2P + 2Q + 3 times min(P, Q)"
+abbrev pub scoreOf : ℕ → ℕ → ℕ
+scoreOf p q = 2 * p + 2 * q + 3 * min p q
+
+abbrev pub score : List ℕ → List (List ℤ) → ℕ → ℕ
+score a f v = scoreOf (weightOf a v 1 f) (weightOf a v 0 f)
+
+-- "Highest score wins, then lowest number": the best candidate so far, and the next variable
+abbrev pub better : (ℕ → Bool) → (ℕ → ℕ) → Option ℕ → ℕ → Option ℕ
+better candidate score none v = cond (candidate v) (some v) none
+better candidate score (some u) v = cond (candidate v && ltb (score u) (score v)) (some v) (some u)
+
+-- the best of the variables 1 to k
+abbrev pub best : (ℕ → Bool) → (ℕ → ℕ) → ℕ → Option ℕ
+best candidate score zero = none
+best candidate score (suc k) = better candidate score (best candidate score k) (suc k)
+
+abbrev pub branchingVariable : List ℕ → List ℕ → List (List ℤ) → Option ℕ
+branchingVariable row a f = best (isCandidate row a f) (score a f) (length a)

@@ -1,0 +1,108 @@
+-- The wish search of document 01, as one definition that runs.
+use mathlib.Core.Bool.{Bool, cond, _&&_, _||_}
+use mathlib.Core.List.{List, [], _∷_}
+use mathlib.Core.Option.{Option, none, some}
+use Prim.Native.Nat.{ℕ, zero, suc, _+_, _-_}
+use lib.Dec.{eqb, ltb}
+use lib.IntN.{ℤ}
+use lib.ListN.{length, replicate}
+use Rattle.literal.specs.Literal.{value}
+use Rattle.formula.specs.Formula.{any, models}
+use Rattle.distance.specs.Distance.{disagreement, wishes}
+use Rattle.walk.specs.State.{isTwo, assign, isFalsified}
+use Rattle.walk.specs.Propagation.{propagate}
+use Rattle.walk.specs.Branching.{breaks, isOpposed, fewest, branchingVariable}
+
+-- a choice that was found, and the number of wishes that it breaks
+pub record Answer : Type 0 where
+  pub choice : List ℕ
+  pub broken : ℕ
+
+-- what a walk comes to: its answer or none, and how many forks it made
+pub record Outcome : Type 0 where
+  pub answer : Option Answer
+  pub forks : ℕ
+
+abbrev pub deadEnd : Outcome
+deadEnd = record { answer = none; forks = 0 }
+
+-- Step 1: "An open rule with no unsettled entry, or more than d broken wishes, is a dead end."
+abbrev pub isDeadEnd : List (List ℤ) → List ℕ → ℕ → List ℕ → Bool
+isDeadEnd f row d a = any (isFalsified a) f || ltb d (disagreement row a)
+
+-- Step 2: "Complete: unsettled settings take their wish, unwished ones off. If all rules are met, that is the answer."
+abbrev pub wishedValue : ℕ → ℕ
+wishedValue w = cond (breaks w 0) 1 0
+
+abbrev pub completeByte : ℕ → ℕ → ℕ
+completeByte w b = cond (isTwo b) (wishedValue w) b
+
+abbrev pub complete : List ℕ → List ℕ → List ℕ
+complete row [] = []
+complete [] (b ∷ a) = completeByte 2 b ∷ complete [] a
+complete (w ∷ row) (b ∷ a) = completeByte w b ∷ complete row a
+
+abbrev pub completed : List ℕ → List ℕ → Outcome
+completed row a = record { answer = some (record { choice = complete row a; broken = disagreement row (complete row a) }); forks = 0 }
+
+-- Step 3: "If d wishes are broken and every unsettled entry of some open rule goes against a wish, it is a dead end."
+abbrev pub isExhausted : List (List ℤ) → List ℕ → ℕ → List ℕ → Bool
+isExhausted f row d a = eqb (disagreement row a) d && any (isOpposed row a) f
+
+-- Step 5: "Fork: against the wish first if step 4's first kind of rule existed, else on first; then the other value."
+abbrev pub unwishedValue : ℕ → ℕ
+unwishedValue w = cond (breaks w 1) 1 0
+
+abbrev pub firstValue : List ℕ → Option ℕ → ℕ → ℕ
+firstValue row none v = 1
+firstValue row (some k) v = unwishedValue (value row v)
+
+-- the second branch counts where the first found nothing, and so do its forks
+abbrev pub eitherOf : Option Answer → ℕ → Outcome → Outcome
+eitherOf (some x) forks second = record { answer = some x; forks = suc forks }
+eitherOf none forks second = record { answer = second .answer; forks = suc (forks + second .forks) }
+
+-- "a fork tries two states"; `try` is the walk from each
+abbrev pub fork : (List ℕ → Outcome) → List ℕ → ℕ → ℕ → Outcome
+fork try a v b = eitherOf (try (assign a v b) .answer) (try (assign a v b) .forks) (try (assign a v (1 - b)))
+
+abbrev pub forkOn : (List ℕ → Outcome) → List ℕ → List ℕ → Option ℕ → Option ℕ → Outcome
+forkOn try row a shortest none = deadEnd
+forkOn try row a shortest (some v) = fork try a v (firstValue row shortest v)
+
+-- steps 1 to 5 at a state to which unit propagation adds nothing
+abbrev pub decide : List (List ℤ) → List ℕ → ℕ → (List ℕ → Outcome) → List ℕ → Outcome
+decide f row d try a =
+    cond (isDeadEnd f row d a)
+    deadEnd
+    (cond (models (complete row a) f)
+    (completed row a)
+    (cond (isExhausted f row d a)
+    deadEnd
+    (forkOn try row a (fewest row a f) (branchingVariable row a f))))
+
+-- "Trying a settled state may call for a fork": the walk from a state, at most k forks deep. A fork assigns a variable, so that more forks than unassigned variables are never needed.
+abbrev pub walkFrom : ℕ → List (List ℤ) → List ℕ → ℕ → List ℕ → Outcome
+walkFrom zero f row d a = deadEnd
+walkFrom (suc k) f row d a = decide f row d (walkFrom k f row d) (propagate f a)
+
+-- "a choice meeting all rules with at most d broken wishes, or none"
+abbrev pub walk : ℕ → List (List ℤ) → List ℕ → ℕ → Outcome
+walk n f row d = walkFrom (suc n) f row d (replicate n 2)
+
+-- "Plain search is this with no wishes and d = 0"
+abbrev pub plainWalk : ℕ → List (List ℤ) → Outcome
+plainWalk n f = walk n f (replicate n 2) 0
+
+-- the first answer of the walks with the limits d, d + 1, .., d + k
+abbrev pub firstAnswer : Option Answer → Option Answer → Option Answer
+firstAnswer (some x) later = some x
+firstAnswer none later = later
+
+abbrev pub climb : ℕ → List (List ℤ) → List ℕ → ℕ → ℕ → Option Answer
+climb n f row zero d = walk n f row d .answer
+climb n f row (suc k) d = firstAnswer (walk n f row d .answer) (climb n f row k (suc d))
+
+-- "Nearest gives the least number of broken wishes with a choice [..]; it takes no limit."
+abbrev pub nearestWalk : ℕ → List (List ℤ) → List ℕ → Option Answer
+nearestWalk n f row = climb n f row (wishes row) 0
