@@ -1,7 +1,7 @@
--- Membership in what `keep` and `least` of crate distance give.
-use mathlib.Core.Path.{_≡_, refl, sym, ap, subst, _∙_}
+-- What `any` and `all` of crate formula and `keep` and `least` of crate distance say of the members of a list.
+use mathlib.Core.Path.{_≡_, refl, sym, ap, ap₂, subst, _∙_}
 use mathlib.Core.Logic.{_↔_}
-use mathlib.Core.Bool.{Bool, true, false, cond, true≢false}
+use mathlib.Core.Bool.{Bool, true, false, cond, _&&_, _||_, true≢false, or-true}
 use mathlib.Core.List.{List, [], _∷_, List·Memᴰ, List·Memᴰ·head, List·Memᴰ·tail, List·Memᴰ·not-nil}
 use mathlib.Core.Option.{Option, none, some, Option·map, Option·some-injective, Option·none-ne-some, Option·some-ne-none}
 use Prim.Native.Nat.{ℕ, min, _≤_}
@@ -9,7 +9,56 @@ use native.Mathlib.Nat.{min-eq-left, min-eq-right}
 use native.Mathlib.Omega.{arith}
 use lib.Dec.{leb}
 use borrow.Author.Tests.{leb-true, leb-false}
+use Rattle.formula.specs.Formula.{any, all}
 use Rattle.distance.specs.Distance.{keep, least}
+
+-- a test that some member passes, and one that all pass
+pub any-at {ℓ} : {A : Type ℓ} (p : A → Bool) {l : List A} {x : A} → List·Memᴰ x l → p x ≡ true → any p l ≡ true
+any-at p (List·Memᴰ·head {xs = l} e) t = ap (λ (b : Bool). b || any p l) (sym (ap p e) ∙ t)
+any-at p (List·Memᴰ·tail {x = y} {xs = l} m) t = ap (λ (b : Bool). p y || b) (any-at p m t) ∙ or-true (p y)
+
+pub any-member {ℓ} : {A : Type ℓ} (p : A → Bool) (l : List A) → any p l ≡ true → (x : A) × List·Memᴰ x l × (p x ≡ true)
+any-member p [] e = absurd (true≢false (sym e))
+any-member {A} p (y ∷ l) e = go (p y) refl e (λ q. any-member p l q)
+  where
+    go : (b : Bool) → p y ≡ b → b || any p l ≡ true → (any p l ≡ true → (x : A) × List·Memᴰ x l × (p x ≡ true))
+        → (x : A) × List·Memᴰ x (y ∷ l) × (p x ≡ true)
+    go true t q ih = (y, List·Memᴰ·head refl, t)
+    go false t q ih = let r = ih q in (r .0, List·Memᴰ·tail (r .1), r .2)
+
+-- no member passes a test that the list fails
+pub any-false {ℓ} : {A : Type ℓ} (p : A → Bool) {l : List A} {x : A} → any p l ≡ false → List·Memᴰ x l → p x ≡ false
+any-false p {l} {x} e m = go (p x) refl
+  where
+    go : (b : Bool) → p x ≡ b → b ≡ false
+    go true t = absurd (true≢false (sym (any-at p m t) ∙ e))
+    go false t = refl
+
+pub all-at {ℓ} : {A : Type ℓ} (p : A → Bool) {l : List A} {x : A} → all p l ≡ true → List·Memᴰ x l → p x ≡ true
+all-at p {x = x} h (List·Memᴰ·head {x = y} {xs = l} e) = ap p e ∙ go (p y) h
+  where
+    go : (b : Bool) → b && all p l ≡ true → b ≡ true
+    go true q = refl
+    go false q = q
+all-at p {x = x} h (List·Memᴰ·tail {x = y} {xs = l} m) = all-at p (go (p y) h) m
+  where
+    go : (b : Bool) → b && all p l ≡ true → all p l ≡ true
+    go true q = q
+    go false q = absurd (true≢false (sym q))
+
+pub all-of {ℓ} : {A : Type ℓ} (p : A → Bool) (l : List A) → ((x : A) → List·Memᴰ x l → p x ≡ true) → all p l ≡ true
+all-of p [] h = refl
+all-of p (y ∷ l) h = ap₂ _&&_ (h y (List·Memᴰ·head refl)) (all-of p l (λ x m. h x (List·Memᴰ·tail m)))
+
+-- some member fails a test that the list fails
+pub all-false {ℓ} : {A : Type ℓ} (p : A → Bool) (l : List A) → all p l ≡ false → (x : A) × List·Memᴰ x l × (p x ≡ false)
+all-false p [] e = absurd (true≢false e)
+all-false {A} p (y ∷ l) e = go (p y) refl e (λ q. all-false p l q)
+  where
+    go : (b : Bool) → p y ≡ b → b && all p l ≡ false → (all p l ≡ false → (x : A) × List·Memᴰ x l × (p x ≡ false))
+        → (x : A) × List·Memᴰ x (y ∷ l) × (p x ≡ false)
+    go true t q ih = let r = ih q in (r .0, List·Memᴰ·tail (r .1), r .2)
+    go false t q ih = (y, List·Memᴰ·head refl, t)
 
 -- what was kept stood in the list and passed the test
 pub kept-passes {ℓ} : {A : Type ℓ} (p : A → Bool) (l : List A) {x : A} → List·Memᴰ x (keep p l) → List·Memᴰ x l × (p x ≡ true)
