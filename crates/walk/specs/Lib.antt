@@ -1,7 +1,10 @@
 pub mod Assignment
 pub mod Branching
+pub mod BranchingLaws
+pub mod Completion
 pub mod Examples
 pub mod Extension
 pub mod Propagation
+pub mod PropagationLaws
 pub mod State
 pub mod Walk

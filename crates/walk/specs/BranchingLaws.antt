@@ -1,0 +1,165 @@
+-- The branching variable: it is an unassigned variable of the formula, and there is one wherever steps 1 and 2 decide nothing.
+use mathlib.Core.Path.{_≡_, refl, sym, ap, ap₂, subst, _∙_}
+use mathlib.Core.Bool.{Bool, true, false, cond, not, _&&_, _||_, true≢false, and-eq-true-iff}
+use mathlib.Core.List.{List, [], _∷_, map, List·Memᴰ, Memᴰ·of-map}
+use mathlib.Core.Option.{Option, none, some, Option·some-injective, Option·none-ne-some, Option·some-ne-none}
+use Prim.Native.Nat.{ℕ, zero, suc, _≤_, _<_}
+use native.Mathlib.Nat.{not-suc-le-zero}
+use native.Mathlib.Omega.{arith}
+use lib.Dec.{eqb, ltb}
+use lib.IntN.{ℤ}
+use lib.ListN.{length}
+use borrow.Author.Tests.{eqb-true, eqb-false, ltb-true, ltb-false, not-true, eq-eqb, lt-ltb}
+use Rattle.literal.specs.Literal.{variable, value}
+use Rattle.formula.specs.Formula.{any, all, satisfied, models}
+use Rattle.distance.specs.Distance.{disagreement, keep, least}
+use Rattle.choices.specs.Lists.{any-at, any-false, all-false, kept-passes, least-some}
+use Rattle.walk.specs.State.{State, isTwo, isUnassigned, unassignedIn, isOpen, isFalsified, fits}
+use Rattle.walk.specs.Branching.{isAgainst, isOpposed, fewest, isSource, mentions, isCandidate, score, better, best, branchingVariable}
+use Rattle.walk.specs.Walk.{complete, isDeadEnd}
+use Rattle.walk.specs.Extension.{satisfied-kept}
+use Rattle.walk.specs.PropagationLaws.{find-member, find-some, fits-at}
+use Rattle.walk.specs.Completion.{complete-extends}
+
+module _ (candidate : ℕ → Bool) (score : ℕ → ℕ) where
+  -- what it is to be the best of the variables 1 to k: "Highest score wins, then lowest number"
+  pub record Best (k v : ℕ) : Type 0 where
+    pub passes : candidate v ≡ true
+    pub above : 0 < v
+    pub upTo : v ≤ k
+    pub wins : (u : ℕ) → 0 < u → u ≤ k → candidate u ≡ true → (score u ≤ score v) × (score u ≡ score v → v ≤ u)
+
+  abbrev pub IsBest : ℕ → Option ℕ → Type 0
+  IsBest k none = (u : ℕ) → 0 < u → u ≤ k → candidate u ≡ false
+  IsBest k (some v) = Best k v
+
+  -- the next variable, or one of those before
+  next-or-before {ℓ} : {P : ℕ → Type ℓ} (k : ℕ) → P (suc k) → ((u : ℕ) → 0 < u → u ≤ k → P u) → (u : ℕ) → 0 < u → u ≤ suc k → P u
+  next-or-before {P} k here before u l h = go (eqb u (suc k)) refl
+    where
+      go : (t : Bool) → eqb u (suc k) ≡ t → P u
+      go true e = subst P (sym (eqb-true u (suc k) e)) here
+      go false e = let q : u ≡ suc k → ⊥ = eqb-false u (suc k) e in before u l (omega arith)
+
+  best-step : (k : ℕ) (o : Option ℕ) → IsBest k o → IsBest (suc k) (better candidate score o (suc k))
+  best-step k none h = go (candidate (suc k)) refl
+    where
+      go : (t : Bool) → candidate (suc k) ≡ t → IsBest (suc k) (cond t (some (suc k)) none)
+      go true e =
+          record {
+            passes = e;
+            above = omega arith;
+            upTo = omega arith;
+            wins = next-or-before {P = λ (u : ℕ). candidate u ≡ true → (score u ≤ score (suc k)) × (score u ≡ score (suc k) → suc k ≤ u)} k (λ p. omega arith) (λ u l q p. absurd (true≢false (sym p ∙ h u l q)));
+          }
+      go false e = next-or-before {P = λ (u : ℕ). candidate u ≡ false} k e h
+  best-step k (some v) h = go (candidate (suc k)) refl (ltb (score v) (score (suc k))) refl
+    where
+      stays : (candidate (suc k) ≡ true → (score (suc k) ≤ score v) × (score (suc k) ≡ score v → v ≤ suc k)) → Best (suc k) v
+      stays here =
+          record {
+            passes = h .passes;
+            above = h .above;
+            upTo = omega (arith, h .upTo);
+            wins = next-or-before {P = λ (u : ℕ). candidate u ≡ true → (score u ≤ score v) × (score u ≡ score v → v ≤ u)} k here (λ u l q p. h .wins u l q p);
+          }
+
+      go : (t : Bool) → candidate (suc k) ≡ t → (s : Bool) → ltb (score v) (score (suc k)) ≡ s → IsBest (suc k) (cond (t && s) (some (suc k)) (some v))
+      go true e true q =
+          record {
+            passes = e;
+            above = omega arith;
+            upTo = omega arith;
+            wins = next-or-before {P = λ (u : ℕ). candidate u ≡ true → (score u ≤ score (suc k)) × (score u ≡ score (suc k) → suc k ≤ u)} k (λ p. omega arith) (λ u l r p. omega (arith, h .wins u l r p .0, ltb-true (score v) (score (suc k)) q));
+          }
+      go true e false q = stays (λ p. omega (arith, ltb-false (score v) (score (suc k)) q, h .upTo))
+      go false e s q = stays (λ p. absurd (true≢false (sym p ∙ e)))
+
+  pub best-is : (k : ℕ) → IsBest k (best candidate score k)
+  best-is zero = λ u l h. absurd (omega arith)
+  best-is (suc k) = best-step k (best candidate score k) (best-is k)
+
+  pub best-found : (k : ℕ) {v : ℕ} → best candidate score k ≡ some v → Best k v
+  best-found k e = subst (IsBest k) e (best-is k)
+
+  -- a candidate among them means that there is a best one
+  pub best-exists : (k u : ℕ) → 0 < u → u ≤ k → candidate u ≡ true → (v : ℕ) × (best candidate score k ≡ some v)
+  best-exists k u l h p = go (best candidate score k) refl (best-is k)
+    where
+      go : (o : Option ℕ) → best candidate score k ≡ o → IsBest k o → (v : ℕ) × (o ≡ some v)
+      go none e q = absurd (true≢false (sym p ∙ q u l h))
+      go (some v) e q = (v, refl)
+
+-- the branching variable is unassigned, and one of the state's
+pub record Branches (a : List ℕ) (n v : ℕ) : Type 0 where
+  pub free : value a v ≡ 2
+  pub above : 0 < v
+  pub upTo : v ≤ n
+
+pub branching-sound : {n : ℕ} {a : List ℕ} → State n a → (row : List ℕ) (f : List (List ℤ)) {v : ℕ} → branchingVariable row a f ≡ some v → Branches a n v
+branching-sound {n} {a} h row f {v} e =
+    let r = best-found (isCandidate row a f) (score a f) (length a) e in
+    let two = and-eq-true-iff (isTwo (value a v)) (any (λ (c : List ℤ). isSource row a (fewest row a f) c && mentions v c) f) .0 (r .passes) .0 in
+    record { free = eqb-true (value a v) 2 two; above = r .above; upTo = omega (arith, r .upTo, h .size) }
+
+pub opposed-open : (row a : List ℕ) (c : List ℤ) → isOpposed row a c ≡ true → satisfied a c ≡ false
+opposed-open row a c h =
+    not-true (satisfied a c) (and-eq-true-iff (isOpen a c) (all (λ (x : ℤ). not (isUnassigned a x) || isAgainst row x) c) .0 h .0)
+
+-- the first kind of rule, if there is one
+pub fewest-member : (row a : List ℕ) (f : List (List ℤ)) {k : ℕ} → fewest row a f ≡ some k
+    → (c : List ℤ) × List·Memᴰ c f × (isOpposed row a c ≡ true) × (unassignedIn a c ≡ k)
+fewest-member row a f {k} e =
+    let r = Memᴰ·of-map (unassignedIn a) (keep (isOpposed row a) f) (least-some (map (unassignedIn a) (keep (isOpposed row a) f)) k .0 e .attained) in
+    let q = kept-passes (isOpposed row a) f (r .1) in
+    (r .0, q .0, q .1, r .2)
+
+-- an unassigned literal of a clause that gives candidates gives one
+source-candidate : (row a : List ℕ) (f : List (List ℤ)) (c : List ℤ) → List·Memᴰ c f → isSource row a (fewest row a f) c ≡ true
+    → (x : ℤ) → List·Memᴰ x c → isUnassigned a x ≡ true → isCandidate row a f (variable x) ≡ true
+source-candidate row a f c m s x w u =
+    let named : mentions (variable x) c ≡ true = any-at (λ (y : ℤ). eqb (variable y) (variable x)) w (eq-eqb (variable x) (variable x) refl) in
+    and-eq-true-iff (isTwo (value a (variable x))) (any (λ (g : List ℤ). isSource row a (fewest row a f) g && mentions (variable x) g) f) .1 (
+      u,
+      any-at (λ (g : List ℤ). isSource row a (fewest row a f) g && mentions (variable x) g) m
+          (and-eq-true-iff (isSource row a (fewest row a f) c) (mentions (variable x) c) .1 (s, named)),
+    )
+
+-- an open clause that is not falsified has an unassigned literal
+open-unassigned : (a : List ℕ) (f : List (List ℤ)) → any (isFalsified a) f ≡ false → (c : List ℤ) → List·Memᴰ c f → satisfied a c ≡ false → 0 < unassignedIn a c
+open-unassigned a f h c m e = go (unassignedIn a c) refl
+  where
+    go : (k : ℕ) → unassignedIn a c ≡ k → 0 < k
+    go zero z =
+        let falsified : isFalsified a c ≡ true = ap₂ (λ (s : Bool) (j : ℕ). not s && eqb j 0) e z in
+        absurd (true≢false (sym falsified ∙ any-false (isFalsified a) h m))
+    go (suc k) z = omega arith
+
+-- where the completion is no model and no clause is falsified, some clause is open
+undecided-open : (row a : List ℕ) (f : List (List ℤ)) → models (complete row a) f ≡ false → (c : List ℤ) × List·Memᴰ c f × (satisfied a c ≡ false)
+undecided-open row a f h = let r = all-false (satisfied (complete row a)) f h in (r .0, r .1, go (r .0) (r .2) (satisfied a (r .0)) refl)
+  where
+    go : (c : List ℤ) → satisfied (complete row a) c ≡ false → (t : Bool) → satisfied a c ≡ t → t ≡ false
+    go c q true e = absurd (true≢false (sym (satisfied-kept (complete-extends row a) c e) ∙ q))
+    go c q false e = refl
+
+-- a clause that gives candidates
+source-exists : (row a : List ℕ) (f : List (List ℤ)) → models (complete row a) f ≡ false
+    → (c : List ℤ) × List·Memᴰ c f × (satisfied a c ≡ false) × (isSource row a (fewest row a f) c ≡ true)
+source-exists row a f h = go (fewest row a f) refl
+  where
+    go : (o : Option ℕ) → fewest row a f ≡ o → (c : List ℤ) × List·Memᴰ c f × (satisfied a c ≡ false) × (isSource row a o c ≡ true)
+    go none e = let r = undecided-open row a f h in (r .0, r .1, r .2, ap not (r .2))
+    go (some k) e =
+        let r = fewest-member row a f e in
+        (r .0, r .1, opposed-open row a (r .0) (r .2), and-eq-true-iff (isOpposed row a (r .0)) (eqb (unassignedIn a (r .0)) k) .1 (r .2, eq-eqb (unassignedIn a (r .0)) k (r .3)))
+
+pub branching-exists : {n : ℕ} {a : List ℕ} → State n a → (row : List ℕ) (f : List (List ℤ)) → fits n f ≡ true
+    → any (isFalsified a) f ≡ false → models (complete row a) f ≡ false → (v : ℕ) × (branchingVariable row a f ≡ some v)
+branching-exists {n} {a} h row f fit alive incomplete =
+    let r = source-exists row a f incomplete in
+    let x = find-some (isUnassigned a) (r .0) (open-unassigned a f alive (r .0) (r .1) (r .2)) in
+    let w = find-member (isUnassigned a) (r .0) (x .1) in
+    let b = fits-at n f fit (r .1) (w .0) in
+    best-exists (isCandidate row a f) (score a f) (length a) (variable (x .0)) (b .0) (omega (arith, h .size, b .1))
+    (source-candidate row a f (r .0) (r .1) (r .3) (x .0) (w .0) (w .1))
