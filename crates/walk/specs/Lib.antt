@@ -8,3 +8,4 @@ pub mod Propagation
 pub mod PropagationLaws
 pub mod State
 pub mod Walk
+pub mod WalkLaws

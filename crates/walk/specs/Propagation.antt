@@ -17,10 +17,10 @@ propagateRound rest a none = a
 propagateRound rest a (some x) = rest (satisfy a x)
 
 -- at most k rounds
-abbrev pub propagateFrom : ℕ → List (List ℤ) → List ℕ → List ℕ
-propagateFrom zero f a = a
-propagateFrom (suc k) f a = propagateRound (propagateFrom k f) a (unitLiteral a f)
+abbrev pub propagateBy : ℕ → List (List ℤ) → List ℕ → List ℕ
+propagateBy zero f a = a
+propagateBy (suc k) f a = propagateRound (propagateBy k f) a (unitLiteral a f)
 
 -- Each round assigns a variable, so that there are no more rounds than unassigned variables.
 abbrev pub propagate : List (List ℤ) → List ℕ → List ℕ
-propagate f a = propagateFrom (unassigned a) f a
+propagate f a = propagateBy (unassigned a) f a

@@ -13,7 +13,7 @@ use Rattle.literal.specs.Literal.{variable, wanted, value, holds}
 use Rattle.formula.specs.Formula.{all, satisfied, models}
 use Rattle.choices.specs.Lists.{all-at}
 use Rattle.walk.specs.State.{State, count, find, unassigned, satisfy, isUnassigned, unassignedIn, isOpen, isUnit, isWithin, fits}
-use Rattle.walk.specs.Propagation.{unitLiteral, propagateRound, propagateFrom, propagate}
+use Rattle.walk.specs.Propagation.{unitLiteral, propagateRound, propagateBy, propagate}
 use Rattle.walk.specs.Extension.{Extends, extends-refl, extends-trans, wanted-bit, count-member, satisfied-by-unassigned}
 use Rattle.walk.specs.Assignment.{assign-fewer, extends-satisfy, satisfy-extends, satisfy-state}
 
@@ -99,11 +99,11 @@ unit-forced {b} {a} h f t {x} e =
 
 -- what every round keeps, propagation keeps
 pub propagation-keeps {ℓ} : (f : List (List ℤ)) (Q : List ℕ → Type ℓ) → ((a : List ℕ) (x : ℤ) → Q a → unitLiteral a f ≡ some x → Q (satisfy a x))
-    → (k : ℕ) (a : List ℕ) → Q a → Q (propagateFrom k f a)
+    → (k : ℕ) (a : List ℕ) → Q a → Q (propagateBy k f a)
 propagation-keeps f Q h zero a q = q
 propagation-keeps f Q h (suc k) a q = go (unitLiteral a f) refl (λ b w. propagation-keeps f Q h k b w)
   where
-    go : (o : Option ℤ) → unitLiteral a f ≡ o → ((b : List ℕ) → Q b → Q (propagateFrom k f b)) → Q (propagateRound (propagateFrom k f) a o)
+    go : (o : Option ℤ) → unitLiteral a f ≡ o → ((b : List ℕ) → Q b → Q (propagateBy k f b)) → Q (propagateRound (propagateBy k f) a o)
     go none e ih = q
     go (some x) e ih = ih (satisfy a x) (h a x q e)
 
@@ -123,7 +123,7 @@ propagate-forced {c} {a} f t h =
 pub propagate-done : (f : List (List ℤ)) (a : List ℕ) → unitLiteral a f ≡ none → propagate f a ≡ a
 propagate-done f a e = go (unassigned a)
   where
-    go : (k : ℕ) → propagateFrom k f a ≡ a
+    go : (k : ℕ) → propagateBy k f a ≡ a
     go zero = refl
     go (suc k) = rw e
 
@@ -143,12 +143,12 @@ module _ (n : ℕ) (f : List (List ℤ)) (fit : fits n f ≡ true) where
       go (some x) e = absurd (omega (arith, round-fewer h e))
 
   -- propagation leaves no unit clause
-  quiet-from : (k : ℕ) {a : List ℕ} → State n a → unassigned a ≤ k → unitLiteral (propagateFrom k f a) f ≡ none
+  quiet-from : (k : ℕ) {a : List ℕ} → State n a → unassigned a ≤ k → unitLiteral (propagateBy k f a) f ≡ none
   quiet-from zero h l = no-round h (omega arith)
   quiet-from (suc k) {a} h l = go (unitLiteral a f) refl (λ b s q. quiet-from k {a = b} s q)
     where
-      go : (o : Option ℤ) → unitLiteral a f ≡ o → ((b : List ℕ) → State n b → unassigned b ≤ k → unitLiteral (propagateFrom k f b) f ≡ none)
-          → unitLiteral (propagateRound (propagateFrom k f) a o) f ≡ none
+      go : (o : Option ℤ) → unitLiteral a f ≡ o → ((b : List ℕ) → State n b → unassigned b ≤ k → unitLiteral (propagateBy k f b) f ≡ none)
+          → unitLiteral (propagateRound (propagateBy k f) a o) f ≡ none
       go none e ih = e
       go (some x) e ih = ih (satisfy a x) (satisfy-state h x) (omega (arith, round-fewer h e))
 
@@ -159,12 +159,17 @@ module _ (n : ℕ) (f : List (List ℤ)) (fit : fits n f ≡ true) where
   pub propagate-round : {a : List ℕ} → State n a → {x : ℤ} → unitLiteral a f ≡ some x → propagate f a ≡ propagate f (satisfy a x)
   propagate-round {a} h {x} e = rw (← round-fewer h e, e)
 
+  -- it never unassigns a variable
+  pub propagate-fewer : {a : List ℕ} → State n a → unassigned (propagate f a) ≤ unassigned a
+  propagate-fewer {a} h =
+      propagation-keeps f (λ (b : List ℕ). State n b × (unassigned b ≤ unassigned a)) (λ b x q e. (satisfy-state (q .0) x, omega (arith, q .1, round-fewer (q .0) e))) (unassigned a) a (h, omega arith) .1
+
   -- more rounds than there are unassigned variables change nothing
-  pub propagate-enough : (k : ℕ) {a : List ℕ} → State n a → unassigned a ≤ k → propagateFrom k f a ≡ propagate f a
+  pub propagate-enough : (k : ℕ) {a : List ℕ} → State n a → unassigned a ≤ k → propagateBy k f a ≡ propagate f a
   propagate-enough zero {a} h l = sym (propagate-done f a (no-round h (omega arith)))
   propagate-enough (suc k) {a} h l = go (unitLiteral a f) refl (λ b s q. propagate-enough k {a = b} s q)
     where
-      go : (o : Option ℤ) → unitLiteral a f ≡ o → ((b : List ℕ) → State n b → unassigned b ≤ k → propagateFrom k f b ≡ propagate f b)
-          → propagateRound (propagateFrom k f) a o ≡ propagate f a
+      go : (o : Option ℤ) → unitLiteral a f ≡ o → ((b : List ℕ) → State n b → unassigned b ≤ k → propagateBy k f b ≡ propagate f b)
+          → propagateRound (propagateBy k f) a o ≡ propagate f a
       go none e ih = sym (propagate-done f a e)
       go (some x) e ih = ih (satisfy a x) (satisfy-state h x) (omega (arith, round-fewer h e)) ∙ sym (propagate-round h e)

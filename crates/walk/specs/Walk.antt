@@ -9,7 +9,7 @@ use lib.ListN.{length, replicate}
 use Rattle.literal.specs.Literal.{value}
 use Rattle.formula.specs.Formula.{any, models}
 use Rattle.distance.specs.Distance.{disagreement, wishes}
-use Rattle.walk.specs.State.{isTwo, assign, isFalsified}
+use Rattle.walk.specs.State.{isTwo, unassigned, assign, isFalsified}
 use Rattle.walk.specs.Propagation.{propagate}
 use Rattle.walk.specs.Branching.{breaks, isOpposed, fewest, branchingVariable}
 
@@ -81,14 +81,18 @@ decide f row d try a =
     deadEnd
     (forkOn try row a (fewest row a f) (branchingVariable row a f))))
 
--- "Trying a settled state may call for a fork": the walk from a state, at most k forks deep. A fork assigns a variable, so that more forks than unassigned variables are never needed.
-abbrev pub walkFrom : ℕ → List (List ℤ) → List ℕ → ℕ → List ℕ → Outcome
-walkFrom zero f row d a = deadEnd
-walkFrom (suc k) f row d a = decide f row d (walkFrom k f row d) (propagate f a)
+-- "Trying a settled state may call for a fork": the walk from a state, less than k forks deep
+abbrev pub walkBy : ℕ → List (List ℤ) → List ℕ → ℕ → List ℕ → Outcome
+walkBy zero f row d a = deadEnd
+walkBy (suc k) f row d a = decide f row d (walkBy k f row d) (propagate f a)
+
+-- A fork assigns a variable, so that it goes no more forks deep than there are unassigned variables.
+abbrev pub walkFrom : List (List ℤ) → List ℕ → ℕ → List ℕ → Outcome
+walkFrom f row d a = walkBy (suc (unassigned a)) f row d a
 
 -- "a choice meeting all rules with at most d broken wishes, or none"
 abbrev pub walk : ℕ → List (List ℤ) → List ℕ → ℕ → Outcome
-walk n f row d = walkFrom (suc n) f row d (replicate n 2)
+walk n f row d = walkFrom f row d (replicate n 2)
 
 -- "Plain search is this with no wishes and d = 0"
 abbrev pub plainWalk : ℕ → List (List ℤ) → Outcome
