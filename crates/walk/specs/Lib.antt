@@ -2,10 +2,14 @@ pub mod Assignment
 pub mod Branching
 pub mod BranchingLaws
 pub mod Completion
+pub mod Correctness
 pub mod Examples
 pub mod Extension
+pub mod Induction
+pub mod Nearest
 pub mod Propagation
 pub mod PropagationLaws
 pub mod State
+pub mod Theorems
 pub mod Walk
 pub mod WalkLaws

@@ -29,6 +29,13 @@ or-cases {ℓ} : {P : Type ℓ} (x y : Bool) → x || y ≡ true → (x ≡ true
 or-cases true y h f g = f refl
 or-cases false y h f g = g h
 
+pub dead-causes : (f : List (List ℤ)) (row : List ℕ) (d : ℕ) (a : List ℕ) → isDeadEnd f row d a ≡ false → (any (isFalsified a) f ≡ false) × (disagreement row a ≤ d)
+dead-causes f row d a e = go (any (isFalsified a) f) e
+  where
+    go : (t : Bool) → t || ltb d (disagreement row a) ≡ false → (t ≡ false) × (disagreement row a ≤ d)
+    go true q = absurd (true≢false q)
+    go false q = (refl, ltb-false d (disagreement row a) q)
+
 -- a dead end stays one however the state is extended, so that propagation may stop at the first sign of it
 pub dead-kept : {b a : List ℕ} → Extends b a → (f : List (List ℤ)) (row : List ℕ) (d : ℕ) → isDeadEnd f row d a ≡ true → isDeadEnd f row d b ≡ true
 dead-kept {b} {a} h f row d e = or-cases (any (isFalsified a) f) (ltb d (disagreement row a)) e falsified broken
