@@ -1,10 +1,10 @@
 -- What giving a variable a value changes: which assignments extend the state, how many variables are left, and the wishes that are broken.
-use mathlib.Core.Path.{_≡_, refl, sym, ap, subst, _∙_}
+use mathlib.Core.Path.{_≡_, refl, sym, ap, _∙_}
 use mathlib.Core.Logic.{_⊎_, inl, inr}
-use mathlib.Core.Bool.{Bool, true, false, cond, true≢false}
+use mathlib.Core.Bool.{Bool, true, false, cond}
 use mathlib.Core.List.{List, [], _∷_}
 use Prim.Native.Nat.{ℕ, zero, suc, _+_, _-_, _≤_, _<_}
-use native.Mathlib.Nat.{le-of-suc-le-suc, not-suc-le-zero, suc-inj}
+use native.Mathlib.Nat.{le-of-suc-le-suc, not-suc-le-zero}
 use native.Mathlib.Omega.{arith}
 use lib.Dec.{eqb, ltb}
 use lib.IntN.{ℤ}
@@ -16,7 +16,7 @@ use Rattle.literal.specs.Laws.{getD-inside}
 use Rattle.distance.specs.Distance.{cost, disagreement}
 use Rattle.distance.specs.Laws.{cost-free}
 use Rattle.choices.specs.Choices.{Choice}
-use Rattle.walk.specs.State.{State, count, isTwo, unassigned, assign, satisfy, isUnassigned}
+use Rattle.walk.specs.State.{State, isTwo, unassigned, assign, satisfy, isUnassigned}
 use Rattle.walk.specs.Extension.{Extends, wanted-bit, cost-unassigned}
 
 -- as a store into the list of bytes

@@ -1,22 +1,21 @@
 -- The branching variable: it is an unassigned variable of the formula, and there is one wherever steps 1 and 2 decide nothing.
 use mathlib.Core.Path.{_≡_, refl, sym, ap, ap₂, subst, _∙_}
 use mathlib.Core.Bool.{Bool, true, false, cond, not, _&&_, _||_, true≢false, and-eq-true-iff}
-use mathlib.Core.List.{List, [], _∷_, map, List·Memᴰ, Memᴰ·of-map}
-use mathlib.Core.Option.{Option, none, some, Option·some-injective, Option·none-ne-some, Option·some-ne-none}
+use mathlib.Core.List.{List, map, List·Memᴰ, Memᴰ·of-map}
+use mathlib.Core.Option.{Option, none, some}
 use Prim.Native.Nat.{ℕ, zero, suc, _≤_, _<_}
-use native.Mathlib.Nat.{not-suc-le-zero}
 use native.Mathlib.Omega.{arith}
 use lib.Dec.{eqb, ltb}
 use lib.IntN.{ℤ}
 use lib.ListN.{length}
-use borrow.Author.Tests.{eqb-true, eqb-false, ltb-true, ltb-false, not-true, eq-eqb, lt-ltb}
+use borrow.Author.Tests.{eqb-true, eqb-false, ltb-true, ltb-false, not-true, eq-eqb}
 use Rattle.literal.specs.Literal.{variable, value}
 use Rattle.formula.specs.Formula.{any, all, satisfied, models}
-use Rattle.distance.specs.Distance.{disagreement, keep, least}
+use Rattle.distance.specs.Distance.{keep}
 use Rattle.choices.specs.Lists.{any-at, any-false, all-false, kept-passes, least-some}
 use Rattle.walk.specs.State.{State, isTwo, isUnassigned, unassignedIn, isOpen, isFalsified, fits}
 use Rattle.walk.specs.Branching.{isAgainst, isOpposed, fewest, isSource, mentions, isCandidate, score, better, best, branchingVariable}
-use Rattle.walk.specs.Walk.{complete, isDeadEnd}
+use Rattle.walk.specs.Walk.{complete}
 use Rattle.walk.specs.Extension.{satisfied-kept}
 use Rattle.walk.specs.PropagationLaws.{find-member, find-some, fits-at}
 use Rattle.walk.specs.Completion.{complete-extends}

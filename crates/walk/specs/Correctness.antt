@@ -1,5 +1,5 @@
 -- Every walk is right: what it finds is a model within the limit, and where it finds nothing no model within the limit extends the state it started from.
-use mathlib.Core.Path.{_≡_, refl, ap, _∙_}
+use mathlib.Core.Path.{_≡_, refl, ap}
 use mathlib.Core.Logic.{⊎-elim}
 use mathlib.Core.Bool.{true, false}
 use mathlib.Core.List.{List}
@@ -14,14 +14,14 @@ use Rattle.choices.specs.Choices.{Model}
 use Rattle.walk.specs.State.{State, unassigned, assign, fits}
 use Rattle.walk.specs.Propagation.{propagate}
 use Rattle.walk.specs.Branching.{fewest}
-use Rattle.walk.specs.Walk.{Answer, Outcome, isDeadEnd, complete, completed, isExhausted, firstValue, eitherOf, walkBy}
+use Rattle.walk.specs.Walk.{Answer, Outcome, isDeadEnd, complete, completed, firstValue, eitherOf, walkBy}
 use Rattle.walk.specs.Extension.{Extends}
 use Rattle.walk.specs.Assignment.{extends-branch}
 use Rattle.walk.specs.PropagationLaws.{propagate-forced}
 use Rattle.walk.specs.Completion.{complete-choice, complete-cost}
 use Rattle.walk.specs.BranchingLaws.{Branches}
 use Rattle.walk.specs.WalkLaws.{dead-causes, dead-none, exhausted-none, first-bit}
-use Rattle.walk.specs.Induction.{Settled, Ways, walk-induction}
+use Rattle.walk.specs.Induction.{Ways, walk-induction}
 
 -- the state that the walk starts from: no variable is assigned
 pub nothing-assigned : (n i : ℕ) → _≡_ {A = ℕ} (getD (replicate n 2) i 2) 2

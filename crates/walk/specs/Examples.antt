@@ -3,8 +3,8 @@ use mathlib.Core.Path.{_≡_, refl}
 use mathlib.Core.List.{List, [], _∷_}
 use mathlib.Core.Option.{Option, none, some}
 use Prim.Native.Nat.{ℕ}
-use lib.IntN.{ℤ, pos, negsuc}
-use Rattle.walk.specs.Walk.{Answer, Outcome, walk, nearestWalk, plainWalk}
+use lib.IntN.{ℤ, pos}
+use Rattle.walk.specs.Walk.{Answer, walk, nearestWalk}
 
 abbrev answered : List ℕ → ℕ → Option Answer
 answered choice broken = some (record { choice = choice; broken = broken })

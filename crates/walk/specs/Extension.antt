@@ -1,21 +1,19 @@
 -- When one assignment extends another, and what stays as it is then: what holds, what is falsified, and the wishes that are broken.
-use mathlib.Core.Path.{_≡_, refl, sym, ap, ap₂, subst, _∙_}
-use mathlib.Core.Bool.{Bool, true, false, cond, not, _&&_, _||_, true≢false, and-eq-true-iff}
+use mathlib.Core.Path.{_≡_, refl, sym, ap, ap₂, _∙_}
+use mathlib.Core.Bool.{Bool, true, false, cond, not, _&&_, true≢false, and-eq-true-iff}
 use mathlib.Core.List.{List, [], _∷_, List·Memᴰ, List·Memᴰ·head, List·Memᴰ·tail}
-use Prim.Native.Nat.{ℕ, zero, suc, _+_, _-_, _≤_, _<_, zero-le}
-use native.Mathlib.Nat.{le-of-suc-le-suc, not-suc-le-zero}
+use Prim.Native.Nat.{ℕ, zero, suc, _≤_, _<_, zero-le}
 use native.Mathlib.Omega.{arith}
-use lib.Dec.{eqb, ltb, lit<}
+use lib.Dec.{eqb, lit<}
 use lib.IntN.{ℤ, pos, negsuc}
-use lib.ListN.{length, getD, set, length-set}
-use lib.Seq.{set-out, getD-set-same, getD-set-other}
-use borrow.Author.Tests.{not-true, eqb-true, eqb-false, ltb-true, ltb-false, eq-eqb, ne-eqb}
+use lib.ListN.{getD}
+use borrow.Author.Tests.{not-true, eqb-true, eqb-false, ne-eqb}
 use Rattle.literal.specs.Literal.{variable, wanted, value, holds}
-use Rattle.formula.specs.Formula.{any, satisfied}
+use Rattle.formula.specs.Formula.{satisfied}
 use Rattle.distance.specs.Distance.{cost, disagreement}
-use Rattle.distance.specs.Laws.{cost-kept, cost-free, disagreement-nothing}
+use Rattle.distance.specs.Laws.{cost-kept, disagreement-nothing}
 use Rattle.choices.specs.Lists.{any-at, any-member, any-false}
-use Rattle.walk.specs.State.{State, count, isTwo, unassigned, assign, satisfy, isUnassigned, unassignedIn, isOpen, isFalsified}
+use Rattle.walk.specs.State.{count, isTwo, isUnassigned, unassignedIn, isOpen, isFalsified}
 
 -- b extends a if it has a's value wherever a has one
 pub record Extends (b a : List ℕ) : Type 0 where

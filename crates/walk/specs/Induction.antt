@@ -7,8 +7,8 @@ use Prim.Native.Nat.{ℕ, zero, suc, _-_, _≤_, _<_}
 use native.Mathlib.Nat.{not-suc-le-zero}
 use native.Mathlib.Omega.{arith}
 use lib.IntN.{ℤ}
-use Rattle.formula.specs.Formula.{any, models}
-use Rattle.walk.specs.State.{State, unassigned, assign, isFalsified, fits}
+use Rattle.formula.specs.Formula.{models}
+use Rattle.walk.specs.State.{State, unassigned, assign, fits}
 use Rattle.walk.specs.Propagation.{unitLiteral, propagate}
 use Rattle.walk.specs.Branching.{fewest, branchingVariable}
 use Rattle.walk.specs.Walk.{Outcome, deadEnd, isDeadEnd, complete, completed, isExhausted, firstValue, eitherOf, forkOn, decide, walkBy}

@@ -1,5 +1,5 @@
 -- Counting the limit up: the first walk that finds something finds the nearest count.
-use mathlib.Core.Path.{_≡_, refl, sym, ap, subst, _∙_}
+use mathlib.Core.Path.{_≡_, refl, subst}
 use mathlib.Core.Bool.{Bool, true, false, cond}
 use mathlib.Core.List.{List, [], _∷_}
 use mathlib.Core.Option.{Option, none, some}
@@ -10,8 +10,8 @@ use lib.Dec.{eqb}
 use lib.IntN.{ℤ}
 use lib.ListN.{replicate}
 use Rattle.distance.specs.Distance.{weight, cost, wishes, disagreement}
-use Rattle.distance.specs.Laws.{cost-free, disagreement-nothing}
-use Rattle.choices.specs.Choices.{Model, Nearest}
+use Rattle.distance.specs.Laws.{cost-free}
+use Rattle.choices.specs.Choices.{Model}
 use Rattle.walk.specs.State.{unassigned, fits}
 use Rattle.walk.specs.Walk.{Answer, walk, firstAnswer, climb, nearestWalk}
 use Rattle.walk.specs.Correctness.{start-state, start-extends, Within, Right, walk-right}

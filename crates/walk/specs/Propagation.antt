@@ -1,5 +1,5 @@
 -- Unit propagation. Document 01, step 1: "Settle: while an open rule has exactly one unsettled entry, the lowest numbered such rule has that entry made to hold."
-use mathlib.Core.Bool.{Bool, cond}
+use mathlib.Core.Bool.{cond}
 use mathlib.Core.List.{List, [], _∷_}
 use mathlib.Core.Option.{Option, none, some}
 use Prim.Native.Nat.{ℕ, zero, suc}

@@ -1,16 +1,16 @@
 -- The theorems of the wish search. Each holds for every n, every formula whose literals have their variables in 1 to n (`fits`), every wish row and every limit.
-use mathlib.Core.Path.{_≡_, refl, sym, ap, subst, _∙_}
+use mathlib.Core.Path.{_≡_, refl, sym, subst}
 use mathlib.Core.Logic.{_↔_, Iff·trans, Iff·symm}
-use mathlib.Core.Bool.{Bool, true, false}
+use mathlib.Core.Bool.{true}
 use mathlib.Core.List.{List, []}
 use mathlib.Core.Option.{Option, none, some, Option·map}
-use Prim.Native.Nat.{ℕ, suc, _≤_, _<_}
+use Prim.Native.Nat.{ℕ, suc, _<_}
 use native.Mathlib.Omega.{arith}
 use lib.IntN.{ℤ}
-use lib.ListN.{length, getD, replicate}
-use Rattle.formula.specs.Formula.{clauses, models}
+use lib.ListN.{replicate}
+use Rattle.formula.specs.Formula.{clauses}
 use Rattle.distance.specs.Distance.{wishes, disagreement, within, nearest}
-use Rattle.choices.specs.Choices.{Choice, Model, Nearest, within-none, nearest-none, nearest-some}
+use Rattle.choices.specs.Choices.{Model, within-none, nearest-none, nearest-some}
 use Rattle.walk.specs.State.{State, unassigned, fits}
 use Rattle.walk.specs.Branching.{branchingVariable}
 use Rattle.walk.specs.Walk.{Answer, walkBy, walk, plainWalk, nearestWalk}

@@ -5,7 +5,7 @@ use mathlib.Core.Option.{Option, none, some}
 use Prim.Native.Nat.{ℕ, zero, suc, _+_, _-_}
 use lib.Dec.{eqb, ltb}
 use lib.IntN.{ℤ}
-use lib.ListN.{length, replicate}
+use lib.ListN.{replicate}
 use Rattle.literal.specs.Literal.{value}
 use Rattle.formula.specs.Formula.{any, models}
 use Rattle.distance.specs.Distance.{disagreement, wishes}

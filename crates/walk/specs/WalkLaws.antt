@@ -1,23 +1,22 @@
 -- The steps of the walk one by one: what each dead end rules out, where `decide` goes, and that the depth allowed does not matter where it is enough.
-use mathlib.Core.Path.{_≡_, refl, sym, ap, ap₂, subst, _∙_}
-use mathlib.Core.Bool.{Bool, true, false, cond, not, _&&_, _||_, true≢false, and-eq-true-iff, or-true}
+use mathlib.Core.Path.{_≡_, refl, sym, ap, ap₂, _∙_}
+use mathlib.Core.Bool.{Bool, true, false, cond, not, _||_, true≢false, and-eq-true-iff, or-true}
 use mathlib.Core.List.{List, List·Memᴰ}
 use mathlib.Core.Option.{Option, none, some}
-use Prim.Native.Nat.{ℕ, zero, suc, _+_, _-_, _≤_, _<_}
+use Prim.Native.Nat.{ℕ, zero, suc, _-_, _≤_, _<_}
 use native.Mathlib.Nat.{not-suc-le-zero}
 use native.Mathlib.Omega.{arith}
 use lib.Dec.{eqb, ltb, lit<}
 use lib.IntN.{ℤ}
-use lib.ListN.{length}
-use borrow.Author.Tests.{eqb-true, ltb-true, ltb-false, lt-ltb, not-true, not-false}
-use Rattle.literal.specs.Literal.{variable, wanted, value, holds}
+use borrow.Author.Tests.{eqb-true, ltb-true, ltb-false, lt-ltb}
+use Rattle.literal.specs.Literal.{variable, wanted, value}
 use Rattle.formula.specs.Formula.{any, all, satisfied, models}
 use Rattle.distance.specs.Distance.{cost, disagreement}
 use Rattle.choices.specs.Lists.{any-at, any-member, all-at}
 use Rattle.walk.specs.State.{State, unassigned, assign, satisfy, isUnassigned, isOpen, isFalsified, fits}
 use Rattle.walk.specs.Propagation.{propagate}
 use Rattle.walk.specs.Branching.{breaks, isAgainst, isOpposed, fewest, branchingVariable}
-use Rattle.walk.specs.Walk.{Answer, Outcome, deadEnd, isDeadEnd, complete, completed, isExhausted, unwishedValue, firstValue, eitherOf, fork, forkOn, decide, walkBy, walkFrom}
+use Rattle.walk.specs.Walk.{Outcome, deadEnd, isDeadEnd, complete, completed, isExhausted, firstValue, eitherOf, forkOn, decide, walkBy, walkFrom}
 use Rattle.walk.specs.Extension.{Extends, satisfied-by-unassigned, falsified-kept, falsified-never, disagreement-grows}
 use Rattle.walk.specs.Assignment.{assign-state, assign-fewer, assign-cost, extends-satisfy}
 use Rattle.walk.specs.PropagationLaws.{fits-at, propagate-extends, propagate-state, propagate-fewer}
