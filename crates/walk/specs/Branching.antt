@@ -1,14 +1,14 @@
 -- The branching variable. Document 01, step 4: "Pick: among open rules whose unsettled entries all go against wishes, take those with fewest unsettled entries [..]. Their unsettled settings are candidates. If no such rule exists, candidates are the unsettled settings of all open rules."
 use mathlib.Core.Bool.{Bool, cond, not, _&&_, _||_}
-use mathlib.Core.List.{List, [], _∷_, map}
-use mathlib.Core.Option.{Option, none, some}
+use mathlib.Core.List.{List, [], _∷_}
+use mathlib.Core.Option.{Option, none, some, Option·map}
 use Prim.Native.Nat.{ℕ, zero, suc, _+_, _-_, _*_, _^_, min}
 use lib.Dec.{eqb, ltb}
 use lib.IntN.{ℤ}
 use lib.ListN.{length}
 use Rattle.literal.specs.Literal.{variable, wanted, value}
 use Rattle.formula.specs.Formula.{any, all}
-use Rattle.distance.specs.Distance.{cost, keep, least}
+use Rattle.distance.specs.Distance.{cost}
 use Rattle.walk.specs.State.{isTwo, isUnassigned, unassignedIn, isOpen}
 
 -- a value breaks a wish if it costs something there
@@ -23,9 +23,22 @@ isAgainst row x = breaks (value row (variable x)) (wanted x)
 abbrev pub isOpposed : List ℕ → List ℕ → List ℤ → Bool
 isOpposed row a c = isOpen a c && all (λ (x : ℤ). not (isUnassigned a x) || isAgainst row x) c
 
--- how many unassigned literals the shortest of them have, if there are any
+-- "of two open rules the shorter is handed back as itself (fewer unsettled entries; the first if equal)"
+abbrev pub shorter : List ℕ → List ℤ → List ℤ → List ℤ
+shorter a c e = cond (ltb (unassignedIn a e) (unassignedIn a c)) e c
+
+abbrev pub shorterOf : List ℕ → List ℤ → Option (List ℤ) → List ℤ
+shorterOf a c none = c
+shorterOf a c (some e) = shorter a c e
+
+-- the shortest opposed clause, if there are any
+abbrev pub shortest : List ℕ → List ℕ → List (List ℤ) → Option (List ℤ)
+shortest row a [] = none
+shortest row a (c ∷ f) = cond (isOpposed row a c) (some (shorterOf a c (shortest row a f))) (shortest row a f)
+
+-- the fewest unassigned literals of an opposed clause
 abbrev pub fewest : List ℕ → List ℕ → List (List ℤ) → Option ℕ
-fewest row a f = least (map (unassignedIn a) (keep (isOpposed row a) f))
+fewest row a f = Option·map (unassignedIn a) (shortest row a f)
 
 -- the clauses that give the candidates
 abbrev pub isSource : List ℕ → List ℕ → Option ℕ → List ℤ → Bool

@@ -1,20 +1,19 @@
 -- The branching variable: it is an unassigned variable of the formula, and there is one wherever steps 1 and 2 decide nothing.
 use mathlib.Core.Path.{_≡_, refl, sym, ap, ap₂, subst, _∙_}
 use mathlib.Core.Bool.{Bool, true, false, cond, not, _&&_, _||_, true≢false, and-eq-true-iff}
-use mathlib.Core.List.{List, map, List·Memᴰ, Memᴰ·of-map}
-use mathlib.Core.Option.{Option, none, some}
-use Prim.Native.Nat.{ℕ, zero, suc, _≤_, _<_}
+use mathlib.Core.List.{List, [], _∷_, List·Memᴰ, List·Memᴰ·head, List·Memᴰ·tail, List·Memᴰ·not-nil}
+use mathlib.Core.Option.{Option, none, some, Option·map}
+use Prim.Native.Nat.{ℕ, zero, suc, min, _≤_, _<_}
 use native.Mathlib.Omega.{arith}
-use lib.Dec.{eqb, ltb}
+use lib.Dec.{eqb, ltb, leb}
 use lib.IntN.{ℤ}
 use lib.ListN.{length}
-use borrow.Author.Tests.{eqb-true, eqb-false, ltb-true, ltb-false, not-true, eq-eqb}
+use borrow.Author.Tests.{eqb-true, eqb-false, ltb-true, ltb-false, leb-true, leb-false, not-true, eq-eqb}
 use Rattle.literal.specs.Literal.{variable, value}
 use Rattle.formula.specs.Formula.{any, all, satisfied, models}
-use Rattle.distance.specs.Distance.{keep}
-use Rattle.choices.specs.Lists.{any-at, any-false, all-false, kept-passes, least-some}
+use Rattle.choices.specs.Lists.{any-at, any-false, all-false}
 use Rattle.walk.specs.State.{State, isTwo, isUnassigned, unassignedIn, isOpen, isFalsified, fits}
-use Rattle.walk.specs.Branching.{isAgainst, isOpposed, fewest, isSource, mentions, isCandidate, score, better, best, branchingVariable}
+use Rattle.walk.specs.Branching.{isAgainst, isOpposed, shorter, shorterOf, shortest, fewest, isSource, mentions, isCandidate, score, better, best, branchingVariable}
 use Rattle.walk.specs.Walk.{complete}
 use Rattle.walk.specs.Extension.{satisfied-kept}
 use Rattle.walk.specs.PropagationLaws.{find-member, find-some, fits-at}
@@ -105,13 +104,90 @@ pub opposed-open : (row a : List ℕ) (c : List ℤ) → isOpposed row a c ≡ t
 opposed-open row a c h =
     not-true (satisfied a c) (and-eq-true-iff (isOpen a c) (all (λ (x : ℤ). not (isUnassigned a x) || isAgainst row x) c) .0 h .0)
 
--- the first kind of rule, if there is one
+-- the smaller of two numbers, where there are two
+abbrev pub fewer : Option ℕ → Option ℕ → Option ℕ
+fewer none k = k
+fewer (some j) none = some j
+fewer (some j) (some k) = some (min j k)
+
+pub fewer-assoc : (i j k : Option ℕ) → fewer (fewer i j) k ≡ fewer i (fewer j k)
+fewer-assoc none j k = refl
+fewer-assoc (some i) none k = refl
+fewer-assoc (some i) (some j) none = refl
+fewer-assoc (some i) (some j) (some k) = let e : min (min i j) k ≡ min i (min j k) = omega arith in ap {B = Option ℕ} some e
+
+-- the shorter of two clauses has the fewer unassigned literals
+pub shorter-fewer : (a : List ℕ) (c e : List ℤ) → unassignedIn a (shorter a c e) ≡ min (unassignedIn a c) (unassignedIn a e)
+shorter-fewer a c e = go (ltb (unassignedIn a e) (unassignedIn a c)) refl
+  where
+    go : (t : Bool) → ltb (unassignedIn a e) (unassignedIn a c) ≡ t → unassignedIn a (cond t e c) ≡ min (unassignedIn a c) (unassignedIn a e)
+    go true q = omega (arith, ltb-true (unassignedIn a e) (unassignedIn a c) q)
+    go false q = omega (arith, ltb-false (unassignedIn a e) (unassignedIn a c) q)
+
+-- the fewest of a formula, clause by clause
+pub fewest-opposed : (row a : List ℕ) (c : List ℤ) (f : List (List ℤ)) → isOpposed row a c ≡ true → fewest row a (c ∷ f) ≡ fewer (some (unassignedIn a c)) (fewest row a f)
+fewest-opposed row a c f e = rw e (go (shortest row a f))
+  where
+    go : (o : Option (List ℤ)) → Option·map (unassignedIn a) (some (shorterOf a c o)) ≡ fewer (some (unassignedIn a c)) (Option·map (unassignedIn a) o)
+    go none = refl
+    go (some g) = ap {B = Option ℕ} some (shorter-fewer a c g)
+
+pub fewest-other : (row a : List ℕ) (c : List ℤ) (f : List (List ℤ)) → isOpposed row a c ≡ false → fewest row a (c ∷ f) ≡ fewest row a f
+fewest-other row a c f e = rw e
+
+-- the first kind of rule, if there is one: some opposed clause has so few, and none has fewer
+pub record Fewest (row a : List ℕ) (f : List (List ℤ)) (k : ℕ) : Type 0 where
+  pub attained : (c : List ℤ) × List·Memᴰ c f × (isOpposed row a c ≡ true) × (unassignedIn a c ≡ k)
+  pub below : (c : List ℤ) → List·Memᴰ c f → isOpposed row a c ≡ true → k ≤ unassignedIn a c
+
+abbrev pub IsFewest : List ℕ → List ℕ → List (List ℤ) → Option ℕ → Type 0
+IsFewest row a f none = (c : List ℤ) → List·Memᴰ c f → isOpposed row a c ≡ false
+IsFewest row a f (some k) = Fewest row a f k
+
+module _ (row a : List ℕ) (c : List ℤ) (f : List (List ℤ)) where
+  -- one more clause: opposed, or not
+  with-opposed : isOpposed row a c ≡ true → (o : Option ℕ) → IsFewest row a f o → IsFewest row a (c ∷ f) (fewer (some (unassignedIn a c)) o)
+  with-opposed e none h = record { attained = (c, List·Memᴰ·head refl, e, refl); below = λ g m o. at g m o }
+    where
+      at : (g : List ℤ) → List·Memᴰ g (c ∷ f) → isOpposed row a g ≡ true → unassignedIn a c ≤ unassignedIn a g
+      at g (List·Memᴰ·head z) o = omega (arith, ap (unassignedIn a) z)
+      at g (List·Memᴰ·tail m) o = absurd (true≢false (sym o ∙ h g m))
+  with-opposed e (some k) h = record { attained = pick (leb (unassignedIn a c) k) refl; below = λ g m o. at g m o }
+    where
+      pick : (t : Bool) → leb (unassignedIn a c) k ≡ t → (g : List ℤ) × List·Memᴰ g (c ∷ f) × (isOpposed row a g ≡ true) × (unassignedIn a g ≡ min (unassignedIn a c) k)
+      pick true q = let z : unassignedIn a c ≡ min (unassignedIn a c) k = omega (arith, leb-true (unassignedIn a c) k q) in (c, List·Memᴰ·head refl, e, z)
+      pick false q =
+          let r = h .attained in
+          let z : unassignedIn a (r .0) ≡ min (unassignedIn a c) k = omega (arith, r .3, leb-false (unassignedIn a c) k q) in
+          (r .0, List·Memᴰ·tail (r .1), r .2, z)
+
+      at : (g : List ℤ) → List·Memᴰ g (c ∷ f) → isOpposed row a g ≡ true → min (unassignedIn a c) k ≤ unassignedIn a g
+      at g (List·Memᴰ·head z) o = omega (arith, ap (unassignedIn a) z)
+      at g (List·Memᴰ·tail m) o = omega (arith, h .below g m o)
+
+  with-other : isOpposed row a c ≡ false → (o : Option ℕ) → IsFewest row a f o → IsFewest row a (c ∷ f) o
+  with-other e none h = λ g m. at g m
+    where
+      at : (g : List ℤ) → List·Memᴰ g (c ∷ f) → isOpposed row a g ≡ false
+      at g (List·Memᴰ·head z) = ap (isOpposed row a) z ∙ e
+      at g (List·Memᴰ·tail m) = h g m
+  with-other e (some k) h = let r = h .attained in record { attained = (r .0, List·Memᴰ·tail (r .1), r .2, r .3); below = λ g m o. at g m o }
+    where
+      at : (g : List ℤ) → List·Memᴰ g (c ∷ f) → isOpposed row a g ≡ true → k ≤ unassignedIn a g
+      at g (List·Memᴰ·head z) o = absurd (true≢false (sym o ∙ ap (isOpposed row a) z ∙ e))
+      at g (List·Memᴰ·tail m) o = h .below g m o
+
+pub fewest-is : (row a : List ℕ) (f : List (List ℤ)) → IsFewest row a f (fewest row a f)
+fewest-is row a [] = λ c m. absurd (List·Memᴰ·not-nil m)
+fewest-is row a (c ∷ f) = go (isOpposed row a c) refl (fewest-is row a f)
+  where
+    go : (t : Bool) → isOpposed row a c ≡ t → IsFewest row a f (fewest row a f) → IsFewest row a (c ∷ f) (fewest row a (c ∷ f))
+    go true e h = subst (IsFewest row a (c ∷ f)) (sym (fewest-opposed row a c f e)) (with-opposed row a c f e (fewest row a f) h)
+    go false e h = subst (IsFewest row a (c ∷ f)) (sym (fewest-other row a c f e)) (with-other row a c f e (fewest row a f) h)
+
 pub fewest-member : (row a : List ℕ) (f : List (List ℤ)) {k : ℕ} → fewest row a f ≡ some k
     → (c : List ℤ) × List·Memᴰ c f × (isOpposed row a c ≡ true) × (unassignedIn a c ≡ k)
-fewest-member row a f {k} e =
-    let r = Memᴰ·of-map (unassignedIn a) (keep (isOpposed row a) f) (least-some (map (unassignedIn a) (keep (isOpposed row a) f)) k .0 e .attained) in
-    let q = kept-passes (isOpposed row a) f (r .1) in
-    (r .0, q .0, q .1, r .2)
+fewest-member row a f {k} e = let r : Fewest row a f k = subst (IsFewest row a f) e (fewest-is row a f) in r .attained
 
 -- an unassigned literal of a clause that gives candidates gives one
 source-candidate : (row a : List ℕ) (f : List (List ℤ)) (c : List ℤ) → List·Memᴰ c f → isSource row a (fewest row a f) c ≡ true
