@@ -11,12 +11,13 @@ use lib.ListN.{length}
 use borrow.Author.Tests.{eqb-true, eqb-false, ltb-true, ltb-false, leb-true, leb-false, not-true, eq-eqb}
 use Rattle.literal.specs.Literal.{variable, value}
 use Rattle.formula.specs.Formula.{any, all, satisfied, models}
-use Rattle.choices.specs.Lists.{any-at, any-false, all-false}
+use Rattle.choices.specs.Lists.{any-at, any-member, any-false, all-at, all-false}
 use Rattle.walk.specs.State.{State, isTwo, isUnassigned, unassignedIn, isOpen, isFalsified, fits}
 use Rattle.walk.specs.Branching.{isAgainst, isOpposed, shorter, shorterOf, shortest, fewest, isSource, mentions, isCandidate, score, better, best, branchingVariable}
 use Rattle.walk.specs.Walk.{complete}
 use Rattle.walk.specs.Extension.{satisfied-kept}
-use Rattle.walk.specs.PropagationLaws.{find-member, find-some, fits-at}
+use Rattle.walk.specs.Counting.{find-member, find-some}
+use Rattle.walk.specs.Fits.{fits-at}
 use Rattle.walk.specs.Completion.{complete-extends}
 
 module _ (candidate : ℕ → Bool) (score : ℕ → ℕ) where
@@ -103,6 +104,16 @@ branching-sound {n} {a} h row f {v} e =
 pub opposed-open : (row a : List ℕ) (c : List ℤ) → isOpposed row a c ≡ true → satisfied a c ≡ false
 opposed-open row a c h =
     not-true (satisfied a c) (and-eq-true-iff (isOpen a c) (all (λ (x : ℤ). not (isUnassigned a x) || isAgainst row x) c) .0 h .0)
+
+-- its unassigned literals go against wishes
+pub opposed-against : (row a : List ℕ) (c : List ℤ) → isOpposed row a c ≡ true → (x : ℤ) → List·Memᴰ x c → isUnassigned a x ≡ true → isAgainst row x ≡ true
+opposed-against row a c h x m u =
+    let every = and-eq-true-iff (isOpen a c) (all (λ (y : ℤ). not (isUnassigned a y) || isAgainst row y) c) .0 h .1 in
+    go (isUnassigned a x) u (all-at (λ (y : ℤ). not (isUnassigned a y) || isAgainst row y) every m)
+  where
+    go : (t : Bool) → t ≡ true → not t || isAgainst row x ≡ true → isAgainst row x ≡ true
+    go true p q = q
+    go false p q = absurd (true≢false (sym p))
 
 -- the smaller of two numbers, where there are two
 abbrev pub fewer : Option ℕ → Option ℕ → Option ℕ
@@ -199,6 +210,25 @@ source-candidate row a f c m s x w u =
       any-at (λ (g : List ℤ). isSource row a (fewest row a f) g && mentions (variable x) g) m
           (and-eq-true-iff (isSource row a (fewest row a f) c) (mentions (variable x) c) .1 (s, named)),
     )
+
+-- and every candidate comes from one
+pub record Candidate (row a : List ℕ) (f : List (List ℤ)) (v : ℕ) : Type 0 where
+  pub clause : List ℤ
+  pub listed : List·Memᴰ clause f
+  pub source : isSource row a (fewest row a f) clause ≡ true
+  pub literal : ℤ
+  pub stands : List·Memᴰ literal clause
+  pub named : variable literal ≡ v
+  pub free : isUnassigned a literal ≡ true
+
+pub candidate-from : (row a : List ℕ) (f : List (List ℤ)) (v : ℕ) → isCandidate row a f v ≡ true → Candidate row a f v
+candidate-from row a f v h =
+    let r = and-eq-true-iff (isTwo (value a v)) (any (λ (g : List ℤ). isSource row a (fewest row a f) g && mentions v g) f) .0 h in
+    let c = any-member (λ (g : List ℤ). isSource row a (fewest row a f) g && mentions v g) f (r .1) in
+    let q = and-eq-true-iff (isSource row a (fewest row a f) (c .0)) (mentions v (c .0)) .0 (c .2) in
+    let x = any-member (λ (y : ℤ). eqb (variable y) v) (c .0) (q .1) in
+    let e : variable (x .0) ≡ v = eqb-true (variable (x .0)) v (x .2) in
+    record { clause = c .0; listed = c .1; source = q .0; literal = x .0; stands = x .1; named = e; free = ap (λ (u : ℕ). isTwo (value a u)) e ∙ r .0 }
 
 -- an open clause that is not falsified has an unassigned literal
 open-unassigned : (a : List ℕ) (f : List (List ℤ)) → any (isFalsified a) f ≡ false → (c : List ℤ) → List·Memᴰ c f → satisfied a c ≡ false → 0 < unassignedIn a c

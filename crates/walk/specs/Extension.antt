@@ -1,7 +1,7 @@
 -- When one assignment extends another, and what stays as it is then: what holds, what is falsified, and the wishes that are broken.
 use mathlib.Core.Path.{_≡_, refl, sym, ap, ap₂, _∙_}
-use mathlib.Core.Bool.{Bool, true, false, cond, not, _&&_, true≢false, and-eq-true-iff}
-use mathlib.Core.List.{List, [], _∷_, List·Memᴰ, List·Memᴰ·head, List·Memᴰ·tail}
+use mathlib.Core.Bool.{Bool, true, false, not, _&&_, true≢false, and-eq-true-iff}
+use mathlib.Core.List.{List, [], _∷_, List·Memᴰ}
 use Prim.Native.Nat.{ℕ, zero, suc, _≤_, _<_, zero-le}
 use native.Mathlib.Omega.{arith}
 use lib.Dec.{eqb, lit<}
@@ -13,7 +13,8 @@ use Rattle.formula.specs.Formula.{satisfied}
 use Rattle.distance.specs.Distance.{cost, disagreement}
 use Rattle.distance.specs.Laws.{cost-kept, disagreement-nothing}
 use Rattle.choices.specs.Lists.{any-at, any-member, any-false}
-use Rattle.walk.specs.State.{count, isTwo, isUnassigned, unassignedIn, isOpen, isFalsified}
+use Rattle.walk.specs.Counting.{count-member, count-zero}
+use Rattle.walk.specs.State.{isTwo, isUnassigned, unassignedIn, isOpen, isFalsified}
 
 -- b extends a if it has a's value wherever a has one
 pub record Extends (b a : List ℕ) : Type 0 where
@@ -50,19 +51,6 @@ pub satisfied-kept : {b a : List ℕ} → Extends b a → (c : List ℤ) → sat
 satisfied-kept {b} {a} h c q =
     let r = any-member (holds a) c q in any-at (holds b) (r .1) (holds-kept h (r .0) (r .2))
 
--- a member that passes a test is counted
-pub count-member {ℓ} : {A : Type ℓ} (p : A → Bool) {l : List A} {x : A} → List·Memᴰ x l → p x ≡ true → 0 < count p l
-count-member p (List·Memᴰ·head {x = y} {xs = l} e) t = go (p y) (sym (ap p e) ∙ t)
-  where
-    go : (b : Bool) → b ≡ true → 0 < cond b (suc (count p l)) (count p l)
-    go true q = omega arith
-    go false q = absurd (true≢false (sym q))
-count-member p (List·Memᴰ·tail {x = y} {xs = l} m) t = go (p y) (count-member p m t)
-  where
-    go : (b : Bool) → 0 < count p l → 0 < cond b (suc (count p l)) (count p l)
-    go true q = omega arith
-    go false q = q
-
 -- what makes an open clause true is an unassigned literal
 pub satisfied-by-unassigned : {b a : List ℕ} → Extends b a → (c : List ℤ) → satisfied a c ≡ false → satisfied b c ≡ true
     → (x : ℤ) × List·Memᴰ x c × (holds b x ≡ true) × (isUnassigned a x ≡ true)
@@ -74,11 +62,7 @@ satisfied-by-unassigned {b} {a} h c q t =
     go x m k false e = absurd (true≢false (sym k ∙ holds-same h x e ∙ any-false (holds a) q m))
 
 -- a falsified clause stays falsified
--- a member that passes a test is found where it is the only one, and then it is the first
-pub count-zero {ℓ} : {A : Type ℓ} (p : A → Bool) (l : List A) → ((x : A) → List·Memᴰ x l → p x ≡ false) → count p l ≡ 0
-count-zero p [] h = refl
-count-zero p (y ∷ l) h = rw (h y (List·Memᴰ·head refl)) (count-zero p l (λ x m. h x (List·Memᴰ·tail m)))
-
+-- where no literal is unassigned, each is assigned, and stays so
 pub unassigned-none : (a : List ℕ) (c : List ℤ) → unassignedIn a c ≡ 0 → (x : ℤ) → List·Memᴰ x c → isUnassigned a x ≡ false
 unassigned-none a c h x m = go (isUnassigned a x) refl
   where

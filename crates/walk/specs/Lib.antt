@@ -3,8 +3,10 @@ pub mod Branching
 pub mod BranchingLaws
 pub mod Completion
 pub mod Correctness
+pub mod Counting
 pub mod Examples
 pub mod Extension
+pub mod Fits
 pub mod Induction
 pub mod Nearest
 pub mod Propagation

@@ -1,50 +1,22 @@
 -- Unit propagation: it ends, keeps every model that extends the state, and leaves no unit clause.
 use mathlib.Core.Path.{_≡_, refl, sym, ap, _∙_}
-use mathlib.Core.Bool.{Bool, true, false, cond, true≢false, and-eq-true-iff}
+use mathlib.Core.Bool.{Bool, true, false, cond, and-eq-true-iff}
 use mathlib.Core.List.{List, [], _∷_, List·Memᴰ, List·Memᴰ·head, List·Memᴰ·tail, List·Memᴰ·not-nil}
 use mathlib.Core.Option.{Option, none, some, Option·some-injective, Option·none-ne-some, Option·some-ne-none}
 use Prim.Native.Nat.{ℕ, zero, suc, _≤_, _<_}
-use native.Mathlib.Nat.{not-suc-le-zero}
 use native.Mathlib.Omega.{arith}
-use lib.Dec.{eqb, ltb, leb}
+use lib.Dec.{eqb}
 use lib.IntN.{ℤ}
-use borrow.Author.Tests.{eqb-true, ltb-true, leb-true, not-true}
+use borrow.Author.Tests.{eqb-true, not-true}
 use Rattle.literal.specs.Literal.{variable, wanted, value, holds}
-use Rattle.formula.specs.Formula.{all, satisfied, models}
+use Rattle.formula.specs.Formula.{satisfied, models}
 use Rattle.choices.specs.Lists.{all-at}
-use Rattle.walk.specs.State.{State, count, find, unassigned, satisfy, isUnassigned, unassignedIn, isOpen, isUnit, isWithin, fits}
+use Rattle.walk.specs.State.{State, find, unassigned, satisfy, isUnassigned, unassignedIn, isOpen, isUnit, fits}
 use Rattle.walk.specs.Propagation.{unitLiteral, propagateRound, propagateBy, propagate}
-use Rattle.walk.specs.Extension.{Extends, extends-refl, extends-trans, wanted-bit, count-member, satisfied-by-unassigned}
+use Rattle.walk.specs.Extension.{Extends, extends-refl, extends-trans, wanted-bit, satisfied-by-unassigned}
+use Rattle.walk.specs.Counting.{find-member, find-some, find-only}
+use Rattle.walk.specs.Fits.{fits-at}
 use Rattle.walk.specs.Assignment.{assign-fewer, extends-satisfy, satisfy-extends, satisfy-state}
-
--- the first member that passes a test: it does pass, it is there if any does, and it is the only one if one does
-pub find-member {ℓ} : {A : Type ℓ} (p : A → Bool) (l : List A) {x : A} → find p l ≡ some x → List·Memᴰ x l × (p x ≡ true)
-find-member p [] {x} e = absurd (Option·none-ne-some x e)
-find-member p (y ∷ l) {x} e = go (p y) refl e (λ q. find-member p l q)
-  where
-    go : (b : Bool) → p y ≡ b → cond b (some y) (find p l) ≡ some x → (find p l ≡ some x → List·Memᴰ x l × (p x ≡ true)) → List·Memᴰ x (y ∷ l) × (p x ≡ true)
-    go true t q ih = let z = Option·some-injective y x q in (List·Memᴰ·head (sym z), ap p (sym z) ∙ t)
-    go false t q ih = let r = ih q in (List·Memᴰ·tail (r .0), r .1)
-
-pub find-some {ℓ} : {A : Type ℓ} (p : A → Bool) (l : List A) → 0 < count p l → (x : A) × (find p l ≡ some x)
-find-some p [] h = absurd (not-suc-le-zero h)
-find-some {A} p (y ∷ l) h = go (p y) h (λ q. find-some p l q)
-  where
-    go : (b : Bool) → 0 < cond b (suc (count p l)) (count p l) → (0 < count p l → (x : A) × (find p l ≡ some x)) → (x : A) × (cond b (some y) (find p l) ≡ some x)
-    go true q ih = (y, refl)
-    go false q ih = ih q
-
-pub find-only {ℓ} : {A : Type ℓ} (p : A → Bool) {l : List A} {x : A} → count p l ≡ 1 → List·Memᴰ x l → p x ≡ true → find p l ≡ some x
-find-only {A} p {x = x} h (List·Memᴰ·head {x = y} {xs = l} e) t = go (p y) (sym (ap p e) ∙ t)
-  where
-    go : (b : Bool) → b ≡ true → cond b (some y) (find p l) ≡ some x
-    go true q = ap {B = Option A} some (sym e)
-    go false q = absurd (true≢false (sym q))
-find-only {A} p {x = x} h (List·Memᴰ·tail {x = y} {xs = l} m) t = go (p y) h (λ q. find-only p q m t)
-  where
-    go : (b : Bool) → cond b (suc (count p l)) (count p l) ≡ 1 → (count p l ≡ 1 → find p l ≡ some x) → cond b (some y) (find p l) ≡ some x
-    go true q ih = absurd (omega (arith, count-member p m t))
-    go false q ih = ih q
 
 -- the unit clause that gives the literal; and where there is none, no clause is unit
 unit-clause : (a : List ℕ) (f : List (List ℤ)) {x : ℤ} → unitLiteral a f ≡ some x
@@ -79,12 +51,6 @@ unit-none a (g ∷ f) e c m = go (isUnit a g) refl e (λ q w. unit-none a f q c 
 -- the literal is unassigned, its variable is one of the formula's, and every model that extends the state makes it hold
 pub unit-unassigned : (a : List ℕ) (f : List (List ℤ)) {x : ℤ} → unitLiteral a f ≡ some x → isUnassigned a x ≡ true
 unit-unassigned a f e = let r = unit-clause a f e in find-member (isUnassigned a) (r .0) (r .3) .1
-
-pub within-bounds : (n : ℕ) (x : ℤ) → isWithin n x ≡ true → (0 < variable x) × (variable x ≤ n)
-within-bounds n x h = let r = and-eq-true-iff (ltb 0 (variable x)) (leb (variable x) n) .0 h in (ltb-true 0 (variable x) (r .0), leb-true (variable x) n (r .1))
-
-pub fits-at : (n : ℕ) (f : List (List ℤ)) → fits n f ≡ true → {c : List ℤ} {x : ℤ} → List·Memᴰ c f → List·Memᴰ x c → (0 < variable x) × (variable x ≤ n)
-fits-at n f h {c} {x} m w = within-bounds n x (all-at (isWithin n) (all-at (all (isWithin n)) h m) w)
 
 pub unit-within : (n : ℕ) (a : List ℕ) (f : List (List ℤ)) → fits n f ≡ true → {x : ℤ} → unitLiteral a f ≡ some x → (0 < variable x) × (variable x ≤ n)
 unit-within n a f h e = let r = unit-clause a f e in fits-at n f h (r .1) (find-member (isUnassigned a) (r .0) (r .3) .0)

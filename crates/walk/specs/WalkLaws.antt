@@ -1,26 +1,29 @@
 -- The steps of the walk one by one: what each dead end rules out, where `decide` goes, and that the depth allowed does not matter where it is enough.
-use mathlib.Core.Path.{_≡_, refl, sym, ap, ap₂, _∙_}
-use mathlib.Core.Bool.{Bool, true, false, cond, not, _||_, true≢false, and-eq-true-iff, or-true}
+use mathlib.Core.Path.{_≡_, refl, sym, ap, ap₂, subst, _∙_}
+use mathlib.Core.Bool.{Bool, true, false, cond, _||_, true≢false, and-eq-true-iff, or-true}
 use mathlib.Core.List.{List, List·Memᴰ}
 use mathlib.Core.Option.{Option, none, some}
 use Prim.Native.Nat.{ℕ, zero, suc, _-_, _≤_, _<_}
-use native.Mathlib.Nat.{not-suc-le-zero}
+use native.Mathlib.Nat.{not-suc-le-zero, le-of-suc-le-suc}
 use native.Mathlib.Omega.{arith}
 use lib.Dec.{eqb, ltb, lit<}
 use lib.IntN.{ℤ}
-use borrow.Author.Tests.{eqb-true, ltb-true, ltb-false, lt-ltb}
+use lib.ListN.{length}
+use borrow.Author.Tests.{eqb-true, eqb-false, ltb-true, ltb-false, lt-ltb}
 use Rattle.literal.specs.Literal.{variable, wanted, value}
-use Rattle.formula.specs.Formula.{any, all, satisfied, models}
+use Rattle.formula.specs.Formula.{any, satisfied, models}
 use Rattle.distance.specs.Distance.{cost, disagreement}
+use Rattle.distance.specs.Laws.{cost-kept, cost-free}
 use Rattle.choices.specs.Lists.{any-at, any-member, all-at}
-use Rattle.walk.specs.State.{State, unassigned, assign, satisfy, isUnassigned, isOpen, isFalsified, fits}
+use Rattle.walk.specs.State.{State, unassigned, assign, satisfy, unassignedIn, isFalsified, fits}
 use Rattle.walk.specs.Propagation.{propagate}
-use Rattle.walk.specs.Branching.{breaks, isAgainst, isOpposed, fewest, branchingVariable}
-use Rattle.walk.specs.Walk.{Outcome, deadEnd, isDeadEnd, complete, completed, isExhausted, firstValue, eitherOf, forkOn, decide, walkBy, walkFrom}
-use Rattle.walk.specs.Extension.{Extends, satisfied-by-unassigned, falsified-kept, falsified-never, disagreement-grows}
+use Rattle.walk.specs.Branching.{breaks, isOpposed, fewest, isSource, isCandidate, score, branchingVariable}
+use Rattle.walk.specs.Walk.{Outcome, deadEnd, isDeadEnd, complete, completed, isExhausted, unwishedValue, firstValue, eitherOf, forkOn, decide, walkBy, walkFrom}
+use Rattle.walk.specs.Extension.{Extends, wanted-bit, satisfied-by-unassigned, falsified-kept, falsified-never, disagreement-grows}
 use Rattle.walk.specs.Assignment.{assign-state, assign-fewer, assign-cost, extends-satisfy}
-use Rattle.walk.specs.PropagationLaws.{fits-at, propagate-extends, propagate-state, propagate-fewer}
-use Rattle.walk.specs.BranchingLaws.{Branches, branching-sound, opposed-open}
+use Rattle.walk.specs.Fits.{fits-at}
+use Rattle.walk.specs.PropagationLaws.{propagate-extends, propagate-state, propagate-fewer}
+use Rattle.walk.specs.BranchingLaws.{Branches, Candidate, best-found, branching-sound, candidate-from, opposed-open, opposed-against}
 
 -- step 1's two causes
 
@@ -70,15 +73,10 @@ pub opposed-costs : {n : ℕ} {c a : List ℕ} → State n a → Extends c a →
 opposed-costs {n} {c} {a} s h f fit row g m o t =
     let x = satisfied-by-unassigned h g (opposed-open row a g o) t in
     let b = fits-at n f fit m (x .1) in
-    let every = and-eq-true-iff (isOpen a g) (all (λ (y : ℤ). not (isUnassigned a y) || isAgainst row y) g) .0 o .1 in
-    let against : isAgainst row (x .0) ≡ true = pick (isUnassigned a (x .0)) (isAgainst row (x .0)) (x .3) (all-at (λ (y : ℤ). not (isUnassigned a y) || isAgainst row y) every (x .1)) in
+    let against = opposed-against row a g o (x .0) (x .1) (x .3) in
     let dear = ltb-true 0 (cost (value row (variable (x .0))) (wanted (x .0))) against in
     let more = assign-cost s row (variable (x .0)) (wanted (x .0)) (b .0) (b .1) (eqb-true (value a (variable (x .0))) 2 (x .3)) in
     omega (arith, disagreement-grows row c (satisfy a (x .0)) (extends-satisfy h (x .0) (x .2)), dear, more)
-  where
-    pick : (u w : Bool) → u ≡ true → not u || w ≡ true → w ≡ true
-    pick true w p q = q
-    pick false w p q = absurd (true≢false (sym p))
 
 -- no model within d extends a dead end of step 3
 pub exhausted-none : {n : ℕ} {c a : List ℕ} → State n a → Extends c a → (f : List (List ℤ)) → fits n f ≡ true → (row : List ℕ) (d : ℕ)
@@ -111,6 +109,38 @@ first-bit row (some k) v = go (breaks (value row v) 1)
     go : (t : Bool) → cond t 1 0 < 2
     go true = lit< tt
     go false = lit< tt
+
+-- a value that breaks a wish breaks it alone
+pub cost-opposite : (w b : ℕ) → b < 2 → 0 < cost w b → cost w (1 - b) ≡ 0
+cost-opposite w b l h = go (ltb w 2) refl (eqb b (1 - w)) refl
+  where
+    go : (s : Bool) → ltb w 2 ≡ s → (t : Bool) → eqb b (1 - w) ≡ t → cost w (1 - b) ≡ 0
+    go true p true q = cost-kept w (1 - b) (λ e. omega (arith, ltb-true w 2 p, eqb-true b (1 - w) q))
+    go true p false q = absurd (omega (arith, cost-kept w b (eqb-false b (1 - w) q)))
+    go false p t q = cost-free w (1 - b) (ltb-false w 2 p)
+
+-- "against the wish first if step 4's first kind of rule existed": the first value breaks the wish of the branching variable
+unwished-breaks : (w b : ℕ) → b < 2 → 0 < cost w b → 0 < cost w (unwishedValue w)
+unwished-breaks w b l h = go (breaks w 1) refl b l h
+  where
+    go : (t : Bool) → breaks w 1 ≡ t → (b : ℕ) → b < 2 → 0 < cost w b → 0 < cost w (cond t 1 0)
+    go true e b l h = ltb-true 0 (cost w 1) e
+    go false e zero l h = h
+    go false e (suc zero) l h = omega (arith, ltb-false 0 (cost w 1) e)
+    go false e (suc (suc b)) l h = absurd (not-suc-le-zero (le-of-suc-le-suc (le-of-suc-le-suc l)))
+
+pub first-against : (row a : List ℕ) (f : List (List ℤ)) {k v : ℕ} → fewest row a f ≡ some k → branchingVariable row a f ≡ some v
+    → 0 < cost (value row v) (firstValue row (fewest row a f) v)
+first-against row a f {k} {v} e b = rw e (unwished-breaks (value row v) (wanted (r .literal)) (wanted-bit (r .literal)) (subst (λ (u : ℕ). 0 < cost (value row u) (wanted (r .literal))) (r .named) dear))
+  where
+    r : Candidate row a f v
+    r = candidate-from row a f v (best-found (isCandidate row a f) (score a f) (length a) b .passes)
+
+    opposed : isOpposed row a (r .clause) ≡ true
+    opposed = and-eq-true-iff (isOpposed row a (r .clause)) (eqb (unassignedIn a (r .clause)) k) .0 (subst (λ (o : Option ℕ). isSource row a o (r .clause) ≡ true) e (r .source)) .0
+
+    dear : 0 < cost (value row (variable (r .literal))) (wanted (r .literal))
+    dear = ltb-true 0 (cost (value row (variable (r .literal))) (wanted (r .literal))) (opposed-against row a (r .clause) opposed (r .literal) (r .stands) (r .free))
 
 -- both branches of a fork are states with one unassigned variable fewer
 pub branch-state : {n : ℕ} {a : List ℕ} → State n a → (v b : ℕ) → b < 2 → State n (assign a v b)
