@@ -14,7 +14,7 @@ use Rattle.choices.specs.Choices.{Model}
 use Rattle.walk.specs.State.{State, unassigned, assign, fits}
 use Rattle.walk.specs.Propagation.{propagate}
 use Rattle.walk.specs.Branching.{fewest}
-use Rattle.walk.specs.Walk.{Answer, Outcome, isDeadEnd, complete, completed, firstValue, eitherOf, walkBy}
+use Rattle.walk.specs.Walk.{Answer, Outcome, isDeadEnd, complete, completed, firstValue, firstAnswer, walkBy}
 use Rattle.walk.specs.Extension.{Extends}
 use Rattle.walk.specs.Assignment.{extends-branch}
 use Rattle.walk.specs.PropagationLaws.{propagate-forced}
@@ -59,11 +59,11 @@ module _ (n : ℕ) (f : List (List ℤ)) (fit : fits n f ≡ true) (row : List �
   of-completion a s e t =
       record { model = record { choice = complete-choice row s; satisfies = t }; counted = refl; limited = omega (arith, complete-cost row a, dead-causes f row d a e .1) }
 
-  after-fork : (a : List ℕ) (v b : ℕ) → Branches a n v → b < 2 → (r s : Outcome) (x y : Option Answer) → r .answer ≡ x → s .answer ≡ y
-      → Right n f row d (assign a v b) x → Right n f row d (assign a v (1 - b)) y → Right n f row d a (eitherOf x (r .forks) s .answer)
-  after-fork a v b k l r s (some x) y i j p q = p
-  after-fork a v b k l r s none (some y) i j p q = rw j q
-  after-fork a v b k l r s none none i j p q = rw j (λ c m e. ⊎-elim (p c m) (q c m) (extends-branch (m .choice) e v b (k .above) (k .upTo) l))
+  after-fork : (a : List ℕ) (v b : ℕ) → Branches a n v → b < 2 → (x y : Option Answer)
+      → Right n f row d (assign a v b) x → Right n f row d (assign a v (1 - b)) y → Right n f row d a (firstAnswer x y)
+  after-fork a v b k l (some x) y p q = p
+  after-fork a v b k l none (some y) p q = q
+  after-fork a v b k l none none p q = λ c m e. ⊎-elim (p c m) (q c m) (extends-branch (m .choice) e v b (k .above) (k .upTo) l)
 
   ways : Ways n f row d (λ (a : List ℕ) (r : Outcome). Right n f row d a (r .answer))
   ways =
@@ -72,7 +72,7 @@ module _ (n : ℕ) (f : List (List ℤ)) (fit : fits n f ≡ true) (row : List �
         dies = λ a s e c m h. dead-none h f row d e (m .satisfies);
         completes = λ a s e t. of-completion a (s .state) e t;
         exhausts = λ a s e t x c m h. exhausted-none (s .state) h f fit row d x (m .satisfies);
-        forks = λ a v r s h u e k p q. after-fork a v (firstValue row (fewest row a f) v) k (first-bit row (fewest row a f) v) r s (r .answer) (s .answer) refl refl p q;
+        forks = λ a v r s h u e k p q. after-fork a v (firstValue row (fewest row a f) v) k (first-bit row (fewest row a f) v) (r .answer) (s .answer) p q;
       }
 
   pub walk-right : (k : ℕ) (a : List ℕ) → State n a → unassigned a < k → Right n f row d a (walkBy k f row d a .answer)

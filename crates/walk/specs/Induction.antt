@@ -34,7 +34,7 @@ pub record Ways (n : ℕ) (f : List (List ℤ)) (row : List ℕ) (d : ℕ) (P : 
   pub completes : (a : List ℕ) → Settled n f a → isDeadEnd f row d a ≡ false → models (complete row a) f ≡ true → P a (completed row a)
   pub exhausts : (a : List ℕ) → Settled n f a → isDeadEnd f row d a ≡ false → models (complete row a) f ≡ false → isExhausted f row d a ≡ true → P a deadEnd
   pub forks : (a : List ℕ) (v : ℕ) (r s : Outcome) → Settled n f a → Undecided f row d a → branchingVariable row a f ≡ some v → Branches a n v
-      → P (assign a v (firstValue row (fewest row a f) v)) r → P (assign a v (1 - firstValue row (fewest row a f) v)) s → P a (eitherOf (r .answer) (r .forks) s)
+      → P (assign a v (firstValue row (fewest row a f) v)) r → P (assign a v (1 - firstValue row (fewest row a f) v)) s → P a (eitherOf r s)
 
 -- where steps 1 to 3 decide nothing there is a branching variable: unassigned, and one of 1 to n
 pub branching : {n : ℕ} {a : List ℕ} → State n a → (f : List (List ℤ)) → fits n f ≡ true → (row : List ℕ) (d : ℕ) → Undecided f row d a

@@ -8,6 +8,7 @@ pub mod Examples
 pub mod Extension
 pub mod Fits
 pub mod Induction
+pub mod Loops
 pub mod Nearest
 pub mod Propagation
 pub mod PropagationLaws

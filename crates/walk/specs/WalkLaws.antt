@@ -159,7 +159,7 @@ fork-same {n} {a} h f row s t same m (some v) e =
     let b : ℕ = firstValue row m v in
     let l : b < 2 = first-bit row m v in
     let r : 1 - b < 2 = omega arith in
-    ap₂ (λ (x y : Outcome). eitherOf (x .answer) (x .forks) y)
+    ap₂ eitherOf
     (same (assign a v b) (branch-state h v b l) (branch-fewer h v b k l))
     (same (assign a v (1 - b)) (branch-state h v (1 - b) r) (branch-fewer h v (1 - b) k r))
 
