@@ -15,6 +15,7 @@ use Rattle.choices.specs.Lists.{any-at, any-member, any-false, all-at, all-fals
 use Rattle.walk.specs.State.{State, isUnset, isUnassigned, unassignedIn, isOpen, isFalsified, fits}
 use Rattle.walk.specs.Branching.{isAgainst, assignedOrAgainst, isOf, offers, isOpposed, shorter, shorterOf, shortest, fewest, isSource, mentions, isCandidate, score, better, best, branchingVariable}
 use Rattle.walk.specs.Walk.{complete}
+use Rattle.walk.specs.Promises.{Branches}
 use Rattle.walk.specs.Extension.{satisfied-kept}
 use Rattle.walk.specs.Counting.{find-member, find-some}
 use Rattle.walk.specs.Fits.{fits-at}
@@ -94,22 +95,18 @@ module _ (candidate : ℕ → Bool) (score : ℕ → ℕ) where
       go (some v) e q = (v, refl)
 
 -- the branching variable is unassigned, and one of the state's
-pub record Branches (a : List ℕ) (n v : ℕ) : Type 0 where
-  pub free : value a v ≡ 2
-  pub above : 0 < v
-  pub upTo : v ≤ n
-
 pub branching-sound : {n : ℕ} {a : List ℕ} → State n a → (row : List ℕ) (f : List (List ℤ)) {v : ℕ} → branchingVariable row a f ≡ some v → Branches a n v
 branching-sound {n} {a} h row f {v} e =
     let r = best-found (isCandidate row a f) (score a f) (length a) e in
     let two = and-eq-true-iff (isUnset (value a v)) (any (offers row a (fewest row a f) v) f) .0 (r .passes) .0 in
-    record { free = eqb-true (value a v) 2 two; above = r .above; upTo = omega (arith, r .upTo, h .size) }
+    record { unset = eqb-true (value a v) 2 two; above = r .above; upTo = omega (arith, r .upTo, h .size) }
 
+-- an opposed clause is open
 pub opposed-open : (row a : List ℕ) (c : List ℤ) → isOpposed row a c ≡ true → satisfied a c ≡ false
 opposed-open row a c h =
     not-true (satisfied a c) (and-eq-true-iff (isOpen a c) (all (assignedOrAgainst row a) c) .0 h .0)
 
--- its unassigned literals go against wishes
+-- and its unassigned literals go against wishes
 pub opposed-against : (row a : List ℕ) (c : List ℤ) → isOpposed row a c ≡ true → (x : ℤ) → List·Memᴰ x c → isUnassigned a x ≡ true → isAgainst row x ≡ true
 opposed-against row a c h x m u =
     let every = and-eq-true-iff (isOpen a c) (all (assignedOrAgainst row a) c) .0 h .1 in
@@ -223,7 +220,7 @@ pub record Candidate (row a : List ℕ) (f : List (List ℤ)) (v : ℕ) : Type 0
   pub literal : ℤ
   pub stands : List·Memᴰ literal clause
   pub named : variable literal ≡ v
-  pub free : isUnassigned a literal ≡ true
+  pub unset : isUnassigned a literal ≡ true
 
 pub candidate-from : (row a : List ℕ) (f : List (List ℤ)) (v : ℕ) → isCandidate row a f v ≡ true → Candidate row a f v
 candidate-from row a f v h =
@@ -232,7 +229,7 @@ candidate-from row a f v h =
     let q = and-eq-true-iff (isSource row a (fewest row a f) (c .0)) (mentions v (c .0)) .0 (c .2) in
     let x = any-member (isOf v) (c .0) (q .1) in
     let e : variable (x .0) ≡ v = eqb-true (variable (x .0)) v (x .2) in
-    record { clause = c .0; listed = c .1; source = q .0; literal = x .0; stands = x .1; named = e; free = ap (λ (u : ℕ). isUnset (value a u)) e ∙ r .0 }
+    record { clause = c .0; listed = c .1; source = q .0; literal = x .0; stands = x .1; named = e; unset = ap (λ (u : ℕ). isUnset (value a u)) e ∙ r .0 }
 
 -- an open clause that is not falsified has an unassigned literal
 open-unassigned : (a : List ℕ) (f : List (List ℤ)) → any (isFalsified a) f ≡ false → (c : List ℤ) → List·Memᴰ c f → satisfied a c ≡ false → 0 < unassignedIn a c
@@ -244,7 +241,7 @@ open-unassigned a f h c m e = go (unassignedIn a c) refl
         absurd (true≢false (sym falsified ∙ any-false (isFalsified a) h m))
     go (suc k) z = omega arith
 
--- where the completion is no model and no clause is falsified, some clause is open
+-- where the completion is no model, some clause is open
 undecided-open : (row a : List ℕ) (f : List (List ℤ)) → models (complete row a) f ≡ false → (c : List ℤ) × List·Memᴰ c f × (satisfied a c ≡ false)
 undecided-open row a f h = let r = all-false (satisfied (complete row a)) f h in (r .0, r .1, go (r .0) (r .2) (satisfied a (r .0)) refl)
   where

@@ -4,7 +4,7 @@ use mathlib.Core.Logic.{⊎-elim}
 use mathlib.Core.Bool.{true, false}
 use mathlib.Core.List.{List}
 use mathlib.Core.Option.{Option, none, some}
-use Prim.Native.Nat.{ℕ, zero, suc, _-_, _≤_, _<_}
+use Prim.Native.Nat.{ℕ, zero, suc, _-_, _<_}
 use native.Mathlib.Omega.{arith}
 use lib.IntN.{ℤ}
 use lib.ListN.{getD, replicate, length-replicate}
@@ -15,11 +15,11 @@ use Rattle.walk.specs.State.{State, unassigned, assign, fits}
 use Rattle.walk.specs.Propagation.{propagate}
 use Rattle.walk.specs.Branching.{fewest}
 use Rattle.walk.specs.Walk.{Answer, Outcome, isDeadEnd, complete, completed, firstValue, firstAnswer, walkBy}
+use Rattle.walk.specs.Promises.{Found, Branches}
 use Rattle.walk.specs.Extension.{Extends}
 use Rattle.walk.specs.Assignment.{extends-branch}
 use Rattle.walk.specs.PropagationLaws.{propagate-forced}
 use Rattle.walk.specs.Completion.{complete-choice, complete-cost}
-use Rattle.walk.specs.BranchingLaws.{Branches}
 use Rattle.walk.specs.WalkLaws.{dead-causes, dead-none, exhausted-none, first-bit}
 use Rattle.walk.specs.Induction.{Ways, walk-induction}
 
@@ -39,16 +39,10 @@ start-unassigned (suc n) = ap suc (start-unassigned n)
 pub start-extends : (n : ℕ) (c : List ℕ) → Extends c (replicate n 2)
 start-extends n c = record { keeps = λ i q. absurd (q (nothing-assigned n i)) }
 
--- an answer of the walk: a model, with its own count, within the limit
-pub record Within (n : ℕ) (f : List (List ℤ)) (row : List ℕ) (d : ℕ) (x : Answer) : Type 0 where
-  pub model : Model n f (x .choice)
-  pub counted : disagreement row (x .choice) ≡ x .broken
-  pub limited : x .broken ≤ d
-
 -- what an answer says of the state that the walk started from
 abbrev pub Right : ℕ → List (List ℤ) → List ℕ → ℕ → List ℕ → Option Answer → Type 0
 Right n f row d a none = (c : List ℕ) → Model n f c → Extends c a → d < disagreement row c
-Right n f row d a (some x) = Within n f row d x
+Right n f row d a (some x) = Found n f row d x
 
 module _ (n : ℕ) (f : List (List ℤ)) (fit : fits n f ≡ true) (row : List ℕ) (d : ℕ) where
   after-settling : (a : List ℕ) (o : Option Answer) → Right n f row d (propagate f a) o → Right n f row d a o

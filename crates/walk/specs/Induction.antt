@@ -12,20 +12,15 @@ use Rattle.walk.specs.State.{State, unassigned, assign, fits}
 use Rattle.walk.specs.Propagation.{unitLiteral, propagate}
 use Rattle.walk.specs.Branching.{fewest, branchingVariable}
 use Rattle.walk.specs.Walk.{Outcome, deadEnd, isDeadEnd, complete, completed, isExhausted, firstValue, eitherOf, forkOn, decide, walkBy}
+use Rattle.walk.specs.Promises.{Undecided, Branches}
 use Rattle.walk.specs.PropagationLaws.{propagate-state, propagate-quiet, propagate-fewer}
-use Rattle.walk.specs.BranchingLaws.{Branches, branching-sound, branching-exists}
+use Rattle.walk.specs.BranchingLaws.{branching-sound, branching-exists}
 use Rattle.walk.specs.WalkLaws.{dead-causes, decide-dead, decide-complete, decide-exhausted, decide-fork, first-bit, branch-state, branch-fewer}
 
 -- a state to which unit propagation adds nothing
 pub record Settled (n : ℕ) (f : List (List ℤ)) (a : List ℕ) : Type 0 where
   pub state : State n a
   pub quiet : unitLiteral a f ≡ none
-
--- steps 1 to 3 decide nothing
-pub record Undecided (f : List (List ℤ)) (row : List ℕ) (d : ℕ) (a : List ℕ) : Type 0 where
-  pub alive : isDeadEnd f row d a ≡ false
-  pub incomplete : models (complete row a) f ≡ false
-  pub within : isExhausted f row d a ≡ false
 
 -- the ways that the walk can go, for a statement P of the state that it starts from and what it comes to
 pub record Ways (n : ℕ) (f : List (List ℤ)) (row : List ℕ) (d : ℕ) (P : List ℕ → Outcome → Type 0) : Type 0 where

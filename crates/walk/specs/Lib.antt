@@ -10,6 +10,7 @@ pub mod Fits
 pub mod Induction
 pub mod Loops
 pub mod Nearest
+pub mod Promises
 pub mod Propagation
 pub mod PropagationLaws
 pub mod State
