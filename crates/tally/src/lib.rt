@@ -1,9 +1,10 @@
-// The running tally of the search: how many variables are assigned, and how many wishes are broken.
-// Document 01, step 1: "a running tally of settled settings and broken wishes is updated by each
-// settling".
+// Document 01, step 1 of the wish search: "a running tally of settled settings and broken wishes is
+// updated by each settling". The borrow checker covers no reference to a struct, so both functions
+// are proved by a walk of their MIR, by hand.
 ghost use mathlib.Core.Path.{_≡_};
 ghost use Prim.Native.Nat.{_+_, _<_, _^_};
 
+// How many variables are assigned (settled), and how many wishes are broken.
 pub struct Tally {
     pub settled: usize,
     pub broken: usize,
@@ -19,7 +20,8 @@ pub fn count(tally: &mut Tally, cost: usize)
     tally.broken += cost;
 }
 
-// The same from plain numbers to the struct by value: a caller of this one needs no walk by hand.
+// The tally of these two counts after one more. It takes numbers and gives the struct by value, so a
+// caller of this one is covered and needs no walk.
 pub fn counted(settled: usize, broken: usize, cost: usize) -> Tally
     requires { ⌜ (settled + 1 < 2 ^ 64) × (broken + cost < 2 ^ 64) ⌝ }
     ensures { λ r. ⌜ (r .settled ≡ settled + 1) × (r .broken ≡ broken + cost) ⌝ }
