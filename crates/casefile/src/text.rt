@@ -48,7 +48,7 @@ pub fn past_byte(line: &[u8], at: usize, byte: u8) -> usize {
     line.len() + 1
 }
 
-// The place after the word with which a line begins.
+// The place after the whole word with which a line begins.
 pub fn past_word(line: &[u8], word: &[u8]) -> usize {
     let mut i = 0;
     while i < word.len() {
@@ -56,6 +56,11 @@ pub fn past_word(line: &[u8], word: &[u8]) -> usize {
             return line.len() + 1;
         }
         i += 1;
+    }
+    if i < line.len() {
+        if line[i] != b' ' {
+            return line.len() + 1;
+        }
     }
     i
 }
@@ -75,6 +80,7 @@ pub fn read_signed(line: &[u8], at: usize) -> Signed {
     with_sign(line, digits(line, from), true)
 }
 
+// One digit or more, to the first byte that is none.
 fn digits(line: &[u8], from: usize) -> Number {
     let mut value: usize = 0;
     let mut i = from;
@@ -115,7 +121,7 @@ fn digit_of(byte: u8) -> usize
     (byte - b'0') as usize
 }
 
-// The least number has no magnitude among the numbers of 32 bits.
+// A number of 32 bits. The least has no magnitude among the numbers of 32 bits.
 fn with_sign(line: &[u8], magnitude: Number, positive: bool) -> Signed {
     let next = magnitude.next;
     let value = magnitude.value;

@@ -1,7 +1,7 @@
 // Runs the library's calls on the cases of standard input, and writes an answer for each. A line
 // that starts with # is a label, and is written as it is. Any other line is a case: the name of the
-// call, then its values (see text.rt and list.rt for how they are written). What is no case is
-// answered too, so nothing is left out.
+// call, then its values, as the library casefile reads them. What is no case is answered too, so
+// nothing is left out.
 mod check_case;
 mod report;
 
@@ -37,6 +37,7 @@ fn lines(input: &[u8]) {
     }
 }
 
+// Each call has a module, which tells whether a line is a case of its own.
 fn line(line: &[u8]) {
     if casefile::past_byte(line, 0, b'#') <= line.len() {
         report::label(line);

@@ -7,12 +7,14 @@ pub fn label(line: &[u8]) {
     io::write_all(STDOUT_FILENO, b"\n");
 }
 
+// A refusal: its number and its place.
 pub fn refused(number: usize, place: usize) {
     io::write_all(STDOUT_FILENO, b"refused ");
     io::print_decimal(STDOUT_FILENO, number as u64);
     answer(b" at ", place);
 }
 
+// An answer with a number.
 pub fn answer(word: &[u8], value: usize) {
     io::write_all(STDOUT_FILENO, word);
     io::print_decimal(STDOUT_FILENO, value as u64);
