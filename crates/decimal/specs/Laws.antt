@@ -1,6 +1,6 @@
 -- Reading and writing a number undo one another.
 use mathlib.Core.Path.{_≡_, refl, sym, ap, ap₂, _∙_}
-use mathlib.Core.Bool.{Bool, true, false, cond, not, _&&_, and-false, and-true, and-eq-true-iff}
+use mathlib.Core.Bool.{Bool, true, false, cond, _&&_, and-false, and-true, and-eq-true-iff}
 use mathlib.Core.List.{List, [], _∷_, _++_, append-assoc, append-nil}
 use mathlib.Core.Option.{Option, none, some, Option·some-injective, Option·none-ne-some}
 use Prim.Native.Nat.{ℕ, zero, suc, _+_, _-_, _*_, _/_, _%_, _^_, _≤_, _<_}
@@ -10,7 +10,7 @@ use lib.Dec.{eqb, leb, ltb}
 use lib.ListN.{length, take, drop, set, length-append}
 use lib.Seq.{drop-cons, lt-length-set, getD-set-same, drop-set-lt, take-set-le, set-split}
 use borrow.Author.Tests.{lt-ltb, le-ltb, le-leb, lt-leb, ltb-true, ltb-false, leb-true, eqb-true, eqb-false}
-use Rattle.decimal.specs.Decimal.{digits, decimal, isDigit, onlyDigits, leadingZero, valueFrom, isNumber, number}
+use Rattle.decimal.specs.Decimal.{digits, decimal, isDigit, onlyDigits, valueFrom, number}
 
 -- a number below 10 is one digit, and any other is the digits of its tenth and one more
 digits-one : (k v : ℕ) → v < 10 → digits (suc k) v ≡ (48 + v) ∷ []
@@ -203,27 +203,25 @@ by-value-written (b ∷ w) v e = go (isDigit b) refl e
 pub decimal-number : (w : List ℕ) (v : ℕ) → number w ≡ some v → decimal v ≡ w
 decimal-number w v e = by-value-written w v (sym (number-by-value w) ∙ e)
 
--- what reads as a number has only digits, and one to five of them
-is-number : (w : List ℕ) (v : ℕ) → number w ≡ some v → isNumber w ≡ true
-is-number w v e = go (isNumber w) refl e
+-- a written number has only digits, and at least one
+digits-append : (w : List ℕ) (d : ℕ) → d < 10 → onlyDigits w ≡ true → onlyDigits (w ++ ((48 + d) ∷ [])) ≡ true
+digits-append [] d h e = rw (is-digit d h)
+digits-append (b ∷ w) d h e =
+    let parts = and-eq-true-iff (isDigit b) (onlyDigits w) .0 e in
+    rw (parts .0) (digits-append w d h (parts .1))
+
+only-digits : (k v : ℕ) → v < k → onlyDigits (decimal v) ≡ true
+only-digits zero v h = absurd (not-suc-le-zero h)
+only-digits (suc k) v h = go (ltb v 10) refl (only-digits k (v / 10))
   where
-    go : (t : Bool) → isNumber w ≡ t → cond t (some (valueFrom 0 w)) none ≡ some v → isNumber w ≡ true
-    go true f r = f
-    go false f r = absurd (Option·none-ne-some v r)
+    go : (t : Bool) → ltb v 10 ≡ t → (v / 10 < k → onlyDigits (decimal (v / 10)) ≡ true) → onlyDigits (decimal v) ≡ true
+    go true e ih = rw (decimal-one v (ltb-true v 10 e), is-digit v (ltb-true v 10 e))
+    go false e ih =
+        rw (decimal-more v (ltb-false v 10 e))
+        (digits-append (decimal (v / 10)) (v % 10) (omega arith) (ih (omega (arith, ltb-false v 10 e))))
 
-pub number-digits : (w : List ℕ) (v : ℕ) → number w ≡ some v → onlyDigits w ≡ true
-number-digits w v e =
-    let inner = and-eq-true-iff (leb 1 (length w)) (leb (length w) 5 && (onlyDigits w && not (leadingZero w))) .0 (is-number w v e) .1 in
-    and-eq-true-iff (onlyDigits w) (not (leadingZero w)) .0 (and-eq-true-iff (leb (length w) 5) (onlyDigits w && not (leadingZero w)) .0 inner .1) .0
-
-pub number-least : (w : List ℕ) (v : ℕ) → number w ≡ some v → 1 ≤ length w
-number-least w v e =
-    leb-true 1 (length w) (and-eq-true-iff (leb 1 (length w)) (leb (length w) 5 && (onlyDigits w && not (leadingZero w))) .0 (is-number w v e) .0)
-
-pub number-most : (w : List ℕ) (v : ℕ) → number w ≡ some v → length w ≤ 5
-number-most w v e =
-    let inner = and-eq-true-iff (leb 1 (length w)) (leb (length w) 5 && (onlyDigits w && not (leadingZero w))) .0 (is-number w v e) .1 in
-    leb-true (length w) 5 (and-eq-true-iff (leb (length w) 5) (onlyDigits w && not (leadingZero w)) .0 inner .0)
+pub decimal-digits : (v : ℕ) → onlyDigits (decimal v) ≡ true
+decimal-digits v = only-digits (suc v) v (omega arith)
 
 -- the number of digits: one, or one more than a tenth has
 pub count-one : (v : ℕ) → v < 10 → length (decimal v) ≡ 1
@@ -231,6 +229,13 @@ count-one v h = ap length (decimal-one v h)
 
 pub count-more : (v : ℕ) → 10 ≤ v → length (decimal v) ≡ length (decimal (v / 10)) + 1
 count-more v h = ap length (decimal-more v h) ∙ length-append (decimal (v / 10)) ((48 + v % 10) ∷ [])
+
+pub decimal-some : (v : ℕ) → 0 < length (decimal v)
+decimal-some v = go (ltb v 10) refl
+  where
+    go : (t : Bool) → ltb v 10 ≡ t → 0 < length (decimal v)
+    go true e = omega (arith, count-one v (ltb-true v 10 e))
+    go false e = omega (arith, count-more v (ltb-false v 10 e))
 
 -- writing the last digit of several, and the only one: what the buffer is to hold does not change
 pub overwrite-last : (l : List ℕ) (at i v : ℕ) → 10 ≤ v → i ≡ at + length (decimal v) → i ≤ length l

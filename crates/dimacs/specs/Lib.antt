@@ -1,0 +1,6 @@
+pub mod Class
+pub mod Examples
+pub mod Format
+pub mod Laws
+pub mod RoundTrip
+pub mod Written
