@@ -4,7 +4,7 @@ use mathlib.Core.List.{List, [], _∷_, _++_}
 use mathlib.Core.Option.{Option, none, some}
 use Prim.Native.Nat.{ℕ, zero, suc, _+_, _-_, _*_, _/_, _%_}
 use lib.Dec.{eqb, leb, ltb}
-use lib.ListN.{length, take, drop}
+use lib.ListN.{length}
 
 -- the last k digits of a number at most, without leading zeros; 0 is the digit 0
 unfoldable pub digits : ℕ → ℕ → List ℕ
@@ -41,7 +41,3 @@ isNumber w = leb 1 (length w) && (leb (length w) 5 && (onlyDigits w && not (lead
 -- the number that some bytes are, if they are one
 abbrev pub number : List ℕ → Option ℕ
 number w = cond (isNumber w) (some (valueFrom 0 w)) none
-
--- a list with w written over what stood from a place on
-abbrev pub overwrite : ℕ → List ℕ → List ℕ → List ℕ
-overwrite at w l = take at l ++ (w ++ drop (at + length w) l)

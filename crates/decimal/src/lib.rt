@@ -2,7 +2,8 @@
 ghost use mathlib.Core.Path.{_≡_};
 ghost use Prim.Native.Nat.{_+_, _≤_};
 ghost use lib.ListN.{length};
-ghost use Rattle.decimal.specs.Decimal.{decimal, overwrite};
+ghost use lib.Seq.{sets};
+ghost use Rattle.decimal.specs.Decimal.{decimal};
 
 // How many digits a number has.
 pub fn digit_count(v: usize) -> usize
@@ -20,7 +21,7 @@ pub fn digit_count(v: usize) -> usize
 // Writes a number's digits at a place, the last one first, and gives the place past them.
 pub fn put_decimal(v: usize, out: &mut [u8], at: usize) -> usize
     requires { ⌜ at + length (decimal v) ≤ length (now out) ⌝ }
-    ensures { λ r. ⌜ (r ≡ at + length (decimal v)) × (now (out .exit) ≡ overwrite at (decimal v) (now (out .entry))) ⌝ }
+    ensures { λ r. ⌜ (r ≡ at + length (decimal v)) × (now (out .exit) ≡ sets (now (out .entry)) at (decimal v)) ⌝ }
 {
     let end = at + digit_count(v);
     let mut i = end;

@@ -3,4 +3,5 @@ pub mod Examples
 pub mod Format
 pub mod Laws
 pub mod RoundTrip
+pub mod Sizes
 pub mod Written

@@ -12,14 +12,16 @@ use lib.ListN.{length, drop, length-append}
 use lib.Seq.{drop-append-seam}
 use borrow.Author.Tests.{ne-eqb, le-ltb, lt-ltb, lt-leb, leb-true, ltb-true, eqb-true}
 use Rattle.literal.specs.Literal.{variable}
-use Rattle.formula.specs.Formula.{all, closes, onto, clauses}
+use Rattle.formula.specs.Formula.{all, closes, clauses}
 use Rattle.lent.specs.Limits.{maxVariables, maxClauses, maxLiterals}
+use Rattle.lent.specs.Laws.{zeros, zeros-clauses}
 use Rattle.lent.specs.Sound.{Scan, unread, mayJoin, stands, after, unclosed, badRule}
 use Rattle.decimal.specs.Decimal.{decimal, number, onlyDigits, isDigit}
 use Rattle.decimal.specs.Laws.{decimal-digits, decimal-some, number-decimal}
 use Rattle.dimacs.specs.Class.{classOf}
 use Rattle.dimacs.specs.Format.{header, numbered, outside, preamble, inToken, Word, words, signed, element, badToken, badTokens, gives, reading, readFrom}
 use Rattle.dimacs.specs.Laws.{digit-class, digit-in-token, all-digits, before-digits, beyond-digits, words-token}
+use Rattle.dimacs.specs.Sizes.{sound-step, zeros-some, sound-clauses}
 use Rattle.dimacs.specs.Written.{numeral, separator, body, heading, written}
 
 -- a written number is one token, and reads as that number
@@ -60,52 +62,6 @@ words-body (x ∷ l) at =
     words-token (numeral x) (separator x) (body l) at (numeral-some x) (numeral-token x) (separator-blank x)
     ∙ ap (λ (ws : List Word). record { place = at; bytes = numeral x } ∷ ws) (words-body l (suc (at + length (numeral x))))
 
--- an element that stands, and a sound list after it
-sound-step : (n : ℕ) (s : Scan) (i : ℕ) (x : ℤ) (l : List ℤ) → badRule n s i (x ∷ l) ≡ none → (stands n s x ≡ true) × (badRule n (after s x) (suc i) l ≡ none)
-sound-step n s i x l e = go (stands n s x) e
-  where
-    go : (t : Bool) → cond t (badRule n (after s x) (suc i) l) (some i) ≡ none → (t ≡ true) × (badRule n (after s x) (suc i) l ≡ none)
-    go true f = (refl, f)
-    go false f = absurd (Option·some-ne-none i f)
-
--- how the number of clauses changes with the first element
-count-closed : (x : ℤ) (l : List ℤ) → closes x ≡ true → length (clauses (x ∷ l)) ≡ suc (length (clauses l))
-count-closed x l e = rw (e)
-
-onto-some : (x : ℤ) (f : List (List ℤ)) → 0 < length (onto x f)
-onto-some x [] = omega arith
-onto-some x (c ∷ f) = omega arith
-
-count-some : (x : ℤ) (l : List ℤ) → 0 < length (clauses (x ∷ l))
-count-some x l = go (closes x)
-  where
-    go : (b : Bool) → 0 < length (cond b ([] ∷ clauses l) (onto x (clauses l)))
-    go true = omega arith
-    go false = onto-some x (clauses l)
-
-onto-same : (x : ℤ) (f : List (List ℤ)) → 0 < length f → length (onto x f) ≡ length f
-onto-same x [] h = absurd (not-suc-le-zero h)
-onto-same x (c ∷ f) h = refl
-
--- after a literal the list goes on, and the number of clauses stays
-count-literal : (n : ℕ) (s : Scan) (i : ℕ) (x : ℤ) (l : List ℤ) → closes x ≡ false → badRule n (after s x) i l ≡ none
-    → length (clauses (x ∷ l)) ≡ length (clauses l)
-count-literal n s i x [] e f = absurd (Option·some-ne-none i (rw (e) at f))
-count-literal n s i x (y ∷ l) e f = rw (e) (onto-same x (clauses (y ∷ l)) (count-some y l))
-
-few-clauses : (l : List ℤ) (n : ℕ) (s : Scan) (i : ℕ) → badRule n s i l ≡ none → s .clauses ≤ maxClauses → s .clauses + length (clauses l) ≤ maxClauses
-few-clauses [] n s i e h = omega arith
-few-clauses (x ∷ l) n s i e h = go (closes x) refl (few-clauses l n (after s x) (suc i) (sound-step n s i x l e .1))
-  where
-    go : (b : Bool) → closes x ≡ b → (after s x .clauses ≤ maxClauses → after s x .clauses + length (clauses l) ≤ maxClauses) → s .clauses + length (clauses (x ∷ l)) ≤ maxClauses
-    go true f ih =
-        let stood : ltb (s .clauses) maxClauses ≡ true = rw (f) at (sound-step n s i x l e .0) in
-        let more : suc (s .clauses) + length (clauses l) ≤ maxClauses = (rw (f) at ih) (ltb-true (s .clauses) maxClauses stood) in
-        omega (arith, count-closed x l f)
-    go false f ih =
-        let more : s .clauses + length (clauses l) ≤ maxClauses = (rw (f) at ih) h in
-        omega (arith, count-literal n s (suc i) x l f (sound-step n s i x l e .1))
-
 -- an element that stands, in a file with clauses to come, is no bad token
 good-token : (n c : ℕ) (s : Scan) (at : ℕ) (x : ℤ) → s .clauses < c → stands n s x ≡ true → badToken n c s at (some x) ≡ none
 good-token n c s at x h e = go (closes x) refl
@@ -137,7 +93,7 @@ record Good (n c size : ℕ) (s : Scan) (at : ℕ) (l : List ℤ) : Type 0 where
   passed : badTokens n c size s (tokensOf at l) ≡ none
   same : map element (tokensOf at l) ≡ l
 
-good-tokens : (l : List ℤ) (n c size : ℕ) (s : Scan) (i at : ℕ) → n < 100000 → badRule n s i l ≡ none → c ≡ s .clauses + length (clauses l)
+good-tokens : (l : List ℤ) (n c size : ℕ) (s : Scan) (i at : ℕ) → n < 100000 → badRule n s i l ≡ none → c ≡ s .clauses + zeros l
     → Good n c size s at l
 good-tokens [] n c size s i at h e f =
     record { passed = rw (le-ltb (s .clauses) c (omega arith), closed (unclosed (s .clause)) e); same = refl }
@@ -151,12 +107,12 @@ good-tokens (x ∷ l) n c size s i at h e f =
     sound : (stands n s x ≡ true) × (badRule n (after s x) (suc i) l ≡ none)
     sound = sound-step n s i x l e
 
-    count : c ≡ after s x .clauses + length (clauses l)
+    count : c ≡ after s x .clauses + zeros l
     count = counted (closes x) refl
       where
-        counted : (b : Bool) → closes x ≡ b → c ≡ after s x .clauses + length (clauses l)
-        counted true g = rw (g) (omega (arith, count-closed x l g))
-        counted false g = rw (g) (omega (arith, count-literal n s (suc i) x l g (sound .1)))
+        counted : (b : Bool) → closes x ≡ b → c ≡ after s x .clauses + zeros l
+        counted true g = let here : c ≡ s .clauses + suc (zeros l) = rw (g) at f in rw (g) (omega arith)
+        counted false g = rw (g) (rw (g) at f)
 
     read : signed (numeral x) ≡ some x
     read = signed-numeral x (omega (arith, stands-inside n s x (sound .0)))
@@ -164,7 +120,7 @@ good-tokens (x ∷ l) n c size s i at h e f =
     go : Good n c size (after s x) (suc (at + length (numeral x))) l → Good n c size s at (x ∷ l)
     go g =
         record {
-          passed = rw (read, good-token n c s at x (omega (arith, count-some x l)) (sound .0), g .passed);
+          passed = rw (read, good-token n c s at x (omega (arith, zeros-some n s i x l e)) (sound .0), g .passed);
           same = rw (read) (ap (λ (r : List ℤ). x ∷ r) (g .same));
         }
 
@@ -209,17 +165,20 @@ pub read-written : (n : ℕ) (l : List ℤ) → 1 ≤ n → n ≤ maxVariables �
     → reading (written n l) ≡ gives n (length (clauses l)) l
 unfolding classOf
 read-written n l h k e =
-    ap (readFrom (written n l) 0) (header-written n c (body l) (omega arith) (omega (arith, few)))
-    ∙ rw (inside n c h k few, words-written n l (0 + length (heading n c)) (zero-add (length (heading n c))), good .passed) (ap (gives n c) (good .same))
+    ap (readFrom (written n l) 0) (header-written n c (body l) (omega arith) (omega (arith, small)))
+    ∙ rw (inside n c h k small, words-written n l (0 + length (heading n c)) (zero-add (length (heading n c))), good .passed) (ap (gives n c) (good .same))
   where
     c : ℕ
     c = length (clauses l)
 
-    few : c ≤ maxClauses
-    few = omega (arith, few-clauses l n unread 0 e (omega arith))
+    closed : zeros l ≡ c
+    closed = zeros-clauses n unread 0 l e .0
+
+    small : c ≤ maxClauses
+    small = sound-clauses n l e
 
     good : Good n c (length (written n l)) unread (0 + length (heading n c)) l
-    good = good-tokens l n c (length (written n l)) unread 0 (0 + length (heading n c)) (omega arith) e (sym (zero-add c))
+    good = good-tokens l n c (length (written n l)) unread 0 (0 + length (heading n c)) (omega arith) e (omega (arith, closed))
 
 -- a file in the writer's form, read and written, is that file
 pub written-read : (n : ℕ) (l : List ℤ) → 1 ≤ n → n ≤ maxVariables → badRule n unread 0 l ≡ none

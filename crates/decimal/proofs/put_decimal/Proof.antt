@@ -3,15 +3,16 @@ use mathlib.Core.Path.{_≡_, refl, sym, ap, _∙_}
 use mathlib.Core.List.{_++_}
 use Prim.Native.Nat.{ℕ, _+_, _-_, _%_, _≤_}
 use native.Mathlib.Omega.{arith}
+use lib.Seq.{sets}
 use lib.ListN.{length, take, drop, set, length-set}
 use borrow.Author.Needs.{needs}
-use Rattle.decimal.specs.Decimal.{decimal, overwrite}
-use Rattle.decimal.specs.Laws.{count-one, count-more, overwrite-last, overwrite-only}
+use Rattle.decimal.specs.Decimal.{decimal}
+use Rattle.decimal.specs.Laws.{count-one, count-more, written-last, written-only, written-sets}
 use Rattle.decimal.proofs.put_decimal.Statement.{statement}
 use Rattle.decimal.proofs.put_decimal.Tie as tie
 
 abbrev Inv-loop : tie.InvT-loop
-Inv-loop v out₀ at end i₀ rest₀ out i rest = (i ≡ at + length (decimal rest)) × (length out ≡ length out₀) × (i ≤ length out) × (take at out ++ (decimal rest ++ drop i out) ≡ overwrite at (decimal v) out₀)
+Inv-loop v out₀ at end i₀ rest₀ out i rest = (i ≡ at + length (decimal rest)) × (length out ≡ length out₀) × (i ≤ length out) × (take at out ++ (decimal rest ++ drop i out) ≡ sets out₀ at (decimal v))
 
 abbrev μ-loop : tie.MeasureT-loop
 μ-loop v out₀ at end i₀ rest₀ out i rest = rest
@@ -28,7 +29,7 @@ loop-holds c =
     let v = c .before .before .args .v in
     let out = c .before .before .args .out .now in
     let end : at + c .digit-count .result ≡ at + length (decimal v) = omega (arith, c .digit-count .ensures) in
-    (end, refl, omega arith, ap (λ (i : ℕ). take at out ++ (decimal v ++ drop i out)) end)
+    (end, refl, omega arith, written-sets out at (decimal v) (at + c .digit-count .result) end (omega arith))
 
 sub-i : tie.Need-sub-i Inv-loop μ-loop
 sub-i c = omega (arith, count-more (c .before .loop .rest) (c .loop-test .taken))
@@ -56,7 +57,7 @@ loop-again c =
       omega (arith, more),
       omega (arith, same),
       omega (arith, same),
-      sym (overwrite-last out at i rest (c .loop-test .taken) (c .before .loop .inv .0) (c .before .loop .inv .2)) ∙ c .before .loop .inv .3,
+      sym (written-last out at i rest (c .loop-test .taken) (c .before .loop .inv .0) (c .before .loop .inv .2)) ∙ c .before .loop .inv .3,
     )
 
 cast-out-2 : tie.Need-cast-out-2 Inv-loop μ-loop
@@ -79,7 +80,7 @@ returns c =
     let last : rest % 10 ≡ rest = omega arith in (
       omega (arith, c .before .before .digit-count .ensures),
       ap (λ (d : ℕ). set out at (48 + d)) last
-          ∙ sym (overwrite-only out at (c .before .loop .i) rest (c .loop-test .left) (c .before .loop .inv .0) (c .before .loop .inv .2))
+          ∙ sym (written-only out at (c .before .loop .i) rest (c .loop-test .left) (c .before .loop .inv .0) (c .before .loop .inv .2))
           ∙ c .before .loop .inv .3,
     )
 
