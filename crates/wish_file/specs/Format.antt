@@ -2,7 +2,7 @@
 use mathlib.Core.Bool.{Bool, cond, _||_}
 use mathlib.Core.List.{List, [], _∷_, _++_}
 use mathlib.Core.Option.{Option, none, some, Option·getD}
-use Prim.Native.Nat.{ℕ, zero, suc, _+_}
+use Prim.Native.Nat.{ℕ, zero, suc, _+_, _*_}
 use lib.Dec.{eqb, ltb, leb}
 use lib.ListN.{getD, drop}
 use Rattle.distance.specs.Distance.{wishes}
@@ -33,6 +33,10 @@ wishLines (w ∷ ws) = line (fields w) ++ wishLines ws
 -- the file of n variables, a wish row and a limit
 abbrev pub written : ℕ → List ℕ → ℕ → List ℕ
 written n row d = line (n ∷ wishes row ∷ d ∷ []) ++ wishLines (wishList 1 row)
+
+-- "The size is 16 + 11 times m bytes."
+abbrev pub fileSize : ℕ → ℕ
+fileSize m = lineSize headerColumns + lineSize wishColumns * m
 
 -- 9: n, m or d out of range
 abbrev pub outside : ℕ → ℕ → ℕ → Bool

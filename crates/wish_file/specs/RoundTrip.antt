@@ -16,7 +16,7 @@ use Rattle.refusal.specs.Laws.{first-last, cause-none}
 use Rattle.refusal.specs.Reply.{refusal, first, cause}
 use Rattle.lent.specs.Limits.{maxWishVariables, maxWishes, maxLimit}
 use Rattle.lent.specs.Sound.{badWish}
-use Rattle.wish_file.specs.Format.{headerColumns, wishColumns, fields, wishOf, wishLines, written, outside, misfit, badLine, wishAt, badLines, wishesIn, refuses, gives, readLines, readHeader, reading}
+use Rattle.wish_file.specs.Format.{headerColumns, wishColumns, fields, wishOf, wishLines, written, fileSize, outside, misfit, badLine, wishAt, badLines, wishesIn, refuses, gives, readLines, readHeader, reading}
 use Rattle.wish_file.specs.Layout.{line, lineSize, lineNumbers}
 use Rattle.wish_file.specs.LayoutLaws.{Fit, Begins, line-length, line-read, line-written}
 use Rattle.wish_file.specs.WishLaws.{Bytes, Rising, sound-parts, sound-whole, list-length, list-rising, row-list, list-row, row-length, row-bytes}
@@ -73,7 +73,7 @@ lines-length [] n last h r = refl
 lines-length (w ∷ ws) n last h r =
     omega (arith, length-append (line (fields w)) (wishLines ws), line-length (fields w) (fields-fit n last w ws h r), lines-length ws n (w .variable) h (r .3))
 
-wishes-most : (row : List ℕ) → wishes row ≤ length row
+pub wishes-most : (row : List ℕ) → wishes row ≤ length row
 wishes-most [] = zero-le
 wishes-most (w ∷ row) = omega (arith, weight-most w, wishes-most row)
 
@@ -82,7 +82,10 @@ inside n m d h k l i j =
     rw (ne-eqb n 0 (omega arith), le-ltb maxWishVariables n k, le-ltb n m l, le-ltb maxWishes m i, le-ltb maxLimit d j)
 
 -- "The size is 16 + 11 times m bytes."
-pub written-length : (n : ℕ) (row : List ℕ) (d : ℕ) → n ≤ maxWishVariables → length row ≡ n → d ≤ maxLimit → length (written n row d) ≡ 16 + 11 * wishes row
+pub sixteen-eleven : (m : ℕ) → fileSize m ≡ 16 + 11 * m
+sixteen-eleven m = refl
+
+pub written-length : (n : ℕ) (row : List ℕ) (d : ℕ) → n ≤ maxWishVariables → length row ≡ n → d ≤ maxLimit → length (written n row d) ≡ fileSize (wishes row)
 written-length n row d k l i =
     omega (
       arith,
