@@ -203,6 +203,30 @@ by-value-written (b ∷ w) v e = go (isDigit b) refl e
 pub decimal-number : (w : List ℕ) (v : ℕ) → number w ≡ some v → decimal v ≡ w
 decimal-number w v e = by-value-written w v (sym (number-by-value w) ∙ e)
 
+-- a number has at most five digits, so it is below 100,000
+after-small : (w : List ℕ) (v x : ℕ) → v < 100000 → numberAfter v w ≡ some x → x < 100000
+after-small [] v x h e = omega (arith, Option·some-injective v x e)
+after-small (b ∷ w) v x h e = go (isDigit b) refl (ltb 0 v) (ltb v 10000) refl e (after-small w (v * 10 + (b - 48)) x)
+  where
+    go : (t : Bool) → isDigit b ≡ t → (p q : Bool) → ltb v 10000 ≡ q
+        → cond (t && (p && q)) (numberAfter (v * 10 + (b - 48)) w) none ≡ some x
+        → (v * 10 + (b - 48) < 100000 → numberAfter (v * 10 + (b - 48)) w ≡ some x → x < 100000) → x < 100000
+    go false e p q g r ih = absurd (Option·none-ne-some x r)
+    go true e false q g r ih = absurd (Option·none-ne-some x r)
+    go true e true false g r ih = absurd (Option·none-ne-some x r)
+    go true e true true g r ih = ih (omega (arith, digit-high b e, ltb-true v 10000 g)) r
+
+by-value-small : (w : List ℕ) (v : ℕ) → byValue w ≡ some v → v < 100000
+by-value-small [] v e = absurd (Option·none-ne-some v e)
+by-value-small (b ∷ w) v e = go (isDigit b) refl e
+  where
+    go : (t : Bool) → isDigit b ≡ t → cond t (numberAfter (b - 48) w) none ≡ some v → v < 100000
+    go false e r = absurd (Option·none-ne-some v r)
+    go true e r = after-small w (b - 48) v (omega (arith, digit-high b e)) r
+
+pub number-small : (w : List ℕ) (v : ℕ) → number w ≡ some v → v < 100000
+number-small w v e = by-value-small w v (sym (number-by-value w) ∙ e)
+
 -- a written number has only digits, and at least one
 digits-append : (w : List ℕ) (d : ℕ) → d < 10 → onlyDigits w ≡ true → onlyDigits (w ++ ((48 + d) ∷ [])) ≡ true
 digits-append [] d h e = rw (is-digit d h)

@@ -70,8 +70,11 @@ pub record Word : Type 0 where
   pub place : ℕ
   pub bytes : List ℕ
 
+abbrev pub isGap : ℕ → Bool
+isGap b = eqb (classOf b) blank
+
 abbrev pub inToken : ℕ → Bool
-inToken b = not (eqb (classOf b) blank)
+inToken b = not (isGap b)
 
 abbrev pub starting : Bool → Word → List Word → List Word
 starting true w ws = w ∷ ws

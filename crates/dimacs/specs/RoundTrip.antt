@@ -140,7 +140,7 @@ heading-joined n c r =
     ap (λ (t : List ℕ). preamble ++ t)
     (append-assoc (decimal n) (32 ∷ (decimal c ++ 10 ∷ [])) r ∙ ap (λ (t : List ℕ). decimal n ++ 32 ∷ t) (append-assoc (decimal c) (10 ∷ []) r))
 
-heading-length : (n c : ℕ) → 6 + (suc (length (decimal n)) + suc (length (decimal c))) ≡ length (heading n c)
+pub heading-length : (n c : ℕ) → 6 + (suc (length (decimal n)) + suc (length (decimal c))) ≡ length (heading n c)
 heading-length n c =
     omega (arith, length-append (decimal n) (32 ∷ (decimal c ++ 10 ∷ [])), length-append (decimal c) (10 ∷ []))
 
