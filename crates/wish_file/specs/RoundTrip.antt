@@ -161,7 +161,7 @@ wish-written n last at s e = go (lineNumbers wishColumns s) refl e
         (cause-none (misfit n last (wishOf vs)) 10 at g, ap line (two vs (b .count)) ∙ b .same)
 
 -- lines that are not refused are those of their wishes, which rise
-lines-written : (m n last at : ℕ) (s : List ℕ) → badLines n m last at s ≡ none → Rising n last (wishesIn m s) × (wishLines (wishesIn m s) ≡ s)
+pub lines-written : (m n last at : ℕ) (s : List ℕ) → badLines n m last at s ≡ none → Rising n last (wishesIn m s) × (wishLines (wishesIn m s) ≡ s)
 lines-written zero n last at [] e = (tt, refl)
 lines-written zero n last at (b ∷ s) e = absurd (Option·some-ne-none (refusal 8 at) e)
 lines-written (suc m) n last at s e =
@@ -237,9 +237,15 @@ good-file file n m d head range s tail e =
         (sym head ∙ ap (λ (k : ℕ). line (n ∷ k ∷ d ∷ [])) count)
         (sym tail ∙ sym (lines .1) ∙ ap wishLines (sym (list-row n ws (lines .0))))
 
--- "one meaning has one file": a file that reading accepts is the file of sound values
-pub accepted : (file : List ℕ) (n m d : ℕ) (row : List ℕ) → reading file ≡ gives n m d row → Accepted file n m d row
-accepted file n m d row e = header (lineNumbers headerColumns file) refl e
+-- what a file that reading accepts begins with, and what its lines are
+pub record Parts (file : List ℕ) (n m d : ℕ) (row : List ℕ) : Type 0 where
+  pub head : line (n ∷ m ∷ d ∷ []) ≡ take (lineSize headerColumns) file
+  pub range : outside n m d ≡ false
+  pub good : badLines n m 0 (lineSize headerColumns) (drop (lineSize headerColumns) file) ≡ none
+  pub gave : row ≡ rowOf n (wishesIn m (drop (lineSize headerColumns) file))
+
+pub accepted-parts : (file : List ℕ) (n m d : ℕ) (row : List ℕ) → reading file ≡ gives n m d row → Parts file n m d row
+accepted-parts file n m d row e = header (lineNumbers headerColumns file) refl e
   where
     s : List ℕ
     s = drop (lineSize headerColumns) file
@@ -247,9 +253,9 @@ accepted file n m d row e = header (lineNumbers headerColumns file) refl e
     never : (r : Refusal) → refuses r ≡ gives n m d row → _≡_ {A = ℕ} 0 1
     never r f = cc
 
-    header : (o : Option (List ℕ)) → lineNumbers headerColumns file ≡ o → readHeader s o ≡ gives n m d row → Accepted file n m d row
+    header : (o : Option (List ℕ)) → lineNumbers headerColumns file ≡ o → readHeader s o ≡ gives n m d row → Parts file n m d row
     header none f g = absurd (omega (arith, never (refusal 8 0) g))
-    header (some vs) f g = range (outside (getD vs 0 0) (getD vs 1 0) (getD vs 2 0)) refl g
+    header (some vs) f g = range (outside x y z) refl g
       where
         b : Begins headerColumns file vs
         b = line-written headerColumns file vs f
@@ -263,19 +269,26 @@ accepted file n m d row e = header (lineNumbers headerColumns file) refl e
         z : ℕ
         z = getD vs 2 0
 
-        lines : (p : Option Refusal) → badLines x y 0 (lineSize headerColumns) s ≡ p → outside x y z ≡ false → readLines x y z s p ≡ gives n m d row → Accepted file n m d row
+        lines : (p : Option Refusal) → badLines x y 0 (lineSize headerColumns) s ≡ p → outside x y z ≡ false → readLines x y z s p ≡ gives n m d row → Parts file n m d row
         lines (some r) k h i = absurd (omega (arith, never r i))
         lines none k h i =
             let same-n : n ≡ x = cc in
             let same-m : m ≡ y = cc in
             let same-d : d ≡ z = cc in
             let same-row : row ≡ rowOf x (wishesIn y s) = cc in
-            rw (same-n, same-m, same-d, same-row) (good-file file x y z (ap line (three vs (b .count)) ∙ b .same) h s refl k)
+            rw (same-n, same-m, same-d, same-row) (record { head = ap line (three vs (b .count)) ∙ b .same; range = h; good = k; gave = refl })
 
         range : (t : Bool) → outside x y z ≡ t → cond t (refuses (refusal 9 0)) (readLines x y z s (badLines x y 0 (lineSize headerColumns) s)) ≡ gives n m d row
-            → Accepted file n m d row
+            → Parts file n m d row
         range true h i = absurd (omega (arith, never (refusal 9 0) i))
         range false h i = lines (badLines x y 0 (lineSize headerColumns) s) refl h i
+
+-- "one meaning has one file": a file that reading accepts is the file of sound values
+pub accepted : (file : List ℕ) (n m d : ℕ) (row : List ℕ) → reading file ≡ gives n m d row → Accepted file n m d row
+accepted file n m d row e =
+    let parts : Parts file n m d row = accepted-parts file n m d row e in
+    rw (parts .gave)
+    (good-file file n m d (parts .head) (parts .range) (drop (lineSize headerColumns) file) refl (parts .good))
 
 -- a file without room for line one is refused at its first byte
 pub short-files : (file : List ℕ) → length file < lineSize headerColumns → reading file ≡ refuses (refusal 8 0)

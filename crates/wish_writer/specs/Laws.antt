@@ -84,18 +84,7 @@ pub scan-sound : (o : Option Refusal) (row : List ℕ) (s : WishScan) (m : ℕ) 
 scan-sound none row s m e f = (refl, (cc))
 scan-sound (some q) row s m e f = ((cc), (cc))
 
--- the spaces of a column, one by one, and then its digits
-pub spaces-step : (out : List ℕ) (i start : ℕ) → i < start
-    → sets out i (replicate (start - i) 32) ≡ sets (set out i 32) (i + 1) (replicate (start - (i + 1)) 32)
-spaces-step out i start h =
-    let more : start - i ≡ suc (start - (i + 1)) = omega arith in
-    rw (more, add-one i)
-
-pub spaces-done : (out : List ℕ) (i start : ℕ) → start ≤ i → sets out i (replicate (start - i) 32) ≡ out
-spaces-done out i start h =
-    let done : start - i ≡ 0 = omega arith in
-    rw (done)
-
+-- the spaces of a column, and then its digits
 pub column-sets : (v : ℕ) (out : List ℕ) (at start : ℕ) → start ≡ at + (columnWidth - length (decimal v))
     → sets (sets out at (replicate (start - at) 32)) start (decimal v) ≡ sets out at (column v)
 column-sets v out at start e =

@@ -4,6 +4,8 @@ mod put;
 use lent::RowScan;
 use refusal::Refusal;
 use refusal::Verdict;
+use wish_file::HEADER_SIZE;
+use wish_file::WISH_SIZE;
 ghost use mathlib.Core.Path.{_≡_};
 ghost use Prim.Native.Nat.{_≤_};
 ghost use lib.ListN.{length};
@@ -12,11 +14,6 @@ ghost use Rattle.lent.specs.Lent.{refusalOf};
 ghost use Rattle.lent.specs.Limits.{maxWishes};
 ghost use Rattle.wish_writer.specs.Laws.{laterCauses};
 ghost use Rattle.wish_writer.specs.Write.{lentToWrite, writeReply, writeOutput, replyOf, wishScan};
-
-// Line one has three columns of five bytes, a wish line two, and each a line feed.
-const HEADER_SIZE: usize = 16;
-
-const WISH_SIZE: usize = 11;
 
 // Refused, or the file's length.
 pub enum WrittenWishes {

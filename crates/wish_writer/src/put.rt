@@ -1,5 +1,6 @@
 // The bytes of a wish file, written into a buffer that has room for them.
 use literal::Variable;
+use wish_file::COLUMN_WIDTH;
 ghost use mathlib.Core.List.{[], _∷_};
 ghost use mathlib.Core.Path.{_≡_};
 ghost use Prim.Native.Nat.{_+_, _<_, _≤_};
@@ -8,8 +9,6 @@ ghost use lib.Seq.{sets};
 ghost use Rattle.wish_file.specs.Format.{wishLines};
 ghost use Rattle.wish_file.specs.Layout.{column, line};
 ghost use Rattle.wish_file.specs.Wishes.{wishList};
-
-const COLUMN_WIDTH: usize = 5;
 
 // Writes a number right-justified in the column at a place, and gives the place past it.
 fn put_column(v: usize, out: &mut [u8], at: usize) -> usize

@@ -8,7 +8,8 @@ use lib.Seq.{sets}
 use borrow.Author.Needs.{needs}
 use Rattle.decimal.specs.Decimal.{decimal}
 use Rattle.decimal.specs.Laws.{count-most}
-use Rattle.wish_writer.specs.Laws.{spaces-step, spaces-done, column-sets}
+use Rattle.wish_file.specs.Fill.{fill-step, fill-done}
+use Rattle.wish_writer.specs.Laws.{column-sets}
 use Rattle.wish_writer.proofs.put.put_column.Statement.{statement}
 use Rattle.wish_writer.proofs.put.put_column.Tie as tie
 
@@ -49,7 +50,7 @@ loop-again c =
       omega arith,
       omega arith,
       omega (arith, length-set (loop .out) (loop .i) 32),
-      sym (spaces-step (loop .out) (loop .i) start (c .loop-test .taken)) ∙ loop .inv .3,
+      sym (fill-step 32 (loop .out) (loop .i) start (c .loop-test .taken)) ∙ loop .inv .3,
     )
 
 put-decimal-requires : tie.Need-put-decimal-requires Inv-loop μ-loop
@@ -65,7 +66,7 @@ returns c =
     let start : ℕ = args .at + (5 - c .before .before .before .before .before .before .digit-count .result) in
     let place : start ≡ args .at + (5 - length (decimal (args .v))) = ap (λ (k : ℕ). args .at + (5 - k)) (c .before .before .before .before .before .before .digit-count .ensures) in
     let spaces : loop .out ≡ sets (args .out .now) (args .at) (replicate (start - args .at) 32) =
-    sym (spaces-done (loop .out) (loop .i) start (c .before .before .before .before .loop-test .left)) ∙ loop .inv .3 in (
+    sym (fill-done 32 (loop .out) (loop .i) start (c .before .before .before .before .loop-test .left)) ∙ loop .inv .3 in (
       omega (arith, c .before .before .put-decimal .ensures .0, place, count-most 4 (args .v) (c .before .before .before .before .before .before .before .before .pre .0)),
       c .before .before .put-decimal .ensures .1
           ∙ ap (λ (o : List ℕ). sets o start (decimal (args .v))) spaces
