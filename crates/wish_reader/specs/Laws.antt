@@ -7,7 +7,7 @@ use Prim.Native.Nat.{ℕ, suc, _+_, _-_, _*_, _≤_, _<_}
 use native.Mathlib.Nat.{zero-add, not-suc-le-zero}
 use native.Mathlib.Omega.{arith}
 use lib.Dec.{ltb}
-use lib.ListN.{length, getD, drop, set, replicate, length-append, length-drop, length-set, length-replicate, drop-of-length-le}
+use lib.ListN.{length, getD, drop, set, replicate, length-drop, length-set, length-replicate, drop-of-length-le}
 use lib.Seq.{sets, sets-eq, drop-cons, drop-drop, set-append-left}
 use borrow.Author.Tests.{lt-ltb, le-ltb, le-leb, lt-leb, eq-eqb, ne-eqb}
 use Rattle.refusal.specs.declared.Refusal.{Refusal}
@@ -270,9 +270,8 @@ module _ (file out : List ℕ) where
       abbrev free : List ℕ
       free = replicate n 2 ++ drop n out
 
-      pub rising-free : Rising (length free) 0 ws
-      rising-free =
-          rising-wider ws n (length free) 0 (omega (arith, length-append (replicate n 2) (drop n out), length-replicate {A = ℕ} n 2)) rising-row
+      pub rising-room : Rising (length out) 0 ws
+      rising-room = rising-wider ws n (length out) 0 h rising-row
 
       pub row-read : (result : List ℕ) → result ≡ marked free ws → Answers (answering 1 n m d) result
       row-read result f = (rw (e, le-ltb (length out) n h), rw (e, le-ltb (length out) n h) (f ∙ whole))

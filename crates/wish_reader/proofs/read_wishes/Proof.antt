@@ -2,11 +2,11 @@
 use mathlib.Core.Path.{_≡_, sym, ap, subst, _∙_}
 use mathlib.Core.List.{List}
 use Prim.Native.Nat.{ℕ}
-use lib.ListN.{length, drop}
+use lib.ListN.{drop}
 use Rattle.wish_file.specs.Format.{wishesIn, gives, reading}
 use Rattle.wish_file.specs.WishLaws.{Rising}
 use Rattle.wish_file.specs.Wishes.{marked}
-use Rattle.wish_reader.specs.Laws.{scan-refused, scan-sound, refused-for, too-short, rising-free, row-read}
+use Rattle.wish_reader.specs.Laws.{scan-refused, scan-sound, refused-for, too-short, rising-room, row-read}
 use borrow.Author.Needs.{needs}
 use Rattle.wish_reader.proofs.read_wishes.Statement.{statement}
 use Rattle.wish_reader.proofs.read_wishes.Tie as tie
@@ -42,8 +42,8 @@ mark-row-requires c κs =
     let args = c .before .before .before .before .before .before .before .before .before .before .before .before .args in
     let held = c .before .before .before .before .before .before .before .variables .given .0 in
     let read = good (c .before .before .before .before .before .before) in
-    subst (λ (row : List ℕ). Rising (length row) 0 (wishesIn (held .1 .0) (drop 16 (args .file .now)))) (sym (c .before .before .before .free-row .ensures))
-    (rising-free (args .file .now) (args .row .now) (held .0) (held .1 .0) (held .1 .1 .0) (read .0) (read .1) (c .before .before .before .before .before .if1 .left))
+    subst (λ (k : ℕ). Rising k 0 (wishesIn (held .1 .0) (drop 16 (args .file .now)))) (sym (c .before .before .before .free-row .kept .1 .0))
+    (rising-room (args .file .now) (args .row .now) (held .0) (held .1 .0) (held .1 .1 .0) (read .0) (read .1) (c .before .before .before .before .before .if1 .left))
 
 returns-2 : tie.Need-returns-2
 returns-2 c =
