@@ -20,6 +20,7 @@ headerColumns = 3
 abbrev pub wishColumns : ℕ
 wishColumns = 2
 
+-- the numbers on a wish's line, and the wish that they give
 abbrev pub fields : Wish → List ℕ
 fields w = w .variable ∷ w .mark ∷ []
 

@@ -144,9 +144,10 @@ three : (vs : List ℕ) → length vs ≡ 3 → getD vs 0 0 ∷ getD vs 1 0 ∷ 
 three [] e = absurd (omega arith)
 three (a ∷ vs) e = ap (λ (us : List ℕ). a ∷ us) (two vs (omega arith))
 
-both-none : (o p : Option Refusal) → first (o ∷ p ∷ []) ≡ none → (o ≡ none) × (p ≡ none)
-both-none none p e = (refl, sym (first-last p) ∙ e)
-both-none (some r) p e = absurd (Option·some-ne-none r e)
+-- where none of several causes applies, the first does not
+pub no-first : (o : Option Refusal) (causes : List (Option Refusal)) → first (o ∷ causes) ≡ none → (o ≡ none) × (first causes ≡ none)
+no-first none causes e = (refl, e)
+no-first (some r) causes e = absurd (Option·some-ne-none r e)
 
 -- a line that is not refused is that of its wish, which fits
 wish-written : (n last at : ℕ) (s : List ℕ) → badLine n last at (lineNumbers wishColumns s) ≡ none
@@ -167,10 +168,11 @@ lines-written zero n last at (b ∷ s) e = absurd (Option·some-ne-none (refusal
 lines-written (suc m) n last at s e =
     let next : ℕ = at + lineSize wishColumns in
     let t : List ℕ = drop (lineSize wishColumns) s in
-    let parts = both-none (badLine n last at (lineNumbers wishColumns s)) (badLines n m (wishAt s .variable) next t) e in
+    let later : Option Refusal = badLines n m (wishAt s .variable) next t in
+    let parts = no-first (badLine n last at (lineNumbers wishColumns s)) (later ∷ []) e in
     let here = wish-written n last at s (parts .0) in
     let fits = fitted n last (wishAt s) (here .0) in
-    let rest = lines-written m n (wishAt s .variable) next t (parts .1) in (
+    let rest = lines-written m n (wishAt s .variable) next t (sym (first-last later) ∙ parts .1) in (
       (fits .0, fits .1, fits .2, rest .0),
       ap₂ (λ (a b : List ℕ). a ++ b) (here .1) (rest .1) ∙ take-append-drop (lineSize wishColumns) s,
     )
@@ -283,12 +285,15 @@ accepted-parts file n m d row e = header (lineNumbers headerColumns file) refl e
         range true h i = absurd (omega (arith, never (refusal 9 0) i))
         range false h i = lines (badLines x y 0 (lineSize headerColumns) s) refl h i
 
--- "one meaning has one file": a file that reading accepts is the file of sound values
+-- A file that reading accepts is the file of sound values, so "one meaning has one file".
 pub accepted : (file : List ℕ) (n m d : ℕ) (row : List ℕ) → reading file ≡ gives n m d row → Accepted file n m d row
 accepted file n m d row e =
     let parts : Parts file n m d row = accepted-parts file n m d row e in
     rw (parts .gave)
     (good-file file n m d (parts .head) (parts .range) (drop (lineSize headerColumns) file) refl (parts .good))
+
+pub one-file : (f g : List ℕ) (n k m d : ℕ) (row : List ℕ) → reading f ≡ gives n k d row → reading g ≡ gives n m d row → f ≡ g
+one-file f g n k m d row e h = accepted f n k d row e .same ∙ sym (accepted g n m d row h .same)
 
 -- a file without room for line one is refused at its first byte
 pub short-files : (file : List ℕ) → length file < lineSize headerColumns → reading file ≡ refuses (refusal 8 0)

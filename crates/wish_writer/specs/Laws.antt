@@ -2,13 +2,13 @@
 use mathlib.Core.Path.{_≡_, refl, sym, ap, ap₂, _∙_}
 use mathlib.Core.Bool.{Bool, true, false, cond, not, _||_, true≢false}
 use mathlib.Core.List.{List, [], _∷_, _++_, append-nil}
-use mathlib.Core.Option.{Option, none, some, Option·some-ne-none}
+use mathlib.Core.Option.{Option, none, some}
 use Prim.Native.Nat.{ℕ, suc, _+_, _-_, _≤_, _<_}
 use native.Mathlib.Nat.{zero-add}
 use native.Mathlib.Omega.{arith}
 use lib.Dec.{eqb, ltb}
 use native.Mathlib.Numerals.{add-one}
-use lib.ListN.{length, getD, drop, set, replicate, length-append, length-replicate, drop-of-length-le}
+use lib.ListN.{length, getD, drop, replicate, length-append, length-replicate, drop-of-length-le}
 use lib.Seq.{sets, sets-eq, drop-cons}
 use borrow.Author.Tests.{lt-ltb, le-ltb, ltb-false, eqb-true, not-false}
 use Rattle.distance.specs.Distance.{wishes}
@@ -24,7 +24,7 @@ use Rattle.decimal.specs.Laws.{sets-append}
 use Rattle.wish_file.specs.Format.{written, fileSize, wishLines}
 use Rattle.wish_file.specs.Layout.{columnWidth, column, line}
 use Rattle.wish_file.specs.LayoutLaws.{column-length, line-length}
-use Rattle.wish_file.specs.RoundTrip.{wishes-most, written-length}
+use Rattle.wish_file.specs.RoundTrip.{no-first, wishes-most, written-length}
 use Rattle.wish_file.specs.Wishes.{wishList}
 use Rattle.wish_writer.specs.Write.{lentToWrite, writeReply, writeOutput, wishScan}
 use Rattle.wish_writer.specs.declared.WishScan.{WishScan}
@@ -147,10 +147,6 @@ pub record Writable (n : ℕ) (row : List ℕ) (d room : ℕ) : Type 0 where
   pub size : length row ≡ n
   pub limit : d ≤ maxLimit
   pub space : fileSize (wishes row) ≤ room
-
-no-first : (o : Option Refusal) (causes : List (Option Refusal)) → first (o ∷ causes) ≡ none → (o ≡ none) × (first causes ≡ none)
-no-first none causes e = (refl, e)
-no-first (some r) causes e = absurd (Option·some-ne-none r e)
 
 pub writable : (n : ℕ) (row : List ℕ) (d room : ℕ) → refusalOf (lentToWrite n row d room) ≡ none → Writable n row d room
 writable n row d room e =
