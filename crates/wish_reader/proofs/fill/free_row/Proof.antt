@@ -36,7 +36,7 @@ loop-again : tie.Need-loop-again Inv-loop μ-loop
 loop-again c =
     let loop = c .before .loop in (
       omega arith,
-      omega (arith, length-set (loop .row) (loop .i) 2),
+      simp length-set (loop .inv .1),
       sym (fill-step 2 (loop .row) (loop .i) (c .before .before .args .n) (c .loop-test .taken)) ∙ loop .inv .2,
     )
 

@@ -49,7 +49,7 @@ loop-again c =
     let start : ℕ = at + (5 - c .before .before .digit-count .result) in (
       omega arith,
       omega arith,
-      omega (arith, length-set (loop .out) (loop .i) 32),
+      simp length-set (loop .inv .2),
       sym (fill-step 32 (loop .out) (loop .i) start (c .loop-test .taken)) ∙ loop .inv .3,
     )
 
