@@ -2,7 +2,7 @@
 use mathlib.Core.Path.{_≡_, refl, sym, ap, ap₂, _∙_}
 use mathlib.Core.Bool.{Bool, true, false, cond, not, _&&_, _||_}
 use mathlib.Core.List.{List, [], _∷_, map}
-use mathlib.Core.Option.{Option, none, some, Option·getD}
+use mathlib.Core.Option.{Option, none, some, Option·getD, Option·some-ne-none}
 use Prim.Native.Nat.{ℕ, zero, suc, _+_, _-_, _≤_, _<_}
 use native.Mathlib.Numerals.{add-one}
 use native.Mathlib.Omega.{arith}
@@ -125,3 +125,28 @@ module _ (n c size k m : ℕ) (clause : List ℤ) (place : ℕ) (bytes : List �
             leads none (joins true j)
             ∙ ap (λ (s : Scan). first (badTokens n c size s ws ∷ [])) next
             ∙ first-last (badTokens n c size (scan k (m + 1) (x ∷ clause)) ws)
+
+-- every token is well formed
+abbrev pub isSome : Option ℤ → Bool
+isSome none = false
+isSome (some x) = true
+
+abbrev pub readable : List Word → Bool
+readable [] = true
+readable (w ∷ ws) = isSome (signed (w .bytes)) && readable ws
+
+-- so are those of a good file
+first-passed : (o p : Option Refusal) → first (o ∷ p ∷ []) ≡ none → (o ≡ none) × (p ≡ none)
+first-passed none none e = (refl, refl)
+first-passed none (some r) e = absurd (Option·some-ne-none r e)
+first-passed (some r) p e = absurd (Option·some-ne-none r e)
+
+well-formed : (n c : ℕ) (s : Scan) (place : ℕ) (o : Option ℤ) → badToken n c s place o ≡ none → isSome o ≡ true
+well-formed n c s place none e = absurd (Option·some-ne-none (refusal 3 place) e)
+well-formed n c s place (some x) e = refl
+
+pub passed-readable : (ws : List Word) (n c size : ℕ) (s : Scan) → badTokens n c size s ws ≡ none → readable ws ≡ true
+passed-readable [] n c size s e = refl
+passed-readable (w ∷ ws) n c size s e =
+    let parts = first-passed (badToken n c s (w .place) (signed (w .bytes))) (badTokens n c size (after s (element w)) ws) e in
+    rw (well-formed n c s (w .place) (signed (w .bytes)) (parts .0)) (passed-readable ws n c size (after s (element w)) (parts .1))

@@ -1,6 +1,7 @@
 // The reader of the rule file: it checks and counts first, then fills, so that a refusal leaves the
 // lent list alone.
 mod check;
+mod fill;
 
 use refusal::Refusal;
 
