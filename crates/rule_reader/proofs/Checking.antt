@@ -2,11 +2,11 @@
 use mathlib.Core.Path.{_≡_, refl, sym, ap, ap₂, _∙_, subst}
 use mathlib.Core.Bool.{Bool, true, false, _||_}
 use mathlib.Core.List.{List, [], _∷_}
-use mathlib.Core.Option.{Option, none, some}
-use Prim.Native.Nat.{ℕ, zero, suc, _+_, _≤_, _<_, zero-le}
+use mathlib.Core.Option.{Option, some}
+use Prim.Native.Nat.{ℕ, suc, _+_, _≤_, _<_, zero-le}
 use native.Mathlib.Omega.{arith}
 use lib.Dec.{ltb}
-use lib.IntN.{ℤ, pos}
+use lib.IntN.{ℤ}
 use lib.ListN.{length, getD, drop, set}
 use mir.Syntax.{w32}
 use mir.Val.{toZ, ofZ}
@@ -18,7 +18,7 @@ use Rattle.lent.specs.Sound.{unread, unclosed}
 use Rattle.lent.specs.Stamps.{Stamped, stamped-none, stamped-closed, stamped-joined, stamp-free, stamp-taken}
 use Rattle.dimacs.specs.Format.{Word, words, badTokens}
 use Rattle.rule_tokens.specs.declared.Token as T
-use Rattle.rule_tokens.specs.Laws.{Bad, Good, token-end, token-bad, token-good, held, signed-fits}
+use Rattle.rule_tokens.specs.Laws.{Good, token-end, token-bad, token-good, held, signed-fits}
 use Rattle.rule_tokens.specs.Token.{firstToken}
 use Rattle.rule_reader.specs.declared.check.Check as C
 use Rattle.rule_reader.specs.Laws.{faultOf, checkAs, open-clause, room-left, refused-malformed, refused-fault, accepted-zero, refused-twice, accepted-literal}

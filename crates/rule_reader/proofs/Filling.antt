@@ -1,9 +1,9 @@
 -- The invariant of the second pass over a file, and its laws: one for each way a turn can go.
-use mathlib.Core.Path.{_≡_, refl, sym, ap, _∙_}
-use mathlib.Core.Bool.{Bool, true, false, _&&_, and-eq-true-iff, false≢true}
-use mathlib.Core.List.{List, [], _∷_, map}
-use mathlib.Core.Option.{Option, none, some, Option·getD}
-use Prim.Native.Nat.{ℕ, suc, _+_, _≤_, _<_}
+use mathlib.Core.Path.{_≡_, sym, ap, _∙_}
+use mathlib.Core.Bool.{true, and-eq-true-iff, false≢true}
+use mathlib.Core.List.{List, _∷_, map}
+use mathlib.Core.Option.{Option, Option·getD}
+use Prim.Native.Nat.{ℕ, _+_, _≤_, _<_}
 use native.Mathlib.Numerals.{add-one}
 use native.Mathlib.Omega.{arith}
 use lib.IntN.{ℤ, pos}
@@ -13,7 +13,7 @@ use mir.Syntax.{w32}
 use mir.Val.{toZ, ofZ}
 use Rattle.dimacs.specs.Format.{Word, signed, element}
 use Rattle.rule_tokens.specs.declared.Token as T
-use Rattle.rule_tokens.specs.Laws.{Bad, Good, token-end, token-bad, token-good}
+use Rattle.rule_tokens.specs.Laws.{Good, token-end, token-bad, token-good}
 use Rattle.rule_tokens.specs.Token.{firstToken}
 use Rattle.rule_reader.specs.Laws.{isSome, readable}
 use Rattle.rule_reader.proofs.Checking.{tokens, number-held}
@@ -35,7 +35,7 @@ module _ {file : List ℕ} {from : ℕ} {rules₀ rules : List ℤ} {at i : ℕ}
   never place e =
       let b = token-bad file at place (sym e) in
       let head : isSome (signed (b .bytes)) ≡ true =
-          and-eq-true-iff (isSome (signed (b .bytes))) (readable (b .rest)) .0 (sym (ap readable (b .split)) ∙ s .good) .0 in
+      and-eq-true-iff (isSome (signed (b .bytes))) (readable (b .rest)) .0 (sym (ap readable (b .split)) ∙ s .good) .0 in
       false≢true (sym (ap isSome (b .malformed)) ∙ head)
 
   -- the next one gives x

@@ -1,22 +1,21 @@
 -- The equations by which proofs check a file, token by token.
-use mathlib.Core.Path.{_≡_, refl, sym, ap, ap₂, _∙_}
-use mathlib.Core.Bool.{Bool, true, false, cond, not, _&&_, _||_}
-use mathlib.Core.List.{List, [], _∷_, map}
+use mathlib.Core.Path.{_≡_, refl, sym, ap, _∙_}
+use mathlib.Core.Bool.{Bool, true, false, cond, not, _&&_}
+use mathlib.Core.List.{List, [], _∷_}
 use mathlib.Core.Option.{Option, none, some, Option·getD, Option·some-ne-none}
-use Prim.Native.Nat.{ℕ, zero, suc, _+_, _-_, _≤_, _<_}
+use Prim.Native.Nat.{ℕ, suc, _+_, _≤_, _<_}
 use native.Mathlib.Numerals.{add-one}
 use native.Mathlib.Omega.{arith}
 use lib.Dec.{eqb, ltb, leb}
 use lib.IntN.{ℤ, pos}
-use lib.ListN.{length, getD, take, drop}
-use borrow.Author.Tests.{lt-ltb, le-ltb, le-leb, lt-leb, eq-eqb, ne-eqb, leb-false, ltb-false}
+use borrow.Author.Tests.{le-ltb, lt-leb, eq-eqb, ne-eqb, leb-false, ltb-false}
 use Rattle.literal.specs.Literal.{variable}
 use Rattle.refusal.specs.declared.Refusal.{Refusal}
 use Rattle.refusal.specs.Reply.{refusal, first, cause}
-use Rattle.refusal.specs.Laws.{first-some, first-last}
+use Rattle.refusal.specs.Laws.{first-last}
 use Rattle.lent.specs.Limits.{maxLiterals}
 use Rattle.lent.specs.Laws.{scan}
-use Rattle.lent.specs.Sound.{Scan, mayJoin, after, unclosed}
+use Rattle.lent.specs.Sound.{Scan, mayJoin, after}
 use Rattle.dimacs.specs.Format.{Word, signed, element, badToken, badTokens}
 use Rattle.rule_reader.specs.declared.check.Check as C
 use Rattle.rule_reader.specs.declared.check.Check.{Check}

@@ -1,25 +1,16 @@
 -- `rule_reader::check::check_tokens` meets its contract: each turn is one of the laws of `Checking`.
 use mathlib.Core.Path.{_≡_, sym, ap, _∙_}
-use Prim.Native.Nat.{ℕ, _-_}
+use Prim.Native.Nat.{_-_}
 use borrow.Author.Needs.{needs}
 use native.Mathlib.Omega.{arith}
-use lib.IntN.{ℤ}
 use lib.ListN.{length}
 use Rattle.literal.specs.Literal.{variable}
-use Rattle.dimacs.specs.Format.{Word}
 use Rattle.rule_tokens.specs.declared.Token as T
 use Rattle.rule_tokens.specs.Token.{firstToken}
 use Rattle.rule_reader.specs.Laws.{faultOf}
 use Rattle.rule_reader.proofs.Checking.{tokens, Checking, start, number-held, ended, malformed, later, faulty, closed, below, twice, joined}
 use Rattle.rule_reader.proofs.check.check_tokens.Statement.{statement}
 use Rattle.rule_reader.proofs.check.check_tokens.Tie as tie
-use Rattle.rule_reader.proofs.check.check_tokens.Reads as reads
-use Rattle.rule_reader.proofs.check.check_tokens.Lts as lts
-use Rattle.literal.proofs.variable_of.Reads as variable-of-reads
-use Rattle.rule_reader.proofs.check.fault_of.Reads as fault-of-reads
-use Rattle.rule_reader.proofs.check.finish.Reads as finish-reads
-use Rattle.rule_reader.proofs.check.no_stamps.Reads as no-stamps-reads
-use Rattle.rule_tokens.proofs.token_at.Reads as token-at-reads
 
 abbrev Inv-loop : tie.InvT-loop
 Inv-loop file from n count stamps₀ clauses₀ literals₀ is-open₀ at₀ stamps clauses literals is-open at =
@@ -29,47 +20,36 @@ abbrev μ-loop : tie.MeasureT-loop
 μ-loop file from n count stamps₀ clauses₀ literals₀ is-open₀ at₀ stamps clauses literals is-open at =
     length file - at
 
--- src/check.rt:54:22
 no-stamps-requires : tie.Need-no-stamps-requires Inv-loop μ-loop
 no-stamps-requires c κs = search needs
 
--- src/check.rt:59:5
 loop-holds : tie.Need-loop-holds Inv-loop μ-loop
 loop-holds c = start (c .before .before .args .n) (c .before .before .args .count) (c .before .before .args .file .now) (c .before .before .args .from) (c .no-stamps .result) (c .no-stamps .ensures .0) (c .no-stamps .ensures .1)
 
--- src/check.rt:60:15
 token-at-requires : tie.Need-token-at-requires Inv-loop μ-loop
 token-at-requires c κs = search needs
 
--- src/check.rt:62:31
 enum-told : tie.Need-enum-told Inv-loop μ-loop
 enum-told c = search needs
 
--- src/check.rt:62:17
 finish-requires : tie.Need-finish-requires Inv-loop μ-loop
 finish-requires c κs = omega (arith, c .before .before .before .loop .inv .few, c .before .before .before .loop .inv .many, c .before .before .before .before .before .before .pre)
 
--- src/check.rt:62:17
 returns : tie.Need-returns Inv-loop μ-loop
 returns c = c .finish .ensures ∙ ended (c .before .before .before .before .loop .inv) (sym (c .before .enum-told .given .1) ∙ c .before .before .before .token-at .ensures)
 
--- src/check.rt:64:30
 enum-known-place : tie.Need-enum-known-place Inv-loop μ-loop
 enum-known-place c = search needs
 
--- src/check.rt:65:17
 returns-2 : tie.Need-returns-2 Inv-loop μ-loop
 returns-2 c = malformed (c .before .before .before .before .loop .inv) (c .before .place .given .0 .0) (sym (c .before .place .given .1) ∙ c .before .before .before .token-at .ensures)
 
--- src/check.rt:67:30
 enum-known-place-2 : tie.Need-enum-known-place-2 Inv-loop μ-loop
 enum-known-place-2 c = search needs
 
--- src/check.rt:68:25
 variable-of-requires : tie.Need-variable-of-requires Inv-loop μ-loop
 variable-of-requires c κs = search needs
 
--- src/check.rt:69:21
 fault-of-requires : tie.Need-fault-of-requires Inv-loop μ-loop
 fault-of-requires c κs = search needs
 
@@ -84,59 +64,45 @@ same c = c .variable-of .ensures ∙ ap variable (number-held (c .before .before
 fine : (c : tie.Else1 Inv-loop μ-loop) → faultOf (c .before .before .before .before .before .before .before .before .before .before .args .n) (c .before .before .before .before .before .before .before .before .before .before .args .count) (c .before .before .before .before .before .before .before .loop .clauses) (c .before .before .before .before .before .before .before .loop .literals) (c .before .before .variable-of .result .0) ≡ 0
 fine c = sym (c .before .fault-of .ensures) ∙ c .if1 .left
 
--- src/check.rt:71:21
 returns-3 : tie.Need-returns-3 Inv-loop μ-loop
 returns-3 c = faulty (c .before .before .before .before .before .before .before .loop .inv) (found (c .before .before)) (same (c .before .before)) (c .before .fault-of .result) (c .before .fault-of .ensures) (c .if1 .taken)
 
--- src/check.rt:74:21
 add-clauses : tie.Need-add-clauses Inv-loop μ-loop
 add-clauses c = omega (arith, c .before .before .before .before .before .before .before .before .loop .inv .few, c .before .before .before .before .before .before .before .before .before .before .before .pre)
 
--- src/check.rt:77:34
 add-stamp : tie.Need-add-stamp Inv-loop μ-loop
 add-stamp c = omega (arith, c .before .before .before .before .before .before .before .before .loop .inv .few, c .before .before .before .before .before .before .before .before .before .before .before .pre)
 
--- src/check.rt:77:33
 cast-stamp : tie.Need-cast-stamp Inv-loop μ-loop
 cast-stamp c = omega (arith, c .before .before .before .before .before .before .before .before .loop .inv .few, c .before .before .before .before .before .before .before .before .before .before .before .pre)
 
--- src/check.rt:78:24
 mul-if3 : tie.Need-mul-if3 Inv-loop μ-loop
 mul-if3 c = omega (arith, below (c .before .before .before .before .before .before .before .before .loop .inv) (found (c .before .before .before)) (same (c .before .before .before)) (fine (c .before)) (c .if2 .left), c .before .before .before .before .before .before .before .before .before .before .before .pre)
 
--- src/check.rt:78:24
 array-read-if3 : tie.Need-array-read-if3 Inv-loop μ-loop
 array-read-if3 c = omega (arith, below (c .before .before .before .before .before .before .before .before .loop .inv) (found (c .before .before .before)) (same (c .before .before .before)) (fine (c .before)) (c .if2 .left), c .before .before .before .before .before .before .before .before .before .before .before .pre)
 
--- src/check.rt:79:25
 returns-4 : tie.Need-returns-4 Inv-loop μ-loop
 returns-4 c = twice (c .before .before .before .before .before .before .before .before .before .loop .inv) (found (c .before .before .before .before)) (same (c .before .before .before .before)) (fine (c .before .before)) (c .before .if2 .left) (c .if3 .taken)
 
--- src/check.rt:81:21
 mul-stamps : tie.Need-mul-stamps Inv-loop μ-loop
 mul-stamps c = omega (arith, below (c .before .before .before .before .before .before .before .before .before .loop .inv) (found (c .before .before .before .before)) (same (c .before .before .before .before)) (fine (c .before .before)) (c .before .if2 .left), c .before .before .before .before .before .before .before .before .before .before .before .before .pre)
 
--- src/check.rt:81:21
 array-write-stamps : tie.Need-array-write-stamps Inv-loop μ-loop
 array-write-stamps c = omega (arith, below (c .before .before .before .before .before .before .before .before .before .loop .inv) (found (c .before .before .before .before)) (same (c .before .before .before .before)) (fine (c .before .before)) (c .before .if2 .left), c .before .before .before .before .before .before .before .before .before .before .before .before .pre)
 
--- src/check.rt:82:21
 add-literals : tie.Need-add-literals Inv-loop μ-loop
 add-literals c = omega (arith, c .before .before .before .before .before .before .before .before .before .loop .inv .many)
 
--- src/check.rt:59:5
 loop-less : tie.Need-loop-less Inv-loop μ-loop
 loop-less c = omega (arith, later (c .before .before .before .before .before .before .before .before .loop .inv) (found (c .before .before .before)) (same (c .before .before .before)))
 
--- src/check.rt:59:5
 loop-again : tie.Need-loop-again Inv-loop μ-loop
 loop-again c = closed (c .before .before .before .before .before .before .before .before .loop .inv) (found (c .before .before .before)) (same (c .before .before .before)) (fine (c .before)) (c .if2 .taken)
 
--- src/check.rt:59:5
 loop-less-2 : tie.Need-loop-less-2 Inv-loop μ-loop
 loop-less-2 c = omega (arith, later (c .before .before .before .before .before .before .before .before .before .loop .inv) (found (c .before .before .before .before)) (same (c .before .before .before .before)))
 
--- src/check.rt:59:5
 loop-again-2 : tie.Need-loop-again-2 Inv-loop μ-loop
 loop-again-2 c = joined (c .before .before .before .before .before .before .before .before .before .loop .inv) (found (c .before .before .before .before)) (same (c .before .before .before .before)) (fine (c .before .before)) (c .before .if2 .left) (c .before .before .before .before .before .before .before .before .before .before .before .before .pre .0) (c .if3 .left)
 

@@ -3,30 +3,23 @@ use borrow.Author.Tests.{lt-ltb, le-ltb, le-leb, lt-leb, eq-eqb, ne-eqb}
 use Rattle.lent.specs.Limits.{maxLiterals}
 use Rattle.rule_reader.proofs.check.fault_of.Statement.{statement}
 use Rattle.rule_reader.proofs.check.fault_of.Tie as tie
-use Rattle.rule_reader.proofs.check.fault_of.Reads as reads
-use Rattle.rule_reader.proofs.check.fault_of.Lts as lts
 
--- src/check.rt:36:9
 returns : tie.Need-returns
 returns c = rw (le-leb (c .before .args .count) (c .before .args .clauses) (c .if1 .taken))
 
--- src/check.rt:39:9
 returns-2 : tie.Need-returns-2
 returns-2 c = rw (lt-leb (c .before .before .args .count) (c .before .before .args .clauses) (c .before .if1 .left), eq-eqb (c .before .before .args .v) 0 (c .if2 .taken))
 
--- src/check.rt:42:9
 returns-3 : tie.Need-returns-3
 returns-3 c =
     let args = c .before .before .before .args in
     rw (lt-leb (args .count) (args .clauses) (c .before .before .if1 .left), ne-eqb (args .v) 0 (c .before .if2 .left), le-leb maxLiterals (args .literals) (c .if3 .taken))
 
--- src/check.rt:32:1
 returns-4 : tie.Need-returns-4
 returns-4 c =
     let args = c .before .before .before .before .args in
     rw (lt-leb (args .count) (args .clauses) (c .before .before .before .if1 .left), ne-eqb (args .v) 0 (c .before .before .if2 .left), lt-leb maxLiterals (args .literals) (c .before .if3 .left), lt-ltb (args .n) (args .v) (c .if4 .taken))
 
--- src/check.rt:32:1
 returns-5 : tie.Need-returns-5
 returns-5 c =
     let args = c .before .before .before .before .args in

@@ -3,22 +3,16 @@ use borrow.Author.Tests.{lt-ltb, le-ltb}
 use borrow.Author.Needs.{needs}
 use Rattle.rule_reader.proofs.check.finish.Statement.{statement}
 use Rattle.rule_reader.proofs.check.finish.Tie as tie
-use Rattle.rule_reader.proofs.check.finish.Reads as reads
-use Rattle.rule_reader.proofs.check.finish.Lts as lts
 
--- src/check.rt:97:9
 returns : tie.Need-returns
 returns c = rw (lt-ltb (c .before .args .clauses) (c .before .args .count) (c .if1 .taken))
 
--- src/check.rt:103:9
 returns-2 : tie.Need-returns-2
 returns-2 c = rw (le-ltb (c .before .before .args .clauses) (c .before .before .args .count) (c .before .if1 .left), c .if2 .taken)
 
--- src/check.rt:108:17
 add-t9 : tie.Need-add-t9
 add-t9 c = search needs
 
--- src/check.rt:92:1
 returns-3 : tie.Need-returns-3
 returns-3 c = rw (le-ltb (c .before .before .args .clauses) (c .before .before .args .count) (c .before .if1 .left), c .if2 .left)
 

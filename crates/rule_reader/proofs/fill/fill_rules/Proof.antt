@@ -1,7 +1,7 @@
 -- `rule_reader::fill::fill_rules` meets its contract: each turn is one of the laws of `Filling`.
-use mathlib.Core.Path.{_≡_, refl, sym, ap, _∙_}
-use Prim.Native.Nat.{ℕ, _-_}
-use borrow.Author.Needs.{needs, scaled-fits}
+use mathlib.Core.Path.{_≡_, refl, sym, _∙_}
+use Prim.Native.Nat.{_-_}
+use borrow.Author.Needs.{needs}
 use native.Mathlib.Omega.{arith}
 use lib.ListN.{length}
 use Rattle.rule_tokens.specs.declared.Token as T
@@ -10,9 +10,6 @@ use Rattle.rule_reader.proofs.Checking.{tokens}
 use Rattle.rule_reader.proofs.Filling.{Filling, filled, never, later, inside, stored}
 use Rattle.rule_reader.proofs.fill.fill_rules.Statement.{statement}
 use Rattle.rule_reader.proofs.fill.fill_rules.Tie as tie
-use Rattle.rule_reader.proofs.fill.fill_rules.Reads as reads
-use Rattle.rule_reader.proofs.fill.fill_rules.Lts as lts
-use Rattle.rule_tokens.proofs.token_at.Reads as token-at-reads
 
 abbrev Inv-loop : tie.InvT-loop
 Inv-loop file from rules₀ at₀ i₀ rules at i = Filling file from rules₀ rules at i
@@ -20,39 +17,30 @@ Inv-loop file from rules₀ at₀ i₀ rules at i = Filling file from rules₀ r
 abbrev μ-loop : tie.MeasureT-loop
 μ-loop file from rules₀ at₀ i₀ rules at i = length file - at
 
--- src/fill.rt:19:5
 loop-holds : tie.Need-loop-holds Inv-loop μ-loop
 loop-holds c = record { good = c .before .pre .0; room = omega (arith, c .before .pre .1); long = refl; so-far = refl }
 
--- src/fill.rt:20:15
 token-at-requires : tie.Need-token-at-requires Inv-loop μ-loop
 token-at-requires c κs = search needs
 
--- src/fill.rt:22:17
 enum-told : tie.Need-enum-told Inv-loop μ-loop
 enum-told c = search needs
 
--- src/fill.rt:22:17
 same-length : tie.Need-same-length Inv-loop μ-loop
 same-length c = c .before .before .before .loop .inv .long
 
--- src/fill.rt:22:17
 returns : tie.Need-returns Inv-loop μ-loop
 returns c = filled (c .before .before .before .loop .inv) (sym (c .enum-told .given .1) ∙ c .before .before .token-at .ensures)
 
--- src/fill.rt:25:17
 enum-told-2 : tie.Need-enum-told-2 Inv-loop μ-loop
 enum-told-2 c = search needs
 
--- src/fill.rt:25:17
 same-length-2 : tie.Need-same-length-2 Inv-loop μ-loop
 same-length-2 c = c .before .before .before .loop .inv .long
 
--- src/fill.rt:25:17
 returns-2 : tie.Need-returns-2 Inv-loop μ-loop
 returns-2 c = absurd (never (c .before .before .before .loop .inv) (c .enum-told2 .given .0 .0) (sym (c .enum-told2 .given .1) ∙ c .before .before .token-at .ensures))
 
--- src/fill.rt:29:17
 enum-known-value : tie.Need-enum-known-value Inv-loop μ-loop
 enum-known-value c = search needs
 
@@ -61,24 +49,18 @@ found : (c : tie.After-known-told Inv-loop μ-loop)
     → T.the-variants.Element (c .before .value .given .0 .0) (c .before .value .given .0 .1 .0) (c .before .value .given .0 .1 .1 .0) ≡ firstToken (tokens (c .before .before .before .before .before .before .args .file .now) (c .before .before .before .before .loop .at))
 found c = sym (c .before .value .given .1) ∙ c .before .before .before .token-at .ensures
 
-
--- src/fill.rt:32:17
 mul-value : tie.Need-mul-value Inv-loop μ-loop
 mul-value c = search needs
 
--- src/fill.rt:32:17
 slice-set-from-value : tie.Need-slice-set-from-value Inv-loop μ-loop
 slice-set-from-value c = inside (c .before .before .before .before .loop .inv) (found c)
 
--- src/fill.rt:33:17
 add-i : tie.Need-add-i Inv-loop μ-loop
 add-i c = search needs
 
--- src/fill.rt:19:5
 loop-less : tie.Need-loop-less Inv-loop μ-loop
 loop-less c = omega (arith, later (c .before .before .before .before .loop .inv) (found c))
 
--- src/fill.rt:19:5
 loop-again : tie.Need-loop-again Inv-loop μ-loop
 loop-again c = stored (c .before .before .before .before .loop .inv) (found c)
 
