@@ -20,7 +20,7 @@ use Rattle.dimacs.specs.Format.{Word, words, badTokens}
 use Rattle.rule_tokens.specs.declared.Token as T
 use Rattle.rule_tokens.specs.Laws.{Good, token-end, token-bad, token-good, held, signed-fits}
 use Rattle.rule_tokens.specs.Token.{firstToken}
-use Rattle.rule_reader.specs.declared.check.Check as C
+use Rattle.rule_reader.specs.declared.tokens.Check as C
 use Rattle.rule_reader.specs.Laws.{faultOf, checkAs, open-clause, room-left, refused-malformed, refused-fault, accepted-zero, refused-twice, accepted-literal}
 
 -- the tokens of a file from a place on

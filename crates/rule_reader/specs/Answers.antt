@@ -18,7 +18,7 @@ use Rattle.lent.specs.Sound.{unread}
 use Rattle.dimacs.specs.Format.{pastComments, Header, header, outside, Word, words, element, badTokens, Reading, refuses, gives, readTokens, readFrom, reading}
 use Rattle.rule_header.specs.declared.Heading as H
 use Rattle.rule_header.specs.Heading.{headingAs}
-use Rattle.rule_reader.specs.declared.check.Check as C
+use Rattle.rule_reader.specs.declared.tokens.Check as C
 use Rattle.rule_reader.specs.Laws.{checkAs}
 use Rattle.rule_reader.specs.Read.{readReply, readOutput}
 

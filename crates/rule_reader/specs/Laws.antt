@@ -17,8 +17,8 @@ use Rattle.lent.specs.Limits.{maxLiterals}
 use Rattle.lent.specs.Laws.{scan}
 use Rattle.lent.specs.Sound.{Scan, mayJoin, after}
 use Rattle.dimacs.specs.Format.{Word, signed, element, badToken, badTokens}
-use Rattle.rule_reader.specs.declared.check.Check as C
-use Rattle.rule_reader.specs.declared.check.Check.{Check}
+use Rattle.rule_reader.specs.declared.tokens.Check as C
+use Rattle.rule_reader.specs.declared.tokens.Check.{Check}
 
 -- the causes 6, 7 and 4 of a number of the list, in their order; 0 without one
 abbrev pub faultOf : ℕ → ℕ → ℕ → ℕ → ℕ → ℕ

@@ -1,11 +1,11 @@
 // The reader of the rule file: it checks and counts first, then fills, so that a refusal leaves the
 // lent list alone.
-mod check;
 mod fill;
+mod tokens;
 
-use check::Check;
 use refusal::Refusal;
 use rule_header::Heading;
+use tokens::Check;
 ghost use mathlib.Core.Path.{_≡_};
 ghost use Prim.Native.Nat.{_≤_};
 ghost use Rattle.lent.specs.Limits.{maxVariables, maxClauses};
@@ -67,7 +67,7 @@ fn read_tokens(file: &[u8], from: usize, n: usize, count: usize, rules: &mut [i3
     ensures reply { λ r. ⌜ replyOf r ≡ readReply (tokensRead n count (now (file .entry)) from) (now (rules .entry)) ⌝ }
     ensures output { λ r. ⌜ now (rules .exit) ≡ readOutput (tokensRead n count (now (file .entry)) from) (now (rules .entry)) ⌝ }
 {
-    match check::check_tokens(file, from, n, count) {
+    match tokens::check_tokens(file, from, n, count) {
         Check::Refused(r) => ReadRules::Refused(r),
         Check::Good(needed) => {
             if rules.len() < needed {

@@ -1,8 +1,8 @@
--- `rule_reader::check::fault_of` meets its contract: each return is one of the tests, in their order.
+-- `rule_reader::tokens::fault_of` meets its contract: each return is one of the tests, in their order.
 use borrow.Author.Tests.{lt-ltb, le-ltb, le-leb, lt-leb, eq-eqb, ne-eqb}
 use Rattle.lent.specs.Limits.{maxLiterals}
-use Rattle.rule_reader.proofs.check.fault_of.Statement.{statement}
-use Rattle.rule_reader.proofs.check.fault_of.Tie as tie
+use Rattle.rule_reader.proofs.tokens.fault_of.Statement.{statement}
+use Rattle.rule_reader.proofs.tokens.fault_of.Tie as tie
 
 returns : tie.Need-returns
 returns c = rw (le-leb (c .before .args .count) (c .before .args .clauses) (c .if1 .taken))

@@ -1,8 +1,8 @@
--- `rule_reader::check::finish` meets its contract.
+-- `rule_reader::tokens::finish` meets its contract.
 use borrow.Author.Tests.{lt-ltb, le-ltb}
 use borrow.Author.Needs.{needs}
-use Rattle.rule_reader.proofs.check.finish.Statement.{statement}
-use Rattle.rule_reader.proofs.check.finish.Tie as tie
+use Rattle.rule_reader.proofs.tokens.finish.Statement.{statement}
+use Rattle.rule_reader.proofs.tokens.finish.Tie as tie
 
 returns : tie.Need-returns
 returns c = rw (lt-ltb (c .before .args .clauses) (c .before .args .count) (c .if1 .taken))

@@ -1,9 +1,9 @@
--- `rule_reader::check::no_stamps` meets its contract.
+-- `rule_reader::tokens::no_stamps` meets its contract.
 use mathlib.Core.Path.{_≡_, refl}
 use Prim.Native.Nat.{ℕ, zero, suc}
 use lib.ListN.{getD, replicate}
-use Rattle.rule_reader.proofs.check.no_stamps.Statement.{statement}
-use Rattle.rule_reader.proofs.check.no_stamps.Tie as tie
+use Rattle.rule_reader.proofs.tokens.no_stamps.Statement.{statement}
+use Rattle.rule_reader.proofs.tokens.no_stamps.Tie as tie
 
 zero-at : (k v : ℕ) → getD {A = ℕ} (replicate k 0) v 0 ≡ 0
 zero-at zero v = refl

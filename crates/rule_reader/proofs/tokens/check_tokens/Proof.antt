@@ -1,4 +1,4 @@
--- `rule_reader::check::check_tokens` meets its contract: each turn is one of the laws of `Checking`.
+-- `rule_reader::tokens::check_tokens` meets its contract: each turn is one of the laws of `Checking`.
 use mathlib.Core.Path.{_≡_, sym, ap, _∙_}
 use Prim.Native.Nat.{_-_}
 use borrow.Author.Needs.{needs}
@@ -9,8 +9,8 @@ use Rattle.rule_tokens.specs.declared.Token as T
 use Rattle.rule_tokens.specs.Token.{firstToken}
 use Rattle.rule_reader.specs.Laws.{faultOf}
 use Rattle.rule_reader.proofs.Checking.{tokens, Checking, start, number-held, ended, malformed, later, faulty, closed, below, twice, joined}
-use Rattle.rule_reader.proofs.check.check_tokens.Statement.{statement}
-use Rattle.rule_reader.proofs.check.check_tokens.Tie as tie
+use Rattle.rule_reader.proofs.tokens.check_tokens.Statement.{statement}
+use Rattle.rule_reader.proofs.tokens.check_tokens.Tie as tie
 
 abbrev Inv-loop : tie.InvT-loop
 Inv-loop file from n count stamps₀ clauses₀ literals₀ is-open₀ at₀ stamps clauses literals is-open at =
