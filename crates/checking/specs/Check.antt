@@ -1,5 +1,5 @@
 -- The checking call (document 01, "The wish search"): "A checking call says whether a choice meets all rules, and how many wishes it breaks."
-use mathlib.Core.Bool.{Bool, true, false, cond}
+use mathlib.Core.Bool.{cond}
 use mathlib.Core.List.{List}
 use mathlib.Core.Option.{some}
 use Prim.Native.Nat.{ℕ}

@@ -3,14 +3,13 @@ use mathlib.Core.Path.{_≡_, refl, sym, ap, ap₂, _∙_, subst}
 use mathlib.Core.Bool.{Bool, true, false, cond}
 use mathlib.Core.List.{List, [], _∷_}
 use mathlib.Core.Option.{Option, none, some}
-use Prim.Native.Nat.{ℕ, zero, suc, _+_, _≤_, _<_, zero-le}
+use Prim.Native.Nat.{ℕ, zero, _+_, _≤_, _<_, zero-le}
 use native.Mathlib.Nat.{zero-add}
 use native.Mathlib.Omega.{arith}
 use lib.IntN.{ℤ, pos}
 use lib.ListN.{length, getD, drop, set}
 use Rattle.literal.specs.Literal.{variable}
 use Rattle.formula.specs.Formula.{clauses, literals}
-use Rattle.lent.specs.declared.rules.RuleScan.{RuleScan}
 use Rattle.lent.specs.declared.rules.RuleScan.the-variants.{Unsound, Sound}
 use Rattle.lent.specs.Laws.{scan, rule-closed, rule-clauses, rule-literal, rule-outside, rule-literals, rule-twice, rule-end, zeros, nonzeros, zeros-zero, zeros-literal, zeros-end, zeros-clauses, nonzeros-literals}
 use Rattle.lent.specs.Scans.{ruleScan}

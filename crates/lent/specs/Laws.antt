@@ -1,23 +1,23 @@
 -- The equations by which proofs scan lent lists, element by element.
-use mathlib.Core.Path.{_≡_, refl, sym, ap, ap₂, _∙_}
-use mathlib.Core.Bool.{Bool, true, false, cond, not, _&&_, _||_, true≢false}
+use mathlib.Core.Path.{_≡_, refl, sym, ap, _∙_}
+use mathlib.Core.Bool.{Bool, true, false, cond, _||_, true≢false}
 use mathlib.Core.List.{List, [], _∷_}
-use mathlib.Core.Option.{Option, none, some, Option·some-ne-none}
-use Prim.Native.Nat.{ℕ, zero, suc, _+_, _≤_, _<_, zero-le}
+use mathlib.Core.Option.{none, some, Option·some-ne-none}
+use Prim.Native.Nat.{ℕ, suc, _+_, _≤_, _<_}
 use native.Mathlib.Nat.{zero-lt-suc}
 use native.Mathlib.Numerals.{add-one}
 use native.Mathlib.Omega.{arith}
-use lib.Dec.{eqb, ltb, leb}
+use lib.Dec.{eqb, ltb}
 use lib.IntN.{ℤ, pos}
-use lib.ListN.{length, getD, drop, set, drop-of-length-le}
+use lib.ListN.{length, getD, drop, drop-of-length-le}
 use lib.Seq.{drop-cons}
 use borrow.Author.Tests.{lt-ltb, le-ltb, le-leb, lt-leb, eq-eqb, ne-eqb, eqb-false, ltb-false}
 use Rattle.literal.specs.Literal.{variable}
-use Rattle.formula.specs.Formula.{any, closes, onto, clauses, literals}
+use Rattle.formula.specs.Formula.{closes, onto, clauses, literals}
 use Rattle.distance.specs.Distance.{weight, wishes}
 use Rattle.lent.specs.Lent.{outOfRange}
 use Rattle.lent.specs.Limits.{maxVariables, maxClauses, maxLiterals, maxWishes, maxLimit}
-use Rattle.lent.specs.Sound.{Scan, unread, mayJoin, stands, after, unclosed, badRule, badWish, badChoice}
+use Rattle.lent.specs.Sound.{Scan, mayJoin, stands, unclosed, badRule, badWish, badChoice}
 
 -- a choice: a good byte, a bad byte, the end
 pub choice-good : (a : List ℕ) (i : ℕ) → i < length a → getD a i 0 < 2 → badChoice i (drop i a) ≡ badChoice (i + 1) (drop (i + 1) a)

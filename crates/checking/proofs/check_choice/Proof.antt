@@ -1,7 +1,6 @@
 -- `checking::check_choice` meets its contract: each return is the first of the later causes.
 use mathlib.Core.Path.{_≡_, sym, ap, _∙_}
 use mathlib.Core.Option.{none}
-use lib.ListN.{length}
 use borrow.Author.Needs.{needs}
 use Rattle.refusal.specs.Reply.{refused, cause, causeAt}
 use Rattle.lent.specs.Lent.{wrongLength}
