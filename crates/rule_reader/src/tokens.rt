@@ -1,4 +1,5 @@
 // The first pass over a rule file: whether its tokens are good, and how many there are.
+use literal::Variable;
 use refusal::Refusal;
 use rule_tokens::Token;
 ghost use mathlib.Core.Bool.{false, _||_};
@@ -29,19 +30,19 @@ fn no_stamps() -> [u16; 641]
 
 // The cause to refuse a number of the list, but for a variable that its clause has already: 6 where
 // every clause is closed, 7 where no more literals may come, 4 above n; 0 without a cause.
-fn fault_of(n: usize, count: usize, clauses: usize, literals: usize, v: usize) -> usize
-    ensures { λ r. ⌜ r ≡ faultOf n count clauses literals v ⌝ }
+fn fault_of(n: usize, count: usize, clauses: usize, literals: usize, v: Variable) -> usize
+    ensures { λ r. ⌜ r ≡ faultOf n count clauses literals (v .0) ⌝ }
 {
     if count <= clauses {
         return 6;
     }
-    if v == 0 {
+    if v.0 == 0 {
         return 0;
     }
     if MAX_LITERALS <= literals {
         return 7;
     }
-    if n < v { 4 } else { 0 }
+    if n < v.0 { 4 } else { 0 }
 }
 
 // Checks the tokens from a place on, in a file of n variables and so many clauses. A stamp for each
@@ -65,20 +66,21 @@ pub fn check_tokens(file: &[u8], from: usize, n: usize, count: usize) -> Check
                 return Check::Refused(Refusal { number: 3, place });
             }
             Token::Element { place, value, next } => {
-                let v = literal::variable_of(value).0;
+                let v = literal::variable_of(value);
                 let number = fault_of(n, count, clauses, literals, v);
                 if number != 0 {
                     return Check::Refused(Refusal { number, place });
                 }
-                if v == 0 {
+                let index = v.0;
+                if index == 0 {
                     clauses += 1;
                     is_open = false;
                 } else {
                     let stamp = (clauses + 1) as u16;
-                    if stamps[v] == stamp {
+                    if stamps[index] == stamp {
                         return Check::Refused(Refusal { number: 5, place });
                     }
-                    stamps[v] = stamp;
+                    stamps[index] = stamp;
                     literals += 1;
                     is_open = true;
                 }
