@@ -30,6 +30,7 @@ pastComments true at (b ∷ s) = pastComments (not (eqb b 10)) (suc at) s
 abbrev pub preamble : List ℕ
 preamble = 112 ∷ 32 ∷ 99 ∷ 110 ∷ 102 ∷ 32 ∷ []
 
+-- some bytes begin with others
 abbrev pub startsWith : List ℕ → List ℕ → Bool
 startsWith [] s = true
 startsWith (p ∷ ps) [] = false
@@ -41,6 +42,7 @@ pub record Header : Type 0 where
   pub clauses : ℕ
   pub size : ℕ
 
+-- a header needs both of its numbers
 abbrev pub numbered : Option ℕ → Option ℕ → ℕ → Option Header
 numbered none c size = none
 numbered (some n) none size = none
@@ -70,12 +72,14 @@ pub record Word : Type 0 where
   pub place : ℕ
   pub bytes : List ℕ
 
+-- a blank between tokens, and a byte of one
 abbrev pub isGap : ℕ → Bool
 isGap b = eqb (classOf b) blank
 
 abbrev pub inToken : ℕ → Bool
 inToken b = not (isGap b)
 
+-- a token in front of others, where one starts
 abbrev pub starting : Bool → Word → List Word → List Word
 starting true w ws = w ∷ ws
 starting false w ws = ws
@@ -86,6 +90,7 @@ words inside at [] = []
 words inside at (b ∷ s) =
     starting (not inside && inToken b) (record { place = at; bytes = b ∷ leading inToken s }) (words (inToken b) (suc at) s)
 
+-- a number as it stands, and behind a minus, where 0 is none
 abbrev pub positive : Option ℕ → Option ℤ
 positive none = none
 positive (some v) = some (pos v)
@@ -126,6 +131,7 @@ pub data Reading : Type 0 where
   refuses : Refusal → Reading
   gives : ℕ → ℕ → List ℤ → Reading
 
+-- the reading of good tokens is the list of their numbers
 abbrev pub readTokens : ℕ → ℕ → List Word → Option Refusal → Reading
 readTokens n c ws none = gives n c (map element ws)
 readTokens n c ws (some r) = refuses r

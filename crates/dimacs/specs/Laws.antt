@@ -1,5 +1,5 @@
 -- The equations by which proofs go through the bytes of a file.
-use mathlib.Core.Path.{_≡_, refl, ap, ap₂, _∙_}
+use mathlib.Core.Path.{_≡_, refl, ap, _∙_}
 use mathlib.Core.Bool.{Bool, true, false, cond, not, and-eq-true-iff}
 use mathlib.Core.List.{List, [], _∷_, _++_}
 use Prim.Native.Nat.{ℕ, suc, _+_, _≤_, _<_, zero-le, suc-le-suc}
@@ -8,7 +8,7 @@ use native.Mathlib.Numerals.{add-one}
 use native.Mathlib.Omega.{arith}
 use lib.Dec.{eqb}
 use lib.ListN.{length, getD, take, drop, drop-of-length-le}
-use lib.Seq.{drop-cons, drop-append-add}
+use lib.Seq.{drop-cons, drop-append-add, drop-append-seam}
 use borrow.Author.Tests.{eq-eqb, ne-eqb}
 use Rattle.formula.specs.Formula.{all}
 use Rattle.decimal.specs.Decimal.{isDigit, onlyDigits}
@@ -71,23 +71,6 @@ beyond-digits w stop r h e =
     let next : suc (length w) ≡ length w + 1 = omega arith in
     rw (before-digits w stop r h e, next) (drop-append-add w (stop ∷ r) 1)
 
--- a token and the blank that ends it, in front of more
-pub words-run : (w : List ℕ) (b : ℕ) (r : List ℕ) (at : ℕ) → all inToken w ≡ true → inToken b ≡ false → words true at (w ++ b ∷ r) ≡ words false (suc (at + length w)) r
-words-run [] b r at h e = let same : at + 0 ≡ at = omega arith in rw (e, same)
-words-run (x ∷ w) b r at h e =
-    let parts = and-eq-true-iff (inToken x) (all inToken w) .0 h in
-    let same : suc at + length w ≡ at + suc (length w) = omega arith in
-    rw (parts .0) (words-run w b r (suc at) (parts .1) e ∙ ap (λ (k : ℕ). words false (suc k) r) same)
-
-pub words-token : (w : List ℕ) (b : ℕ) (r : List ℕ) (at : ℕ) → 0 < length w → all inToken w ≡ true → inToken b ≡ false
-    → words false at (w ++ b ∷ r) ≡ record { place = at; bytes = w } ∷ words false (suc (at + length w)) r
-words-token [] b r at l h e = absurd (not-suc-le-zero l)
-words-token (x ∷ w) b r at l h e =
-    let parts = and-eq-true-iff (inToken x) (all inToken w) .0 h in
-    let same : suc at + length w ≡ at + suc (length w) = omega arith in
-    rw (parts .0)
-    (ap₂ (λ (v : List ℕ) (ws : List Word). record { place = at; bytes = x ∷ v } ∷ ws) (leading-seam inToken w b r (parts .1) e) (words-run w b r (suc at) (parts .1) e ∙ ap (λ (k : ℕ). words false (suc k) r) same))
-
 -- how far a run goes from an index on: a byte that passes, one that does not, the end
 pub run-more : (p : ℕ → Bool) (s : List ℕ) (i : ℕ) → i < length s → p (getD s i 0) ≡ true
     → length (leading p (drop i s)) ≡ suc (length (leading p (drop (i + 1) s)))
@@ -126,36 +109,34 @@ run-take p (b ∷ s) = go (p b) (run-take p s)
     go true e = ap (λ (l : List ℕ). b ∷ l) e
     go false e = refl
 
+-- A run of bytes that leave the flag as it is, up to one at which a token may start: the tokens are those past the run.
+words-past : (inside : Bool) (p : ℕ → Bool)
+    → ((b at : ℕ) (s : List ℕ) → p b ≡ true → words inside at (b ∷ s) ≡ words inside (suc at) s)
+    → ((b at : ℕ) (s : List ℕ) → p b ≡ false → words inside at (b ∷ s) ≡ words false at (b ∷ s))
+    → (s : List ℕ) (at : ℕ) → words inside at s ≡ words false (at + length (leading p s)) (drop (length (leading p s)) s)
+words-past inside p more stop [] at = refl
+words-past inside p more stop (b ∷ s) at = go (p b) refl (words-past inside p more stop s (suc at))
+  where
+    go : (t : Bool) → p b ≡ t → words inside (suc at) s ≡ words false (suc at + length (leading p s)) (drop (length (leading p s)) s)
+        → words inside at (b ∷ s) ≡ words false (at + length (leading p (b ∷ s))) (drop (length (leading p (b ∷ s))) (b ∷ s))
+    go true e ih =
+        let same : suc at + length (leading p s) ≡ at + suc (length (leading p s)) = omega arith in
+        let run : suc (length (leading p s)) ≡ length (leading p (b ∷ s)) = rw (e) in
+        more b at s e ∙ ih
+        ∙ ap (λ (k : ℕ). words false k (drop (length (leading p s)) s)) same
+        ∙ ap (λ (k : ℕ). words false (at + k) (drop k (b ∷ s))) run
+    go false e ih =
+        let same : at ≡ at + 0 = omega arith in
+        let none : 0 ≡ length (leading p (b ∷ s)) = rw (e) in
+        stop b at s e ∙ ap (λ (k : ℕ). words false k (b ∷ s)) same ∙ ap (λ (k : ℕ). words false (at + k) (drop k (b ∷ s))) none
+
 -- blanks before the tokens
 pub words-gap : (s : List ℕ) (at : ℕ) → words false at s ≡ words false (at + length (leading isGap s)) (drop (length (leading isGap s)) s)
-words-gap [] at = refl
-words-gap (b ∷ s) at = go (isGap b) refl (words-gap s (suc at))
-  where
-    go : (t : Bool) → isGap b ≡ t → words false (suc at) s ≡ words false (suc at + length (leading isGap s)) (drop (length (leading isGap s)) s)
-        → words false at (b ∷ s) ≡ words false (at + length (leading isGap (b ∷ s))) (drop (length (leading isGap (b ∷ s))) (b ∷ s))
-    go true e ih =
-        let same : suc at + length (leading isGap s) ≡ at + suc (length (leading isGap s)) = omega arith in
-        rw (e) (ih ∙ ap (λ (k : ℕ). words false k (drop (length (leading isGap s)) s)) same)
-    go false e ih =
-        let same : at ≡ at + 0 = omega arith in
-        let none : 0 ≡ length (leading isGap (b ∷ s)) = rw (e) in
-        ap (λ (k : ℕ). words false k (b ∷ s)) same ∙ ap (λ (k : ℕ). words false (at + k) (drop k (b ∷ s))) none
+words-gap = words-past false isGap (λ b at s e. rw e) (λ b at s e. refl)
 
--- the rest of a token that was begun, and what follows it
+-- the rest of a token that was begun
 words-rest : (s : List ℕ) (at : ℕ) → words true at s ≡ words false (at + length (leading inToken s)) (drop (length (leading inToken s)) s)
-words-rest [] at = refl
-words-rest (b ∷ s) at = go (inToken b) refl (words-rest s (suc at))
-  where
-    go : (t : Bool) → inToken b ≡ t → words true (suc at) s ≡ words false (suc at + length (leading inToken s)) (drop (length (leading inToken s)) s)
-        → words true at (b ∷ s) ≡ words false (at + length (leading inToken (b ∷ s))) (drop (length (leading inToken (b ∷ s))) (b ∷ s))
-    go true e ih =
-        let same : suc at + length (leading inToken s) ≡ at + suc (length (leading inToken s)) = omega arith in
-        rw (e) (ih ∙ ap (λ (k : ℕ). words false k (drop (length (leading inToken s)) s)) same)
-    go false e ih =
-        let same : at ≡ at + 0 = omega arith in
-        let none : 0 ≡ length (leading inToken (b ∷ s)) = rw (e) in
-        let begun : words true at (b ∷ s) ≡ words false at (b ∷ s) = rw (e) in
-        begun ∙ ap (λ (k : ℕ). words false k (b ∷ s)) same ∙ ap (λ (k : ℕ). words false (at + k) (drop k (b ∷ s))) none
+words-rest = words-past true inToken (λ b at s e. rw e) (λ b at s e. rw e)
 
 -- the first token of bytes that begin with one, and what follows it
 pub words-first : (s : List ℕ) (at : ℕ) → 0 < length s → inToken (getD s 0 0) ≡ true
@@ -167,3 +148,14 @@ words-first (b ∷ s) at h e =
     rw (e)
     (ap (λ (ws : List Word). record { place = at; bytes = b ∷ leading inToken s } ∷ ws)
     (words-rest s (suc at) ∙ ap (λ (k : ℕ). words false k (drop (length (leading inToken s)) s)) same))
+
+-- a token and the blank that ends it, in front of more
+pub words-token : (w : List ℕ) (b : ℕ) (r : List ℕ) (at : ℕ) → 0 < length w → all inToken w ≡ true → inToken b ≡ false
+    → words false at (w ++ b ∷ r) ≡ record { place = at; bytes = w } ∷ words false (suc (at + length w)) r
+words-token [] b r at l h e = absurd (not-suc-le-zero l)
+words-token (x ∷ w) b r at l h e =
+    let run : leading inToken ((x ∷ w) ++ b ∷ r) ≡ x ∷ w = leading-seam inToken (x ∷ w) b r h e in
+    words-first ((x ∷ w) ++ b ∷ r) at (omega arith) (and-eq-true-iff (inToken x) (all inToken w) .0 h .0)
+    ∙ ap (λ (v : List ℕ). record { place = at; bytes = v } ∷ words false (at + length v) (drop (length v) ((x ∷ w) ++ b ∷ r))) run
+    ∙ ap (λ (t : List ℕ). record { place = at; bytes = x ∷ w } ∷ words false (at + length (x ∷ w)) t) (drop-append-seam (x ∷ w) (b ∷ r))
+    ∙ rw (e)

@@ -1,4 +1,5 @@
 // The bytes of a rule file, written into a buffer that has room for them.
+use literal::Variable;
 ghost use mathlib.Core.Bool.{cond};
 ghost use mathlib.Core.List.{[], _∷_, _++_};
 ghost use mathlib.Core.Path.{_≡_};
@@ -21,10 +22,10 @@ fn put_number(v: usize, after: u8, out: &mut [u8], at: usize) -> usize
 }
 
 // What follows a number of the list: a line feed after 0, else a space.
-fn separator_of(v: usize) -> u8
-    ensures { λ r. ⌜ r ≡ cond (eqb v 0) 10 32 ⌝ }
+fn separator_of(v: Variable) -> u8
+    ensures { λ r. ⌜ r ≡ cond (eqb (v .0) 0) 10 32 ⌝ }
 {
-    if v == 0 { 10 } else { 32 }
+    if v.0 == 0 { 10 } else { 32 }
 }
 
 // Writes an element of the list and what follows it.
@@ -32,13 +33,13 @@ fn put_element(x: i32, out: &mut [u8], at: usize) -> usize
     requires { ⌜ at + length (numeral x) < length (now out) ⌝ }
     ensures { λ r. ⌜ (r ≡ at + length (numeral x) + 1) × (now (out .exit) ≡ sets (now (out .entry)) at (numeral x ++ separator x ∷ [])) ⌝ }
 {
-    let v = literal::variable_of(x).0;
+    let v = literal::variable_of(x);
     let after = separator_of(v);
     if literal::wanted_by(x) == 0 {
         out[at] = 45;
-        put_number(v, after, out, at + 1)
+        put_number(v.0, after, out, at + 1)
     } else {
-        put_number(v, after, out, at)
+        put_number(v.0, after, out, at)
     }
 }
 

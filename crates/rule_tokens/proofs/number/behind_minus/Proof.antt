@@ -13,15 +13,12 @@ use borrow.Author.Needs.{needs}
 use Rattle.rule_tokens.proofs.number.behind_minus.Statement.{statement}
 use Rattle.rule_tokens.proofs.number.behind_minus.Tie as tie
 
--- src/number.rt:71:28
 number-of-requires : tie.Need-number-of-requires
 number-of-requires c κs = search needs
 
--- src/number.rt:71:23
 enum-known-v : tie.Need-enum-known-v
 enum-known-v c = search needs
 
--- src/number.rt:72:9
 enum-told : tie.Need-enum-told
 enum-told c = search needs
 
@@ -30,22 +27,18 @@ read : (c : tie.After-known-told) → number (c .before .before .before .before 
 read c =
     number-some (number (c .before .before .before .before .before .args .digits .now)) (c .before .v .given .0 .0) (sym (c .before .before .before .number-of .ensures) ∙ c .before .v .given .1)
 
--- src/number.rt:72:9
 returns : tie.Need-returns
 returns c =
     let w = c .before .before .before .before .args .digits .now in
     sym (ap (λ (o : Option ℕ). numeralAs (negative o)) (number-none (number w) (sym (c .before .before .number-of .ensures) ∙ c .enum-told .given .1)))
 
--- src/number.rt:75:9
 returns-2 : tie.Need-returns-2
 returns-2 c =
     sym (ap (λ (o : Option ℕ). numeralAs (negative o)) (read (c .before)) ∙ ap numeralAs (negative-zero (c .before .before .v .given .0 .0) (c .if1 .taken)))
 
--- src/number.rt:77:20
 negative-of-requires : tie.Need-negative-of-requires
 negative-of-requires c κs = number-small (c .before .before .before .before .before .before .args .digits .now) (c .before .before .v .given .0 .0) (read (c .before))
 
--- src/number.rt:68:1
 returns-3 : tie.Need-returns-3
 returns-3 c =
     let v = c .before .before .before .v .given .0 .0 in

@@ -14,15 +14,12 @@ use Rattle.rule_tokens.proofs.number.negative_of.Tie as tie
 negated : (v : ℕ) → v < 100000 → pos 0 -ℤ toZ w32 v ≡ negℤ (pos v)
 negated v h = rw (toZ-pos w32 v (omega arith)) (+ℤ-idl (negℤ (pos v)))
 
--- src/number.rt:72:7
 cast-result : tie.Need-cast-result
 cast-result c = search needs
 
--- src/number.rt:72:5
 sub-result : tie.Need-sub-result
 sub-result c = rw (negated (c .args .v) (c .pre)) (negative-fits (c .args .v) (c .pre))
 
--- src/number.rt:68:1
 returns : tie.Need-returns
 returns c = ap (λ (z : ℤ). toZ w32 (ofZ w32 z)) (negated (c .args .v) (c .pre)) ∙ toZ-ofZ w32 (negℤ (pos (c .args .v))) (negative-fits (c .args .v) (c .pre))
 

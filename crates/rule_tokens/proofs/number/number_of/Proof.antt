@@ -18,30 +18,24 @@ Inv-loop word first value₀ i₀ value i = (number word ≡ numberAfter value (
 abbrev μ-loop : tie.MeasureT-loop
 μ-loop word first value₀ i₀ value i = length word - i
 
--- src/number.rt:27:9
 returns : tie.Need-returns Inv-loop μ-loop
 returns c = sym (ap numberAs (number-empty (c .before .before .args .word .now) (c .if1 .taken)))
 
--- src/number.rt:29:17
 shared-slice-read-first : tie.Need-shared-slice-read-first Inv-loop μ-loop
 shared-slice-read-first c = search needs
 
--- src/number.rt:30:8
 class-of-requires : tie.Need-class-of-requires Inv-loop μ-loop
 class-of-requires c κs = search needs
 
--- src/number.rt:31:9
 returns-2 : tie.Need-returns-2 Inv-loop μ-loop
 returns-2 c =
     let w = c .before .before .before .before .before .args .word .now in
     sym (ap numberAs (number-other w (omega (arith, c .before .before .before .if1 .left)) (λ e. c .if2 .taken (c .before .class-of .ensures ∙ e))))
 
--- src/number.rt:33:9
 digit-value-requires : tie.Need-digit-value-requires Inv-loop μ-loop
 digit-value-requires c κs =
     digit-least (getD (c .before .before .before .before .before .args .word .now) 0 0) (sym (c .before .class-of .ensures) ∙ c .if2 .left)
 
--- src/number.rt:35:5
 loop-holds : tie.Need-loop-holds Inv-loop μ-loop
 loop-holds c =
     let w = c .before .before .before .before .before .before .args .word .now in
@@ -50,55 +44,44 @@ loop-holds c =
       omega (arith, digit-most (getD w 0 0) is-digit, c .digit-value .ensures),
     )
 
--- src/number.rt:36:17
 shared-slice-read-b : tie.Need-shared-slice-read-b Inv-loop μ-loop
 shared-slice-read-b c = search needs
 
--- src/number.rt:37:12
 class-of-requires-2 : tie.Need-class-of-requires-2 Inv-loop μ-loop
 class-of-requires-2 c κs = search needs
 
--- src/number.rt:38:13
 returns-3 : tie.Need-returns-3 Inv-loop μ-loop
 returns-3 c =
     let w = c .before .before .before .before .before .before .before .before .before .before .before .args .word .now in
     sym (ap numberAs (c .before .before .before .before .loop .inv .0 ∙ after-other w (c .before .before .before .before .loop .value) (c .before .before .before .before .loop .i) (c .before .before .before .loop-test .taken) (λ e. c .if3 .taken (c .before .class-of2 .ensures ∙ e))))
 
--- src/number.rt:41:13
 returns-4 : tie.Need-returns-4 Inv-loop μ-loop
 returns-4 c =
     let w = c .before .before .before .before .before .before .before .before .before .before .before .before .args .word .now in
     sym (ap numberAs (c .before .before .before .before .before .loop .inv .0 ∙ after-zero w (c .before .before .before .before .before .loop .value) (c .before .before .before .before .before .loop .i) (c .before .before .before .before .loop-test .taken) (c .if4 .taken)))
 
--- src/number.rt:44:13
 returns-5 : tie.Need-returns-5 Inv-loop μ-loop
 returns-5 c =
     let w = c .before .before .before .before .before .before .before .before .before .before .before .before .before .args .word .now in
     sym (ap numberAs (c .before .before .before .before .before .before .loop .inv .0 ∙ after-many w (c .before .before .before .before .before .before .loop .value) (c .before .before .before .before .before .before .loop .i) (c .before .before .before .before .before .loop-test .taken) (c .if5 .taken)))
 
--- src/number.rt:46:17
 mul-value : tie.Need-mul-value Inv-loop μ-loop
 mul-value c = search needs
 
--- src/number.rt:46:30
 digit-value-requires-2 : tie.Need-digit-value-requires-2 Inv-loop μ-loop
 digit-value-requires-2 c κs =
     digit-least (getD (c .before .before .before .before .before .before .before .before .before .before .before .before .before .args .word .now) (c .before .before .before .before .before .before .loop .i) 0) (sym (c .before .before .before .class-of2 .ensures) ∙ c .before .before .if3 .left)
 
--- src/number.rt:46:17
 add-value : tie.Need-add-value Inv-loop μ-loop
 add-value c =
     omega (arith, digit-most (getD (c .before .before .before .before .before .before .before .before .before .before .before .before .before .before .args .word .now) (c .before .before .before .before .before .before .before .loop .i) 0) (sym (c .before .before .before .before .class-of2 .ensures) ∙ c .before .before .before .if3 .left), c .digit-value2 .ensures)
 
--- src/number.rt:47:9
 add-i : tie.Need-add-i Inv-loop μ-loop
 add-i c = search needs
 
--- src/number.rt:35:5
 loop-less : tie.Need-loop-less Inv-loop μ-loop
 loop-less c = search needs
 
--- src/number.rt:35:5
 loop-again : tie.Need-loop-again Inv-loop μ-loop
 loop-again c =
     let w = c .before .before .before .before .before .before .before .before .before .before .before .before .before .before .args .word .now in
@@ -111,7 +94,6 @@ loop-again c =
       omega (arith, digit-most (getD w i 0) is-digit, c .digit-value2 .ensures),
     )
 
--- src/number.rt:23:1
 returns-6 : tie.Need-returns-6 Inv-loop μ-loop
 returns-6 c =
     let w = c .before .before .before .before .before .before .before .before .args .word .now in

@@ -14,50 +14,39 @@ use borrow.Author.Needs.{needs}
 use Rattle.rule_tokens.proofs.number.numeral_of.Statement.{statement}
 use Rattle.rule_tokens.proofs.number.numeral_of.Tie as tie
 
--- src/number.rt:57:9
 returns : tie.Need-returns
 returns c = sym (ap numeralAs (signed-empty (c .before .before .args .word .now) (c .if1 .taken)))
 
--- src/number.rt:59:25
 shared-slice-read-class-of : tie.Need-shared-slice-read-class-of
 shared-slice-read-class-of c = search needs
 
--- src/number.rt:59:8
 class-of-requires : tie.Need-class-of-requires
 class-of-requires c κs = search needs
 
--- src/number.rt:60:29
 sub-behind-minus : tie.Need-sub-behind-minus
 sub-behind-minus c = search needs
 
--- src/number.rt:60:29
 part-behind-minus-start : tie.Need-part-behind-minus-start
 part-behind-minus-start c = search needs
 
--- src/number.rt:60:29
 part-behind-minus-end : tie.Need-part-behind-minus-end
 part-behind-minus-end c = search needs
 
--- src/number.rt:60:9
 behind-minus-requires : tie.Need-behind-minus-requires
 behind-minus-requires c κs = search needs
 
--- src/number.rt:60:9
 returns-2 : tie.Need-returns-2
 returns-2 c =
     let w = c .before .before .before .before .before .before .before .args .word .now in
     c .behind-minus .ensures
     ∙ sym (ap numeralAs (signed-minus w (omega (arith, c .before .before .before .before .before .if1 .left)) (sym (c .before .before .before .class-of .ensures) ∙ c .before .before .if2 .taken)))
 
--- src/number.rt:62:28
 number-of-requires : tie.Need-number-of-requires
 number-of-requires c κs = search needs
 
--- src/number.rt:62:23
 enum-known-v : tie.Need-enum-known-v
 enum-known-v c = search needs
 
--- src/number.rt:63:9
 enum-told : tie.Need-enum-told
 enum-told c = search needs
 
@@ -68,7 +57,6 @@ read : (c : tie.After-known-told) → number (c .before .before .before .before 
 read c =
     number-some (number (c .before .before .before .before .before .before .before .before .before .args .word .now)) (c .before .v .given .0 .0) (sym (c .before .before .before .number-of .ensures) ∙ c .before .v .given .1)
 
--- src/number.rt:63:9
 returns-3 : tie.Need-returns-3
 returns-3 c =
     let w = c .before .before .before .before .before .before .before .before .args .word .now in
@@ -76,11 +64,9 @@ returns-3 c =
     (ap numeralAs (plain (c .before .before .before))
     ∙ ap (λ (o : Option ℕ). numeralAs (positive o)) (number-none (number w) (sym (c .before .before .number-of .ensures) ∙ c .enum-told .given .1)))
 
--- src/number.rt:65:20
 positive-of-requires : tie.Need-positive-of-requires
 positive-of-requires c κs = number-small (c .before .before .before .before .before .before .before .before .before .args .word .now) (c .before .v .given .0 .0) (read c)
 
--- src/number.rt:53:1
 returns-4 : tie.Need-returns-4
 returns-4 c =
     let v = c .before .before .v .given .0 .0 in

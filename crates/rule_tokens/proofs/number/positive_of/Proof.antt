@@ -6,11 +6,9 @@ use borrow.Author.Needs.{needs}
 use Rattle.rule_tokens.proofs.number.positive_of.Statement.{statement}
 use Rattle.rule_tokens.proofs.number.positive_of.Tie as tie
 
--- src/number.rt:65:5
 cast-result : tie.Need-cast-result
 cast-result c = search needs
 
--- src/number.rt:61:1
 returns : tie.Need-returns
 returns c = toZ-pos w32 (c .args .v) (omega arith)
 

@@ -17,36 +17,28 @@ Inv-loop rules total₀ i₀ total i = (i ≤ length rules) × (total ≤ 12 * i
 abbrev μ-loop : tie.MeasureT-loop
 μ-loop rules total₀ i₀ total i = length rules - i
 
--- src/count.rt:26:5
 loop-holds : tie.Need-loop-holds Inv-loop μ-loop
 loop-holds c = search needs
 
--- src/count.rt:27:33
 mul-element-length : tie.Need-mul-element-length Inv-loop μ-loop
 mul-element-length c = search needs
 
--- src/count.rt:27:33
 shared-slice-copy-out-element-length :
     tie.Need-shared-slice-copy-out-element-length Inv-loop μ-loop
 shared-slice-copy-out-element-length c = search needs
 
--- src/count.rt:27:18
 element-length-requires : tie.Need-element-length-requires Inv-loop μ-loop
 element-length-requires c κs = search needs
 
--- src/count.rt:27:9
 add-total : tie.Need-add-total Inv-loop μ-loop
 add-total c = search needs
 
--- src/count.rt:28:9
 add-i : tie.Need-add-i Inv-loop μ-loop
 add-i c = search needs
 
--- src/count.rt:26:5
 loop-less : tie.Need-loop-less Inv-loop μ-loop
 loop-less c = search needs
 
--- src/count.rt:26:5
 loop-again : tie.Need-loop-again Inv-loop μ-loop
 loop-again c =
     let l = c .before .before .before .before .args .rules .now in
@@ -56,7 +48,6 @@ loop-again c =
     c .element-length .ensures .0 ∙ ap (λ (z : ℤ). length (numeral z) + 1) (as-read x (c .before .element-length-arg .given)) in
     omega (arith, size, c .element-length .ensures .1, body-length-step l i (c .before .before .loop-test .taken))
 
--- src/count.rt:20:1
 returns : tie.Need-returns Inv-loop μ-loop
 returns c =
     omega (arith, ap length (body-past (c .before .before .args .rules .now) (c .before .loop .i) (c .loop-test .left)))

@@ -12,15 +12,12 @@ use borrow.Author.Needs.{needs}
 use Rattle.rule_writer.proofs.count.element_length.Statement.{statement}
 use Rattle.rule_writer.proofs.count.element_length.Tie as tie
 
--- src/count.rt:11:39
 variable-of-requires : tie.Need-variable-of-requires
 variable-of-requires c κs = search needs
 
--- src/count.rt:11:9
 digit-count-requires : tie.Need-digit-count-requires
 digit-count-requires c κs = search needs
 
--- src/count.rt:12:8
 wanted-by-requires : tie.Need-wanted-by-requires
 wanted-by-requires c κs = search needs
 
@@ -29,15 +26,12 @@ digits-are c =
     c .digit-count .ensures
     ∙ ap (λ (v : ℕ). length (decimal v)) (c .before .variable-of .ensures ∙ ap variable (toZ-ofZ w32 (c .before .before .args .x) (c .before .before .fits .x)))
 
--- src/count.rt:13:9
 add-result : tie.Need-add-result
 add-result c = omega (arith, digits-are (c .before .before), variable-most (c .before .before .before .before .args .x) (c .before .before .before .before .fits .x .sfits))
 
--- src/count.rt:15:9
 add-result-2 : tie.Need-add-result-2
 add-result-2 c = omega (arith, digits-are (c .before .before), variable-most (c .before .before .before .before .args .x) (c .before .before .before .before .fits .x .sfits))
 
--- src/count.rt:8:1
 returns : tie.Need-returns
 returns c =
     let x = c .before .before .before .before .args .x in
@@ -45,7 +39,6 @@ returns c =
     let off : wanted x ≡ 0 = ap wanted (sym (toZ-ofZ w32 x fits)) ∙ sym (c .before .wanted-by .ensures) ∙ c .if1 .taken in
     omega (arith, digits-are (c .before .before), variable-most x (fits .sfits), ap length (numeral-off x off))
 
--- src/count.rt:8:1
 returns-2 : tie.Need-returns-2
 returns-2 c =
     let x = c .before .before .before .before .args .x in

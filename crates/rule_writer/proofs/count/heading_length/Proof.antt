@@ -9,11 +9,9 @@ use borrow.Author.Needs.{needs}
 use Rattle.rule_writer.proofs.count.heading_length.Statement.{statement}
 use Rattle.rule_writer.proofs.count.heading_length.Tie as tie
 
--- src/count.rt:37:5
 digit-count-requires : tie.Need-digit-count-requires
 digit-count-requires c κs = search needs
 
--- src/count.rt:37:31
 digit-count-requires-2 : tie.Need-digit-count-requires-2
 digit-count-requires-2 c κs = search needs
 
@@ -21,15 +19,12 @@ digit-count-requires-2 c κs = search needs
 most : (v : ℕ) → v < 2 ^ 64 → length (decimal v) ≤ 20
 most v h = count-most 19 v (omega arith)
 
--- src/count.rt:37:5
 add-result : tie.Need-add-result
 add-result c = omega (arith, most (c .before .before .args .n) (c .before .before .fits .n .fits), most (c .before .before .args .clauses) (c .before .before .fits .clauses .fits), c .before .digit-count .ensures, c .digit-count2 .ensures)
 
--- src/count.rt:37:5
 add-result-2 : tie.Need-add-result-2
 add-result-2 c = omega (arith, most (c .before .before .args .n) (c .before .before .fits .n .fits), most (c .before .before .args .clauses) (c .before .before .fits .clauses .fits), c .before .digit-count .ensures, c .digit-count2 .ensures)
 
--- src/count.rt:34:1
 returns : tie.Need-returns
 returns c = omega (arith, most (c .before .before .args .n) (c .before .before .fits .n .fits), most (c .before .before .args .clauses) (c .before .before .fits .clauses .fits), c .before .digit-count .ensures, c .digit-count2 .ensures, heading-length (c .before .before .args .n) (c .before .before .args .clauses))
 

@@ -19,19 +19,15 @@ Inv-loop rules out₀ from at₀ i₀ out at i = (length out ≡ length out₀) 
 abbrev μ-loop : tie.MeasureT-loop
 μ-loop rules out₀ from at₀ i₀ out at i = length rules - i
 
--- src/put.rt:52:5
 loop-holds : tie.Need-loop-holds Inv-loop μ-loop
 loop-holds c = search needs
 
--- src/put.rt:53:26
 mul-put-element : tie.Need-mul-put-element Inv-loop μ-loop
 mul-put-element c = search needs
 
--- src/put.rt:53:26
 shared-slice-copy-out-put-element : tie.Need-shared-slice-copy-out-put-element Inv-loop μ-loop
 shared-slice-copy-out-put-element c = search needs
 
--- src/put.rt:53:9
 put-element-requires : tie.Need-put-element-requires Inv-loop μ-loop
 put-element-requires c κs =
     let args = c .before .before .before .before .before .args in
@@ -43,15 +39,12 @@ put-element-requires c κs =
       body-length-step (args .rules .now) i (c .before .before .loop-test .taken),
     )
 
--- src/put.rt:54:9
 add-i : tie.Need-add-i Inv-loop μ-loop
 add-i c = search needs
 
--- src/put.rt:52:5
 loop-less : tie.Need-loop-less Inv-loop μ-loop
 loop-less c = search needs
 
--- src/put.rt:52:5
 loop-again : tie.Need-loop-again Inv-loop μ-loop
 loop-again c =
     let args = c .before .before .before .before .before .before .before .before .args in
@@ -71,11 +64,9 @@ loop-again c =
           ∙ loop .inv .2,
     )
 
--- src/put.rt:46:1
 same-length : tie.Need-same-length Inv-loop μ-loop
 same-length c = search needs
 
--- src/put.rt:46:1
 returns : tie.Need-returns Inv-loop μ-loop
 returns c =
     let args = c .before .before .before .args in

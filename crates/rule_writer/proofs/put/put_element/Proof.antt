@@ -10,23 +10,18 @@ use Rattle.rule_writer.specs.Laws.{element-on, element-off, length-on, l
 use Rattle.rule_writer.proofs.put.put_element.Statement.{statement}
 use Rattle.rule_writer.proofs.put.put_element.Tie as tie
 
--- src/put.rt:35:13
 variable-of-requires : tie.Need-variable-of-requires
 variable-of-requires c κs = search needs
 
--- src/put.rt:36:9
 separator-of-requires : tie.Need-separator-of-requires
 separator-of-requires c κs = search needs
 
--- src/put.rt:37:8
 wanted-by-requires : tie.Need-wanted-by-requires
 wanted-by-requires c κs = search needs
 
--- src/put.rt:38:9
 slice-write-out : tie.Need-slice-write-out
 slice-write-out c = search needs
 
--- src/put.rt:39:35
 add-put-number : tie.Need-add-put-number
 add-put-number c = search needs
 
@@ -44,7 +39,6 @@ is-on c e =
     let start = c .before .before .before .before .before in
     c .if1 .left (c .before .wanted-by .ensures ∙ ap wanted (toZ-ofZ w32 (start .args .x) (start .fits .x)) ∙ e)
 
--- src/put.rt:39:9
 put-number-requires : tie.Need-put-number-requires
 put-number-requires c κs =
     let args = c .before .before .before .before .before .before .args in
@@ -56,7 +50,6 @@ put-number-requires c κs =
       length-off (args .x) v after (is-variable (c .before .before .before .before)) (c .before .before .before .separator-of .ensures) (args .out .now) (args .at) (is-off (c .before)),
     )
 
--- src/put.rt:41:9
 put-number-requires-2 : tie.Need-put-number-requires-2
 put-number-requires-2 c κs =
     let args = c .before .before .before .before .before .before .args in
@@ -67,13 +60,11 @@ put-number-requires-2 c κs =
       length-on (args .x) v after (is-variable (c .before .before .before .before)) (c .before .before .before .separator-of .ensures) (args .out .now) (args .at) (is-on (c .before)),
     )
 
--- src/put.rt:31:1
 same-length : tie.Need-same-length
 same-length c =
     let args = c .before .before .before .before .before .before .before .before .before .args in
     c .before .before .put-number .kept .1 .1 .0 ∙ length-set (args .out .now) (args .at) 45
 
--- src/put.rt:31:1
 returns : tie.Need-returns
 returns c =
     let args = c .before .before .before .before .before .before .before .before .before .args in
@@ -87,11 +78,9 @@ returns c =
       call .1 ∙ element-off (args .x) v after same follows (args .out .now) (args .at) off,
     )
 
--- src/put.rt:31:1
 same-length-2 : tie.Need-same-length-2
 same-length-2 c = search needs
 
--- src/put.rt:31:1
 returns-2 : tie.Need-returns-2
 returns-2 c =
     let args = c .before .before .before .before .before .before .before .before .before .args in

@@ -11,17 +11,14 @@ use Rattle.rule_writer.specs.Laws.{heading-parts}
 use Rattle.rule_writer.proofs.put.put_heading.Statement.{statement}
 use Rattle.rule_writer.proofs.put.put_heading.Tie as tie
 
--- src/put.rt:77:5
 put-preamble-requires : tie.Need-put-preamble-requires
 put-preamble-requires c κs = search needs
 
--- src/put.rt:78:9
 put-number-requires : tie.Need-put-number-requires
 put-number-requires c κs =
     let args = c .before .before .before .before .before .before .args in
     omega (arith, c .before .before .before .put-preamble .kept .0, heading-length (args .n) (args .clauses))
 
--- src/put.rt:79:5
 put-number-requires-2 : tie.Need-put-number-requires-2
 put-number-requires-2 c κs =
     let args = c .before .before .before .before .before .before .before .before .before .before .args in
@@ -33,11 +30,9 @@ put-number-requires-2 c κs =
       heading-length (args .n) (args .clauses),
     )
 
--- src/put.rt:73:1
 same-length : tie.Need-same-length
 same-length c = search needs
 
--- src/put.rt:73:1
 returns : tie.Need-returns
 returns c =
     let args = c .before .before .before .before .before .before .before .before .before .before .before .before .before .args in

@@ -10,23 +10,18 @@ use Rattle.decimal.specs.Laws.{sets-append}
 use Rattle.rule_writer.proofs.put.put_number.Statement.{statement}
 use Rattle.rule_writer.proofs.put.put_number.Tie as tie
 
--- src/put.rt:18:9
 put-decimal-requires : tie.Need-put-decimal-requires
 put-decimal-requires c κs = search needs
 
--- src/put.rt:19:5
 slice-write-out : tie.Need-slice-write-out
 slice-write-out c = search needs
 
--- src/put.rt:20:5
 add-result : tie.Need-add-result
 add-result c = search needs
 
--- src/put.rt:14:1
 same-length : tie.Need-same-length
 same-length c = search needs
 
--- src/put.rt:14:1
 returns : tie.Need-returns
 returns c =
     let args = c .before .before .before .before .before .args in

@@ -3,13 +3,11 @@ use borrow.Author.Tests.{eq-eqb, ne-eqb}
 use Rattle.rule_writer.proofs.put.separator_of.Statement.{statement}
 use Rattle.rule_writer.proofs.put.separator_of.Tie as tie
 
--- src/put.rt:24:1
 returns : tie.Need-returns
-returns c = rw (eq-eqb (c .before .args .v) 0 (c .if1 .taken))
+returns c = rw (eq-eqb (c .before .before .args .v .0) 0 (c .if1 .taken))
 
--- src/put.rt:24:1
 returns-2 : tie.Need-returns-2
-returns-2 c = rw (ne-eqb (c .before .args .v) 0 (c .if1 .left))
+returns-2 c = rw (ne-eqb (c .before .before .args .v .0) 0 (c .if1 .left))
 
 pub separator-of-spec : {M : Type 1} → statement M
 separator-of-spec = tie.close (tie.spec returns returns-2)
