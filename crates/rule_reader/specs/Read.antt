@@ -5,9 +5,8 @@ use lib.Dec.{ltb}
 use lib.IntN.{ℤ}
 use lib.ListN.{length}
 use Rattle.refusal.specs.declared.Refusal.{Refusal}
-use Rattle.refusal.specs.Reply.{Reply, cause, refusing, answering, unless}
+use Rattle.refusal.specs.Reply.{Reply, cause, refusing, answering, unless, filled}
 use Rattle.dimacs.specs.Format.{Reading, refuses, gives}
-use Rattle.dimacs.specs.Output.{filled}
 use Rattle.rule_reader.specs.declared.ReadRules.{ReadRules}
 use Rattle.rule_reader.specs.declared.ReadRules.the-variants.{Refused, Read}
 

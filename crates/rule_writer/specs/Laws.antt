@@ -17,13 +17,12 @@ use Rattle.formula.specs.Formula.{clauses}
 use borrow.Author.Tests.{lt-ltb, le-ltb}
 use Rattle.refusal.specs.Laws.{first-last}
 use Rattle.refusal.specs.declared.Refusal.{Refusal}
-use Rattle.refusal.specs.Reply.{Reply, refusal, cause, refusing, answering, unless}
+use Rattle.refusal.specs.Reply.{Reply, refusal, cause, refusing, answering, unless, filled}
 use Rattle.lent.specs.Lent.{refusalOf, outOfRange}
 use Rattle.lent.specs.Sound.{unread, badRule}
 use Rattle.decimal.specs.Decimal.{decimal}
 use Rattle.decimal.specs.Laws.{sets-append, count-most}
 use Rattle.dimacs.specs.Format.{preamble}
-use Rattle.dimacs.specs.Output.{filled}
 use Rattle.dimacs.specs.Written.{numeral, separator, body, heading, written}
 use Rattle.rule_writer.specs.Write.{lentToWrite}
 

@@ -4,9 +4,8 @@ use mathlib.Core.Option.{none}
 use Prim.Native.Nat.{ℕ}
 use lib.IntN.{ℤ}
 use lib.ListN.{length}
-use Rattle.refusal.specs.Reply.{Reply, refusing, answering, unless}
+use Rattle.refusal.specs.Reply.{Reply, refusing, answering, unless, filled}
 use Rattle.lent.specs.Lent.{Lent, refusalOf}
-use Rattle.dimacs.specs.Output.{filled}
 use Rattle.dimacs.specs.Written.{written}
 use Rattle.rule_writer.specs.declared.WrittenRules.{WrittenRules}
 use Rattle.rule_writer.specs.declared.WrittenRules.the-variants.{Refused, Written}

@@ -12,7 +12,7 @@ use borrow.Author.Tests.{ne-eqb, le-ltb, lt-leb, eqb-false, ltb-false, leb-false
 use Rattle.distance.specs.Distance.{wishes}
 use Rattle.distance.specs.Laws.{weight-most}
 use Rattle.refusal.specs.declared.Refusal.{Refusal}
-use Rattle.refusal.specs.Laws.{first-last, cause-none}
+use Rattle.refusal.specs.Laws.{first-last, cause-none, no-first}
 use Rattle.refusal.specs.Reply.{refusal, first, cause}
 use Rattle.lent.specs.Limits.{maxWishVariables, maxWishes, maxLimit}
 use Rattle.lent.specs.Sound.{badWish}
@@ -143,11 +143,6 @@ two (a ∷ b ∷ c ∷ vs) e = absurd (omega arith)
 three : (vs : List ℕ) → length vs ≡ 3 → getD vs 0 0 ∷ getD vs 1 0 ∷ getD vs 2 0 ∷ [] ≡ vs
 three [] e = absurd (omega arith)
 three (a ∷ vs) e = ap (λ (us : List ℕ). a ∷ us) (two vs (omega arith))
-
--- where none of several causes applies, the first does not
-pub no-first : (o : Option Refusal) (causes : List (Option Refusal)) → first (o ∷ causes) ≡ none → (o ≡ none) × (first causes ≡ none)
-no-first none causes e = (refl, e)
-no-first (some r) causes e = absurd (Option·some-ne-none r e)
 
 -- a line that is not refused is that of its wish, which fits
 wish-written : (n last at : ℕ) (s : List ℕ) → badLine n last at (lineNumbers wishColumns s) ≡ none

@@ -5,8 +5,7 @@ use Prim.Native.Nat.{ℕ}
 use lib.Dec.{ltb}
 use lib.ListN.{length}
 use Rattle.refusal.specs.declared.Refusal.{Refusal}
-use Rattle.refusal.specs.Reply.{Reply, cause, refusing, answering, unless}
-use Rattle.dimacs.specs.Output.{filled}
+use Rattle.refusal.specs.Reply.{Reply, cause, refusing, answering, unless, filled}
 use Rattle.wish_file.specs.Format.{Reading, refuses, gives, reading}
 use Rattle.wish_reader.specs.declared.scan.FileScan as S
 use Rattle.wish_reader.specs.declared.scan.FileScan.{FileScan}

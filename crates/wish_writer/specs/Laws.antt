@@ -13,7 +13,7 @@ use lib.Seq.{sets, sets-eq, drop-cons}
 use borrow.Author.Tests.{lt-ltb, le-ltb, ltb-false, eqb-true, not-false}
 use Rattle.distance.specs.Distance.{wishes}
 use Rattle.refusal.specs.declared.Refusal.{Refusal}
-use Rattle.refusal.specs.Laws.{cause-none}
+use Rattle.refusal.specs.Laws.{cause-none, no-first}
 use Rattle.refusal.specs.Reply.{Reply, refusal, first, cause, causeAt, refusing, answering}
 use Rattle.lent.specs.Laws.{in-range}
 use Rattle.lent.specs.Lent.{refusalOf, outOfRange, oversized}
@@ -24,7 +24,7 @@ use Rattle.decimal.specs.Laws.{sets-append}
 use Rattle.wish_file.specs.Format.{written, fileSize, wishLines}
 use Rattle.wish_file.specs.Layout.{columnWidth, column, line}
 use Rattle.wish_file.specs.LayoutLaws.{column-length, line-length}
-use Rattle.wish_file.specs.RoundTrip.{no-first, wishes-most, written-length}
+use Rattle.wish_file.specs.RoundTrip.{wishes-most, written-length}
 use Rattle.wish_file.specs.Wishes.{wishList}
 use Rattle.wish_writer.specs.Write.{lentToWrite, writeReply, writeOutput, wishScan}
 use Rattle.wish_writer.specs.declared.WishScan.{WishScan}

@@ -5,10 +5,9 @@ use Prim.Native.Nat.{ℕ}
 use lib.ListN.{length}
 use Rattle.distance.specs.Distance.{wishes}
 use Rattle.refusal.specs.declared.Refusal.{Refusal}
-use Rattle.refusal.specs.Reply.{Reply, refusing, answering, unless}
+use Rattle.refusal.specs.Reply.{Reply, refusing, answering, unless, filled}
 use Rattle.lent.specs.Lent.{Lent, refusalOf}
 use Rattle.wish_file.specs.Format.{written, fileSize}
-use Rattle.dimacs.specs.Output.{filled}
 use Rattle.wish_writer.specs.declared.WishScan as S
 use Rattle.wish_writer.specs.declared.WishScan.{WishScan}
 use Rattle.wish_writer.specs.declared.WrittenWishes.{WrittenWishes}
