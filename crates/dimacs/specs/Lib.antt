@@ -1,5 +1,4 @@
 pub mod Class
-pub mod Examples
 pub mod Format
 pub mod Laws
 pub mod RoundTrip

@@ -1,11 +1,16 @@
--- The cases that document 01 marks with a star ("Examples"), in one list that one theorem covers: so far those of nearest and the limit, to which the files' cases come.
+-- The cases that document 01 marks with a star ("Examples"), in one list that one theorem covers.
 use mathlib.Core.Path.{_≡_, refl}
-use mathlib.Core.List.{List, [], _∷_, map}
+use mathlib.Core.List.{List, [], _∷_, _++_, map}
 use mathlib.Core.Option.{Option, none, some}
 use Prim.Native.Nat.{ℕ}
 use lib.IntN.{ℤ, pos}
+use lib.ListN.{length, take}
 use Rattle.distance.specs.Distance.{disagreement, least, nearest, within}
-use Rattle.refusal.specs.Reply.{Reply, answering}
+use Rattle.refusal.specs.Reply.{Reply, refusal, refusing, answering}
+use Rattle.dimacs.specs.Class.{classOf}
+use Rattle.dimacs.specs.Format as rule
+use Rattle.wish_file.specs.Format as wish
+use Rattle.wish_file.specs.Examples as example
 
 -- what the definitions give, and what document 01 states
 pub record Case : Type 0 where
@@ -24,11 +29,25 @@ nearestCount n rules row = found (nearest n rules row)
 abbrev pub limitedCount : ℕ → List ℤ → List ℕ → ℕ → Reply
 limitedCount n rules row d = found (least (map (disagreement row) (within n rules row d)))
 
+-- a rule file is refused, or has an N, a C and a list of some length
+abbrev pub ruleReply : rule.Reading → Reply
+ruleReply (rule.refuses r) = refusing r
+ruleReply (rule.gives n c list) = answering 1 n c (length list)
+
+-- a wish file is refused, or has an n, wishes and a limit
+abbrev pub wishReply : wish.Reading → Reply
+wishReply (wish.refuses r) = refusing r
+wishReply (wish.gives n m d row) = answering 1 n m d
+
 abbrev oneOrTwo : List ℤ
 oneOrTwo = pos 1 ∷ pos 2 ∷ pos 0 ∷ []
 
 abbrev bothOff : List ℕ
 bothOff = 0 ∷ 0 ∷ []
+
+-- `p cnf 1 1` and a line feed, and some bytes after it
+abbrev afterHeader : List ℕ → List ℕ
+afterHeader s = (112 ∷ 32 ∷ 99 ∷ 110 ∷ 102 ∷ 32 ∷ 49 ∷ 32 ∷ 49 ∷ 10 ∷ []) ++ s
 
 abbrev pub starred : List Case
 starred =
@@ -41,7 +60,17 @@ starred =
     -- "n = 1, no rules: the wish is kept at limit 0"
     ∷ record { given = limitedCount 1 [] (0 ∷ []) 0; stated = answering 1 0 0 0 }
     ∷ record { given = limitedCount 1 [] (1 ∷ []) 0; stated = answering 1 0 0 0 }
+    -- "empty file 1 at 0"
+    ∷ record { given = ruleReply (rule.reading []); stated = refusing (refusal 1 0) }
+    -- "After `p cnf 1 1` and a line feed": "`-0 0` 3 at 10", "`2 0` 4 at 10", "`1 -1 0` 5 at 12", "`1` and the end 6 at 11"
+    ∷ record { given = ruleReply (rule.reading (afterHeader (45 ∷ 48 ∷ 32 ∷ 48 ∷ []))); stated = refusing (refusal 3 10) }
+    ∷ record { given = ruleReply (rule.reading (afterHeader (50 ∷ 32 ∷ 48 ∷ []))); stated = refusing (refusal 4 10) }
+    ∷ record { given = ruleReply (rule.reading (afterHeader (49 ∷ 32 ∷ 45 ∷ 49 ∷ 32 ∷ 48 ∷ []))); stated = refusing (refusal 5 12) }
+    ∷ record { given = ruleReply (rule.reading (afterHeader (49 ∷ []))); stated = refusing (refusal 6 11) }
+    -- "A 15-byte wish file: 8 at 0"
+    ∷ record { given = wishReply (wish.reading (take 15 example.bothOff)); stated = refusing (refusal 8 0) }
     ∷ []
 
 pub starred-hold : map (λ (c : Case). c .given) starred ≡ map (λ (c : Case). c .stated) starred
+unfolding classOf
 starred-hold = refl

@@ -2,7 +2,6 @@
 use mathlib.Core.Path.{_≡_, refl}
 use mathlib.Core.List.{List, [], _∷_, _++_}
 use Prim.Native.Nat.{ℕ}
-use lib.ListN.{take}
 use Rattle.refusal.specs.Reply.{refusal}
 use Rattle.decimal.specs.Decimal.{digits, decimal}
 use Rattle.wish_file.specs.Format.{written, reading, refuses, gives}
@@ -20,10 +19,6 @@ both-read = refl
 pub both-written : written 2 (0 ∷ 0 ∷ []) 1 ≡ bothOff
 unfolding digits decimal
 both-written = refl
-
--- a 15-byte file
-pub short-file : reading (take 15 bothOff) ≡ refuses (refusal 8 0)
-short-file = refl
 
 -- a byte after the last line
 pub extra-byte : reading (bothOff ++ 32 ∷ []) ≡ refuses (refusal 8 38)
