@@ -9,6 +9,19 @@ pub fn numbers() -> [i32; 40960]
     [0; 40960]
 }
 
+// The longest file, as numbers and as bytes: more than the largest sound one.
+pub fn wide() -> [i32; 262144]
+    ensures { λ r. ⌜ 262144 ≡ length r ⌝ }
+{
+    [0; 262144]
+}
+
+pub fn file() -> [u8; 262144]
+    ensures { λ r. ⌜ 262144 ≡ length r ⌝ }
+{
+    [0; 262144]
+}
+
 // The longest row or choice.
 pub fn bytes() -> [u8; 1024]
     ensures { λ r. ⌜ 1024 ≡ length r ⌝ }

@@ -4,6 +4,7 @@ mod list;
 mod text;
 
 pub use arrays::bytes;
+pub use arrays::file;
 pub use arrays::numbers;
 pub use list::Filled;
 pub use list::read_bytes;

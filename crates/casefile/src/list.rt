@@ -113,7 +113,7 @@ fn repeat_from(line: &[u8], before: Element) -> Element {
 pub fn read_bytes(line: &[u8], at: usize, out: &mut [u8]) -> Filled
     ensures { λ r. ⌜ Prefix (r .end) (now (out .exit)) ⌝ }
 {
-    let mut wide = arrays::numbers();
+    let mut wide = arrays::wide();
     let filled = read_numbers(line, at, &mut wide);
     let end = filled.end;
     let next = filled.next;

@@ -3,7 +3,12 @@
 // call, then its values, as the library casefile reads them. What is no case is answered too, so
 // nothing is left out.
 mod check_case;
+mod held;
+mod read_rules_case;
+mod read_wishes_case;
 mod report;
+mod write_rules_case;
+mod write_wishes_case;
 
 use libc::STDIN_FILENO;
 ghost use mathlib.Core.Path.{_≡_};
@@ -44,6 +49,18 @@ fn line(line: &[u8]) {
         return;
     }
     if check_case::run(line) {
+        return;
+    }
+    if read_rules_case::run(line) {
+        return;
+    }
+    if write_rules_case::run(line) {
+        return;
+    }
+    if read_wishes_case::run(line) {
+        return;
+    }
+    if write_wishes_case::run(line) {
         return;
     }
     report::malformed();

@@ -21,6 +21,20 @@ pub fn answer(word: &[u8], value: usize) {
     io::write_all(STDOUT_FILENO, b"\n");
 }
 
+// An answer with three numbers.
+pub fn values(first: usize, second: usize, third: usize) {
+    io::write_all(STDOUT_FILENO, b"read");
+    value(first);
+    value(second);
+    answer(b" ", third);
+}
+
+// A number on a line.
+pub fn value(value: usize) {
+    io::write_all(STDOUT_FILENO, b" ");
+    io::print_decimal(STDOUT_FILENO, value as u64);
+}
+
 // The answer to a line that is no case.
 pub fn malformed() {
     io::write_all(STDOUT_FILENO, b"bad case\n");

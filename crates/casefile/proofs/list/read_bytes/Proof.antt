@@ -5,8 +5,8 @@ use borrow.Author.Needs.{needs}
 use Rattle.casefile.proofs.list.read_bytes.Statement.{statement}
 use Rattle.casefile.proofs.list.read_bytes.Tie as tie
 
-numbers-requires : tie.Need-numbers-requires
-numbers-requires c κs = search needs
+wide-requires : tie.Need-wide-requires
+wide-requires c κs = search needs
 
 slice-aggregate-read-numbers : tie.Need-slice-aggregate-read-numbers
 slice-aggregate-read-numbers c = search needs
@@ -51,7 +51,7 @@ pub read-bytes-spec : {M : Type 1} → statement M
 read-bytes-spec =
     tie.close
     (tie.spec
-    numbers-requires
+    wide-requires
     slice-aggregate-read-numbers
     read-numbers-requires
     nothing-requires
