@@ -16,38 +16,13 @@ import pathlib
 import random
 
 import oracle
+import rule_files
+import wish_files
+from case_lines import answers, encode, label, lines
 
 CRATE = pathlib.Path(__file__).resolve().parents[2] / 'crates' / 'cases'
 LEAST, GREATEST = -2**31, 2**31 - 1
 MALFORMED = 'bad case'
-
-lines, answers = [], []
-
-
-def label(text):
-    lines.append('# ' + text)
-    answers.append('# ' + text)
-
-
-def encode(elements):
-    """A list with its length, and the longest repeats in the short form."""
-    words, i = [str(len(elements))], 0
-    while i < len(elements):
-        count, back = 0, 0
-        for period in range(1, min(i, 32) + 1):
-            run = 0
-            while i + run < len(elements) and elements[i + run] == elements[i + run - period]:
-                run += 1
-            if run > count:
-                count, back = run, period
-        if count > 8:
-            words += ['@', str(count), str(back)]
-            i += count
-        else:
-            words.append(str(elements[i]))
-            i += 1
-    return ' '.join(words)
-
 
 def check(text, n, rules, row, choice):
     label(text)
@@ -281,6 +256,8 @@ def main():
     bytes_and_lengths()
     orders()
     random_problems(random.Random(1), 200)
+    rule_files.add(random.Random(2))
+    wish_files.add(random.Random(3))
     malformed()
     (CRATE / 'stdin').write_text('\n'.join(lines) + '\n', encoding='ascii')
     (CRATE / 'stdout').write_text('\n'.join(answers) + '\n', encoding='ascii')

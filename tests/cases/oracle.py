@@ -1,6 +1,9 @@
 """What document 01 says of each call, written from its text alone and apart from the library.
 
-Each function answers with the line that the program `cases` is to write for a case."""
+Each function that has the name of a call answers with what the program `cases` is to write for a
+case: a line, and a second one for what the lent output holds."""
+
+import re
 
 # "N is 1 to 640, C 0 to 9,000, entries at most 31,000" ("The rule file")
 MAX_SETTINGS = 640
@@ -9,6 +12,9 @@ MAX_ENTRIES = 31_000
 
 # "number of wishes m (at most n and at most 64)" ("The wish file")
 MAX_WISHES = 64
+
+# "limit d (0 to 64, possibly above m)" ("The wish file")
+MAX_LIMIT = 64
 
 # "with n above 256, over 4,096 rules or 16,384 entries" ("Refusals", 12)
 MAX_WISH_SETTINGS = 256
@@ -103,3 +109,176 @@ def check(n, numbers, row, choice):
     if cause is not None:
         return 'refused %d at %d' % cause
     return '%s %d' % ('met' if meets(rules_of(numbers), choice) else 'unmet', broken(row, choice))
+
+
+# "blank is 9, 10, 13 or 32" ("The rule file")
+TOKEN = re.compile(rb'[^\x09\x0a\x0d\x20]+')
+
+# "Numbers have one to five decimal digits and no leading zero, 0 itself excepted."
+NUMBER = rb'(0|[1-9][0-9]{0,4})'
+HEADER = re.compile(rb'p cnf ' + NUMBER + rb' ' + NUMBER + rb'\n')
+
+# "A token is a number, or a minus and a number other than 0."
+ENTRY = re.compile(rb'0|-?[1-9][0-9]{0,4}')
+
+
+def past_comments(file):
+    """ "Lines beginning with `c` may precede the header and run to a line feed or the end of the file." """
+    at = 0
+    while file[at : at + 1] == b'c':
+        feed = file.find(b'\n', at)
+        at = len(file) if feed < 0 else feed + 1
+    return at
+
+
+def token_cause(text, n, count, rules, rule, entries):
+    """The cause to refuse a token: "at one token 3, 6, 7, 4, 5"."""
+    if not ENTRY.fullmatch(text):
+        return 3
+    if rules == count:
+        return 6
+    number = int(text)
+    if number and entries == MAX_ENTRIES:
+        return 7
+    if abs(number) > n:
+        return 4
+    if number and (number in rule or -number in rule):
+        return 5
+    return None
+
+
+def rule_file(file):
+    """The cause to refuse a rule file and None, or None and its N, C and list."""
+    at = past_comments(file)
+    header = HEADER.match(file, at)
+    if not header:
+        return (1, at), None
+    n, count = int(header[1]), int(header[2])
+    if not (1 <= n <= MAX_SETTINGS and 0 <= count <= MAX_RULES):
+        return (2, at), None
+    numbers, rule, rules, entries = [], set(), 0, 0
+    for token in TOKEN.finditer(file, header.end()):
+        cause = token_cause(token[0], n, count, rules, rule, entries)
+        if cause is not None:
+            return (cause, token.start()), None
+        number = int(token[0])
+        numbers.append(number)
+        if number == 0:
+            rule, rules = set(), rules + 1
+        else:
+            rule.add(number)
+            entries += 1
+    if rules < count or rule:
+        return (6, len(file)), None
+    return None, (n, count, numbers)
+
+
+def written_rules(n, numbers):
+    """ "The writer gives the header, then each rule on a line: entries, then 0, single spaces, a line feed." """
+    rules = rules_of(numbers)
+    lines = ['p cnf %d %d' % (n, len(rules))]
+    lines += [' '.join(str(number) for number in rule + [0]) for rule in rules]
+    return ''.join(line + '\n' for line in lines).encode('ascii')
+
+
+def columns(line, count):
+    """The numbers of a line with its line feed, or None: "Decimal numbers right-justified in columns of 5,
+    spaces before, no leading zeros." """
+    if len(line) != 5 * count + 1 or line[-1:] != b'\n':
+        return None
+    fields = [line[5 * i : 5 * i + 5] for i in range(count)]
+    if all(re.fullmatch(rb' *(0|[1-9][0-9]*)', field) for field in fields):
+        return [int(field) for field in fields]
+    return None
+
+
+def wish_file(file):
+    """The cause to refuse a wish file and None, or None and its n, m, d and row."""
+    header = columns(file[:16], 3)
+    if header is None:
+        return (8, 0), None
+    n, m, d = header
+    if not (1 <= n <= MAX_WISH_SETTINGS and m <= n and m <= MAX_WISHES and d <= MAX_LIMIT):
+        return (9, 0), None
+    row, last = [2] * n, 0
+    for index in range(m):
+        at = 16 + 11 * index
+        fields = columns(file[at : at + 11], 2)
+        if fields is None:
+            return (8, at), None
+        setting, mark = fields
+        if setting == 0 or setting > n or setting <= last or mark not in (0, 1):
+            return (10, at), None
+        row[setting - 1], last = mark, setting
+    if len(file) > 16 + 11 * m:
+        return (8, 16 + 11 * m), None
+    return None, (n, m, d, row)
+
+
+def written_wishes(n, row, d):
+    """ "Line one: n .., number of wishes m .., limit d .., line feed. Then m lines: setting, 1 for on or 0
+    for off, line feed" """
+    wishes = [(index + 1, byte) for index, byte in enumerate(row) if byte != 2]
+    lines = ['%5d%5d%5d\n' % (n, len(wishes), d)] + ['%5d%5d\n' % wish for wish in wishes]
+    return ''.join(lines).encode('ascii')
+
+
+def held(buffer):
+    """What a lent buffer holds: every element of a short one, the length and a sum of a long one."""
+    if len(buffer) <= 64:
+        return ' '.join(['holds'] + [str(element) for element in buffer])
+    total = 0
+    for element in buffer:
+        natural = element if element >= 0 else 2**32 - element
+        total = (total * 31 + natural) % 998244353
+    return 'holds %d elements of sum %d' % (len(buffer), total)
+
+
+def ending(cause, words, result, buffer):
+    """The two lines of a call with an output: "Last 15", whose place is the "length needed"; a refusal
+    leaves all lent memory; "On success bytes past the needed length stay."."""
+    if cause is None and len(buffer) < len(result):
+        cause = 15, len(result)
+    if cause is not None:
+        return 'refused %d at %d\n%s' % (*cause, held(buffer))
+    return '%s\n%s' % (words, held(list(result) + list(buffer[len(result) :])))
+
+
+def read_rules(file, buffer):
+    cause, found = rule_file(file)
+    if cause is not None:
+        return ending(cause, None, None, buffer)
+    n, count, numbers = found
+    return ending(None, 'read %d %d %d' % (n, count, len(numbers)), numbers, buffer)
+
+
+def write_rules(n, numbers, buffer):
+    if not 1 <= n <= MAX_SETTINGS:
+        return ending((14, 0), None, None, buffer)
+    bad = bad_rules(n, numbers)
+    if bad is not None:
+        return ending((13, bad), None, None, buffer)
+    file = written_rules(n, numbers)
+    return ending(None, 'written %d' % len(file), file, buffer)
+
+
+def read_wishes(file, buffer):
+    cause, found = wish_file(file)
+    if cause is not None:
+        return ending(cause, None, None, buffer)
+    n, m, d, row = found
+    return ending(None, 'read %d %d %d' % (n, m, d), row, buffer)
+
+
+def write_wishes(n, row, d, buffer):
+    if not 1 <= n <= MAX_SETTINGS or d > MAX_LIMIT:
+        return ending((14, 0), None, None, buffer)
+    bad = bad_row(row)
+    if bad is not None:
+        return ending((13, bad), None, None, buffer)
+    if len(row) != n:
+        return ending((11, 0), None, None, buffer)
+    if n > MAX_WISH_SETTINGS:
+        return ending((12, 0), None, None, buffer)
+    file = written_wishes(n, row, d)
+    return ending(None, 'written %d' % len(file), file, buffer)
