@@ -9,7 +9,9 @@ are drawn from a fixed seed, so a second run writes the same files.
 
 A case is a line: the name of a call, then its values, single spaces between them. A list is its
 length and its elements; among these `@ COUNT BACK` stands for COUNT further elements, each of them
-the one that stands BACK places before it. A line that starts with # is a label."""
+the one that stands BACK places before it. A call that fills an output has the buffer for it as its last
+list, and the second line of its answer says what the buffer then holds. A line that starts with # is a
+label."""
 
 import itertools
 import pathlib
@@ -241,6 +243,18 @@ def malformed():
         ('a repeat from too far back', 'check 1 3 0 @ 2 2 1 2 1 1'),
         ('a repeat of itself', 'check 1 3 0 @ 2 0 1 2 1 1'),
         ('a repeat without its numbers', 'check 1 3 0 @'),
+        ('a file that is too long', 'read_rules 262145 99 @ 262144 1 0'),
+        ('a byte of 256 in a file', 'read_rules 1 256 0'),
+        ('no buffer', 'read_rules 1 99'),
+        ('a value after the buffer', 'read_rules 1 99 0 0'),
+        ('no list', 'write_rules 1'),
+        ('no buffer for rules', 'write_rules 1 2 1 0'),
+        ('a buffer of numbers', 'write_rules 1 2 1 0 1 -1'),
+        ('no buffer for a row', 'read_wishes 1 32'),
+        ('a wish file that is too long', 'read_wishes 1025 32 @ 1024 1 0'),
+        ('no limit', 'write_wishes 1 1 2'),
+        ('no buffer for wishes', 'write_wishes 1 1 2 0'),
+        ('a negative limit', 'write_wishes 1 1 2 -1 0'),
     ):
         label('no case: ' + text)
         lines.append(line)

@@ -216,8 +216,8 @@ def wish_file(file):
 
 
 def written_wishes(n, row, d):
-    """ "Line one: n .., number of wishes m .., limit d .., line feed. Then m lines: setting, 1 for on or 0
-    for off, line feed" """
+    """ "Line one: n .., number of wishes m .., limit d .., line feed. Then m lines: setting, 1 for on or
+    0 for off, line feed" """
     wishes = [(index + 1, byte) for index, byte in enumerate(row) if byte != 2]
     lines = ['%5d%5d%5d\n' % (n, len(wishes), d)] + ['%5d%5d\n' % wish for wish in wishes]
     return ''.join(lines).encode('ascii')

@@ -31,10 +31,11 @@ def documented():
 
 def headers():
     for text in (
-        'p cnf 1 0 ;p  cnf 1 0;p cnf  1 0;p cnf 1  0; p cnf 1 0;P cnf 1 0;p CNF 1 0;pcnf 1 0;q cnf 1 0;p dnf 1 0;'
-        'p cnf\t1 0;p\tcnf 1 0;p cnf 1\t0;p cnf 1 0\t;p cnf 1 0\r;p cnf 1\r0;p cnf 01 0;p cnf 1 00;p cnf 00001 0;'
-        'p cnf 000001 0;p cnf 0 0;p cnf 99999 0;p cnf 100000 0;p cnf 1 99999;p cnf 1 100000;p cnf 1 00000;'
-        'p cnf -1 0;p cnf 1 -0;p cnf 1 -1;p cnf +1 0;p cnf 1;p cnf 1 ;p cnf ;p cnf;p;p ;;p cnf 1 0 0;p cnf 1 0x;'
+        'p cnf 1 0 ;p  cnf 1 0;p cnf  1 0;p cnf 1  0; p cnf 1 0;P cnf 1 0;p CNF 1 0;pcnf 1 0;q cnf 1 0;'
+        'p dnf 1 0;p cnf\t1 0;p\tcnf 1 0;p cnf 1\t0;p cnf 1 0\t;p cnf 1 0\r;p cnf 1\r0;p cnf 01 0;'
+        'p cnf 1 00;p cnf 00001 0;p cnf 000001 0;p cnf 0 0;p cnf 99999 0;p cnf 100000 0;p cnf 1 99999;'
+        'p cnf 1 100000;p cnf 1 00000;p cnf -1 0;p cnf 1 -0;p cnf 1 -1;p cnf +1 0;p cnf 1;p cnf 1 ;p cnf ;'
+        'p cnf;p;p ;;p cnf 1 0 0;p cnf 1 0x;'
         'p cnf 1x 0;p cnf x 0;p cnf 1 x;p cnf 1 0\x00;p cnf \xff 0;p cnf  0;p cnf 1,0;p cnf 640 9000;'
         'p cnf 639 0;p cnf 642 0;p cnf 1 8999;p cnf 1 9000;p cnf 1 9001;p cnf 0 9001;p cnf 641 9001;p cnf 0 1'
     ).split(';'):
@@ -48,10 +49,11 @@ def headers():
 
 def comments():
     for text in (
-        'c;c\n;cc;c a;c a\n;c a\nc b;c a\nc b\n;cp cnf 1 0\n;c p cnf 1 0\n;c\rp cnf 1 0\n;c\r\np cnf 1 0\n;c\n\np cnf 1 0\n;'
-        'c\n p cnf 1 0\n;c\n c\np cnf 1 0\n; c\np cnf 1 0\n;\tc\np cnf 1 0\n;C\np cnf 1 0\n;x\n;\n;\r\n;\x00;\xff;'
-        'c\x00\xff\t\np cnf 1 0\n;p cnf 1 0\nc\n;p cnf 1 0\nc a comment\n;p cnf 1 1\n1 0\nc\n;p cnf 1 1\nc\n1 0\n;'
-        'p cnf 1 0\np cnf 1 0\n;\np cnf 1 0\n;\r\np cnf 1 0\n;c\np cnf 1 1\n1 0;c\nc'
+        'c;c\n;cc;c a;c a\n;c a\nc b;c a\nc b\n;c\nc;cp cnf 1 0\n;c p cnf 1 0\n;c\rp cnf 1 0\n;'
+        'c\r\np cnf 1 0\n;c\n\np cnf 1 0\n;c\n p cnf 1 0\n;c\n c\np cnf 1 0\n; c\np cnf 1 0\n;'
+        '\tc\np cnf 1 0\n;C\np cnf 1 0\n;x\n;\n;\r\n;\x00;\xff;c\x00\xff\t\np cnf 1 0\n;p cnf 1 0\nc\n;'
+        'p cnf 1 0\nc a comment\n;p cnf 1 1\n1 0\nc\n;p cnf 1 1\nc\n1 0\n;p cnf 1 0\np cnf 1 0\n;'
+        '\np cnf 1 0\n;\r\np cnf 1 0\n;c\np cnf 1 1\n1 0'
     ).split(';'):
         read(text.encode('latin-1'))
     read_rules('a long comment', b'c' * 70000 + b'\np cnf 1 1\n-1 0\n')
@@ -61,9 +63,10 @@ def comments():
 
 def tokens():
     for text in (
-        '- -- --1 +1 + 00 -00 -01 01 001 -0 1- 1-2 -1- 12345 -12345 99999 -99999 10000 123456 -123456 100000 000000 0000 '
-        '1a a1 c c1 1c p 0x1 0c 1. 1,2 ~1 %0 3 -3 4 -4 0 1 -1 2 65535 65536 65537 65538'
-    ).split(' ') + ['\x00', '\xff', '1\x00', '\x001', '1\xff', '\x0b', '1\x0b2', '\x0c', '1\x0c2', '\x85', '\xa0', '\xb2', '1\x802']:
+        '- -- --1 +1 + 00 -00 -01 01 001 -0 1- 1-2 -1- 12345 -12345 99999 -99999 10000 123456 -123456 '
+        '100000 000000 0000 1a a1 c c1 1c p 0x1 0c 1. 1,2 ~1 %0 3 -3 4 -4 0 1 -1 2 65535 65536 65537 65538 '
+        '\x00 \xff 1\x00 \x001 1\xff \x0b 1\x0b2 \x0c 1\x0c2 \x85 \xa0 \xb2 1\x802'
+    ).split(' '):
         token = text.encode('latin-1')
         read(header(3, 1) + token + b' 0\n')
         read(header(3, 1) + b'1 ' + token + b' 0\n')
@@ -75,8 +78,9 @@ def tokens():
 
 def blanks():
     for text in (
-        '1 -2 0\n3 0\n;1 -2 0\n3 0;1 -2 0 3 0;1\n-2\n0\n3\n0\n;1\t-2\t0\t3\t0\t;1 -2 0\r\n3 0\r\n;1\r-2\r0\r3\r0\r;'
-        '  1  -2  0  3  0  ;\n\n1 -2 0\n\n3 0\n\n;\r\n1 -2 0\r\n\r\n3 0;\t 1\r\n-2\n\t0 3 0;1 -203 0\n;1 -20 3 0\n;1-2 0 3 0;0 0;0 0 ; 00'
+        '1 -2 0\n3 0\n;1 -2 0\n3 0;1 -2 0 3 0;1\n-2\n0\n3\n0\n;1\t-2\t0\t3\t0\t;1 -2 0\r\n3 0\r\n;'
+        '1\r-2\r0\r3\r0\r;  1  -2  0  3  0  ;\n\n1 -2 0\n\n3 0\n\n;\r\n1 -2 0\r\n\r\n3 0;'
+        '\t 1\r\n-2\n\t0 3 0;1 -203 0\n;1 -20 3 0\n;1-2 0 3 0;0 0;0 0 ; 00'
     ).split(';'):
         read(header(3, 2) + text.encode('ascii'))
 
@@ -198,7 +202,8 @@ def round_trips(draw):
         n = draw.choice((1, 2, 5, 12, 120, 640))
         numbers = []
         for _ in range(draw.randint(0, 6)):
-            numbers += [draw.choice((-1, 1)) * v for v in draw.sample(range(1, n + 1), draw.randint(0, min(n, 5)))] + [0]
+            settings = draw.sample(range(1, n + 1), draw.randint(0, min(n, 5)))
+            numbers += [draw.choice((-1, 1)) * setting for setting in settings] + [0]
         round_trip('random %d' % index, n, numbers)
 
 
@@ -209,9 +214,10 @@ def writer():
         write_rules('n = %d, an unsound list' % n, n, [1, 1, 0], 20)
         write_rules('n = %d, its last setting' % n, n, [min(n, GREATEST), 0], 30)
     for numbers in (
-        [1], [1, 0, 2, 3], [1, 0, 2, 2], [4, 0], [-4, 0], [1, 2, 0, 3, -4, 0], [LEAST, 0], [LEAST + 1, 0], [1, GREATEST, 0],
-        [1, 0, GREATEST], [65537, 0], [1, 2, 1, 0], [2, 2, 0], [2, 1, -2, 0], [-2, 2, 0], [1, 2, 0, 3, 1, -3, 0], [1, 0, 1, 0],
-        [1, 0, -1, 0], [1, -1, 9, 0], [9, 1, -1, 0], [9, 9, 0], [3, 0, -3, 0], [0, 0, 0], [1, 0, 0],
+        [1], [1, 0, 2, 3], [1, 0, 2, 2], [4, 0], [-4, 0], [1, 2, 0, 3, -4, 0], [LEAST, 0], [LEAST + 1, 0],
+        [1, GREATEST, 0], [1, 0, GREATEST], [65537, 0], [1, 2, 1, 0], [2, 2, 0], [2, 1, -2, 0], [-2, 2, 0],
+        [1, 2, 0, 3, 1, -3, 0], [1, 0, 1, 0], [1, 0, -1, 0], [1, -1, 9, 0], [9, 1, -1, 0], [9, 9, 0],
+        [3, 0, -3, 0], [0, 0, 0], [1, 0, 0],
     ):
         write_rules('the list %s' % numbers, 3, numbers, 40)
         write_rules('the list %s, no room' % numbers, 3, numbers, 3)
@@ -221,14 +227,14 @@ def writer():
         ('9001 rules', [1, 0] * 9001),
         ('rule 9001 not closed', [1, 0] * 9000 + [1]),
         ('31001 entries', four * 7750 + [1, 0]),
-        ('entry 31001 in the last rule', four[:4] * 1 + [0] + four * 7748 + [1, 2, 3, 4, 5, 0]),
+        ('entry 31001 in the last rule', four * 7749 + [1, 2, 3, 4, 5, 0]),
         ('31000 entries, not closed', (four * 7750)[:-1]),
         ('entry 31001 outside', four * 7750 + [9, 0]),
         ('entry 31001 before rule 9001', four * 7750 + [0] * 1250 + [1, 0, 0]),
         ('rule 9001 before entry 31001', four * 7750 + [0] * 1251 + [1, 0]),
     ):
-        write_rules(text, 4, numbers, 100)
-        write_rules(text + ', no room', 4, numbers, 0)
+        write_rules(text, 8, numbers, 100)
+        write_rules(text + ', no room', 8, numbers, 0)
 
 
 def add(draw):

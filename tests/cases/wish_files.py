@@ -37,15 +37,18 @@ def headers():
         read(line(n, 0, 0))
         read(line(n, 1, 0) + wishes((1, 1)))
         read(line(n, 1, 64) + wishes((min(n, 99999), 0)))
-    for n, m in ((1, 1), (1, 2), (2, 3), (5, 5), (5, 6), (63, 64), (64, 64), (65, 64), (65, 65), (256, 64), (256, 65), (100, 65536)):
+    for n, m in (
+        (1, 1), (1, 2), (2, 3), (5, 5), (5, 6), (63, 64), (64, 64), (65, 64), (65, 65), (256, 64), (256, 65),
+        (100, 65536), (256, 65537),
+    ):
         read_wishes('n = %d, m = %d' % (n, m), line(n, m, 3) + many(min(m, 66)))
         read_wishes('n = %d, m = %d, no lines' % (n, m), line(n, m, 3))
         read_wishes('n = %d, m = %d, an extra line' % (n, m), line(n, m, 3) + many(min(m, 66) + 1))
     for text in (
-        '00002    1    0;    2   01    0;    2    1   00;2        1    0;   2     1    0;    2   1     0;    2    1   0 ;'
-        '         1    0;    2         0;    2    1     ;               ;    2\t   1    0;\t   2    1    0;    2    1\t   0;'
-        '   -1    0    0;   +1    0    0;    2   -0    0;    x    0    0;    2    x    0;    2    0    x;  1 2    0    0;'
-        '10000    0    0;99999    0    0;    2    1    0 ; '
+        '00002    1    0;    2   01    0;    2    1   00;2        1    0;   2     1    0;    2   1     0;'
+        '    2    1   0 ;         1    0;    2         0;    2    1     ;               ;    2\t   1    0;'
+        '\t   2    1    0;    2    1\t   0;   -1    0    0;   +1    0    0;    2   -0    0;    x    0    0;'
+        '    2    x    0;    2    0    x;  1 2    0    0;10000    0    0;99999    0    0;    2    1    0 ; '
     ).split(';'):
         for ending in (b'\n', b'', b'\r', b' ', b'\r\n'):
             read(text.encode('ascii') + ending + wishes((1, 1)))
@@ -60,8 +63,9 @@ def lines():
         read(first + wishes((2, mark), (4, 0)))
         read(first + wishes((2, 1), (4, mark)))
     for text in (
-        '00002    1;    2   01;    2   00;2        1;   2     1;    2   1 ;         1;    2     ;          ;\t   2    1;    2\t   1;'
-        '   -2    1;   +2    1;    2   -1;    x    1;    2    x;  1 2    1;    2  1 1;    2    1 ;   2    1;    2   1;     2    1; '
+        '00002    1;    2   01;    2   00;2        1;   2     1;    2   1 ;         1;    2     ;          ;'
+        '\t   2    1;    2\t   1;   -2    1;   +2    1;    2   -1;    x    1;    2    x;  1 2    1;'
+        '    2  1 1;    2    1 ;   2    1;    2   1;     2    1; '
     ).split(';'):
         for ending in (b'\n', b'', b'\r', b' '):
             read(first + text.encode('ascii') + ending + wishes((4, 0)))
@@ -82,7 +86,8 @@ def lines():
     last = many(64)[:-11]
     for text, end in (
         ('rising', line(256, 0)), ('equal', line(63, 0)), ('falling', line(1, 0)), ('above n', line(257, 0)),
-        ('zero', line(0, 0)), ('mark 2', line(64, 2)), ('cut', line(64, 0)[:-1]), ('extra', line(64, 0) + b'\n'), ('none', b''),
+        ('zero', line(0, 0)), ('mark 2', line(64, 2)), ('cut', line(64, 0)[:-1]), ('none', b''),
+        ('followed by a byte', line(64, 0) + b'\n'),
     ):
         read_wishes('64 wishes, the last %s' % text, line(256, 64, 64) + last + end)
 
@@ -103,7 +108,9 @@ def rooms():
         read_wishes('a row of 5, room for %d' % room, file, room)
     for room in (255, 256, 257):
         read_wishes('a row of 256, room for %d' % room, line(256, 64, 0) + many(64, 0), room)
-    for text, bad in (('8', file[:-1]), ('8, extra', file + b' '), ('9', line(0, 0, 0)), ('10', line(5, 1, 0) + line(6, 1))):
+    for text, bad in (
+        ('8', file[:-1]), ('8, extra', file + b' '), ('9', line(0, 0, 0)), ('10', line(5, 1, 0) + line(6, 1)),
+    ):
         read_wishes('cause %s, no room' % text, bad, 0)
 
 
@@ -160,7 +167,7 @@ def writer():
     for d in (0, 1, 9, 10, 63, 64, 65, 66, 2**32, 2**64 - 1):
         write_wishes('d = %d' % d, 2, [1, 2], d, 30)
     for length in (0, 1, 3, 4, 5, 6, 1000):
-        write_wishes('n = 4, a row of %d' % length, 4, ([1, 2] * 500)[:length] if length < 9 else [2] * length, 1, 60)
+        write_wishes('n = 4, a row of %d' % length, 4, ([1] + [2] * 999)[:length], 1, 60)
     for byte in (3, 4, 128, 254, 255):
         write_wishes('a byte of %d, first' % byte, 3, [byte, 1, 0], 1, 60)
         write_wishes('a byte of %d, last' % byte, 3, [0, 1, byte], 1, 60)
