@@ -26,6 +26,16 @@ pub fn first_token<'a>(tokens: Tokens<'a>) -> Token
     rule_tokens::token_at(tokens.file, tokens.at)
 }
 
+// The tokens of the same file from another offset on: past a token, from its `next` on.
+pub fn moved_to<'a>(tokens: Tokens<'a>, at: usize) -> Tokens<'a>
+    ensures { λ r. ⌜ (r .file ≡ tokens .entry .file) × (r .at ≡ at) ⌝ }
+{
+    Tokens {
+        file: tokens.file,
+        at,
+    }
+}
+
 // The next token from an offset on. Its parameters are plain, so that the reader's loops need not know
 // the struct.
 pub fn next_token(file: &[u8], at: usize) -> Token
