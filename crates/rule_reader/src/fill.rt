@@ -17,7 +17,7 @@ pub fn fill_rules(file: &[u8], from: usize, rules: &mut [i32])
     let mut at = from;
     let mut i = 0;
     loop {
-        match rule_tokens::token_at(file, at) {
+        match token_stream::next_token(file, at) {
             Token::End => {
                 return;
             }

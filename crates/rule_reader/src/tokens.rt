@@ -58,7 +58,7 @@ pub fn check_tokens(file: &[u8], from: usize, n: usize, count: usize) -> Check
     let mut is_open = false;
     let mut at = from;
     loop {
-        match rule_tokens::token_at(file, at) {
+        match token_stream::next_token(file, at) {
             Token::End => {
                 return finish(file.len(), count, clauses, literals, is_open);
             }

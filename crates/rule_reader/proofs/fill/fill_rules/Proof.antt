@@ -20,8 +20,8 @@ abbrev μ-loop : tie.MeasureT-loop
 loop-holds : tie.Need-loop-holds Inv-loop μ-loop
 loop-holds c = record { good = c .before .pre .0; room = omega (arith, c .before .pre .1); long = refl; so-far = refl }
 
-token-at-requires : tie.Need-token-at-requires Inv-loop μ-loop
-token-at-requires c κs = search needs
+next-token-requires : tie.Need-next-token-requires Inv-loop μ-loop
+next-token-requires c κs = search needs
 
 enum-told : tie.Need-enum-told Inv-loop μ-loop
 enum-told c = search needs
@@ -30,7 +30,7 @@ same-length : tie.Need-same-length Inv-loop μ-loop
 same-length c = c .before .before .before .loop .inv .long
 
 returns : tie.Need-returns Inv-loop μ-loop
-returns c = filled (c .before .before .before .loop .inv) (sym (c .enum-told .given .1) ∙ c .before .before .token-at .ensures)
+returns c = filled (c .before .before .before .loop .inv) (sym (c .enum-told .given .1) ∙ c .before .before .next-token .ensures)
 
 enum-told-2 : tie.Need-enum-told-2 Inv-loop μ-loop
 enum-told-2 c = search needs
@@ -39,7 +39,7 @@ same-length-2 : tie.Need-same-length-2 Inv-loop μ-loop
 same-length-2 c = c .before .before .before .loop .inv .long
 
 returns-2 : tie.Need-returns-2 Inv-loop μ-loop
-returns-2 c = absurd (never (c .before .before .before .loop .inv) (c .enum-told2 .given .0 .0) (sym (c .enum-told2 .given .1) ∙ c .before .before .token-at .ensures))
+returns-2 c = absurd (never (c .before .before .before .loop .inv) (c .enum-told2 .given .0 .0) (sym (c .enum-told2 .given .1) ∙ c .before .before .next-token .ensures))
 
 enum-known-value : tie.Need-enum-known-value Inv-loop μ-loop
 enum-known-value c = search needs
@@ -47,7 +47,7 @@ enum-known-value c = search needs
 -- the number that was found
 found : (c : tie.After-known-told Inv-loop μ-loop)
     → T.the-variants.Element (c .before .value .given .0 .0) (c .before .value .given .0 .1 .0) (c .before .value .given .0 .1 .1 .0) ≡ firstToken (tokens (c .before .before .before .before .before .before .args .file .now) (c .before .before .before .before .loop .at))
-found c = sym (c .before .value .given .1) ∙ c .before .before .before .token-at .ensures
+found c = sym (c .before .value .given .1) ∙ c .before .before .before .next-token .ensures
 
 mul-value : tie.Need-mul-value Inv-loop μ-loop
 mul-value c = search needs
@@ -71,7 +71,7 @@ fill-rules-spec =
     Inv-loop
     μ-loop
     loop-holds
-    token-at-requires
+    next-token-requires
     enum-told
     same-length
     returns

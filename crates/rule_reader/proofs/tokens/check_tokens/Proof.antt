@@ -26,8 +26,8 @@ no-stamps-requires c κs = search needs
 loop-holds : tie.Need-loop-holds Inv-loop μ-loop
 loop-holds c = start (c .before .before .args .n) (c .before .before .args .count) (c .before .before .args .file .now) (c .before .before .args .from) (c .no-stamps .result) (c .no-stamps .ensures .0) (c .no-stamps .ensures .1)
 
-token-at-requires : tie.Need-token-at-requires Inv-loop μ-loop
-token-at-requires c κs = search needs
+next-token-requires : tie.Need-next-token-requires Inv-loop μ-loop
+next-token-requires c κs = search needs
 
 enum-told : tie.Need-enum-told Inv-loop μ-loop
 enum-told c = search needs
@@ -36,13 +36,13 @@ finish-requires : tie.Need-finish-requires Inv-loop μ-loop
 finish-requires c κs = omega (arith, c .before .before .before .loop .inv .few, c .before .before .before .loop .inv .many, c .before .before .before .before .before .before .pre)
 
 returns : tie.Need-returns Inv-loop μ-loop
-returns c = c .finish .ensures ∙ ended (c .before .before .before .before .loop .inv) (sym (c .before .enum-told .given .1) ∙ c .before .before .before .token-at .ensures)
+returns c = c .finish .ensures ∙ ended (c .before .before .before .before .loop .inv) (sym (c .before .enum-told .given .1) ∙ c .before .before .before .next-token .ensures)
 
 enum-known-place : tie.Need-enum-known-place Inv-loop μ-loop
 enum-known-place c = search needs
 
 returns-2 : tie.Need-returns-2 Inv-loop μ-loop
-returns-2 c = malformed (c .before .before .before .before .loop .inv) (c .before .place .given .0 .0) (sym (c .before .place .given .1) ∙ c .before .before .before .token-at .ensures)
+returns-2 c = malformed (c .before .before .before .before .loop .inv) (c .before .place .given .0 .0) (sym (c .before .place .given .1) ∙ c .before .before .before .next-token .ensures)
 
 enum-known-place-2 : tie.Need-enum-known-place-2 Inv-loop μ-loop
 enum-known-place-2 c = search needs
@@ -56,7 +56,7 @@ fault-of-requires c κs = search needs
 -- the number that was found, and its variable
 found : (c : tie.After-variable-of Inv-loop μ-loop)
     → T.the-variants.Element (c .before .before .place2 .given .0 .0) (c .before .before .place2 .given .0 .1 .0) (c .before .before .place2 .given .0 .1 .1 .0) ≡ firstToken (tokens (c .before .before .before .before .before .before .before .before .args .file .now) (c .before .before .before .before .before .loop .at))
-found c = sym (c .before .before .place2 .given .1) ∙ c .before .before .before .before .token-at .ensures
+found c = sym (c .before .before .place2 .given .1) ∙ c .before .before .before .before .next-token .ensures
 
 same : (c : tie.After-variable-of Inv-loop μ-loop) → c .variable-of .result .0 ≡ variable (c .before .before .place2 .given .0 .1 .0)
 same c = c .variable-of .ensures ∙ ap variable (number-held (c .before .before .before .before .before .before .before .before .args .file .now) (c .before .before .before .before .before .loop .at) (found c))
@@ -114,7 +114,7 @@ check-tokens-spec =
     μ-loop
     no-stamps-requires
     loop-holds
-    token-at-requires
+    next-token-requires
     enum-told
     finish-requires
     returns
