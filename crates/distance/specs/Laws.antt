@@ -1,5 +1,5 @@
 -- The equations by which proofs count broken wishes.
-use mathlib.Core.Path.{_≡_, refl, ap}
+use mathlib.Core.Path.{_≡_, refl}
 use mathlib.Core.Bool.{Bool, true, false, cond}
 use mathlib.Core.List.{List, [], _∷_}
 use Prim.Native.Nat.{ℕ, _+_, _-_, _≤_, _<_, zero-le}
@@ -16,6 +16,13 @@ weight-wish w h = rw (lt-ltb w 2 h)
 
 pub weight-free : (w : ℕ) → 2 ≤ w → weight w ≡ 0
 weight-free w h = rw (le-ltb w 2 h)
+
+pub weight-most : (w : ℕ) → weight w ≤ 1
+weight-most w = most (ltb w 2)
+  where
+    most : (b : Bool) → cond b 1 0 ≤ 1
+    most true = le-refl 1
+    most false = zero-le
 
 same : (b : Bool) (k : ℕ) → cond b k k ≡ k
 same true k = refl

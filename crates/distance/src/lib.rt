@@ -1,6 +1,13 @@
 // How many wishes an assignment breaks.
 ghost use mathlib.Core.Path.{_≡_};
-ghost use Rattle.distance.specs.Distance.{cost, disagreement};
+ghost use Rattle.distance.specs.Distance.{weight, cost, disagreement};
+
+// How much a byte of the wish row counts: 1 for a wish, 0 for a free variable.
+pub fn weight_of(wish: u8) -> usize
+    ensures { λ r. ⌜ r ≡ weight wish ⌝ }
+{
+    if wish < 2 { 1 } else { 0 }
+}
 
 // What a value breaks of the wish at its variable: 1 where it is the other value, 0 elsewhere.
 pub fn cost_of(wish: u8, value: u8) -> usize

@@ -36,9 +36,8 @@ abbrev pub wrongLength : ℕ → List ℕ → Bool
 wrongLength n part = not (eqb (length part) n)
 
 -- 12: "a call that takes a wish row, even one all free, with n above 256, over 4,096 rules or 16,384 entries"
-abbrev pub tooLarge : ℕ → List ℤ → Bool
-tooLarge n rules =
-    ltb maxWishVariables n || (ltb maxWishClauses (length (clauses rules)) || ltb maxWishLiterals (literals (clauses rules)))
+abbrev pub oversized : ℕ → ℕ → ℕ → Bool
+oversized n clauses literals = ltb maxWishVariables n || (ltb maxWishClauses clauses || ltb maxWishLiterals literals)
 
 -- the refusal that a call gives for what it was lent, if any
 abbrev pub refusalOf : Lent → Option Refusal
@@ -50,6 +49,6 @@ refusalOf s =
     ∷ ofPart (s .choice) (λ (choice : List ℕ). causeAt 13 (badChoice 0 choice))
     ∷ ofPart (s .row) (λ (row : List ℕ). cause (wrongLength (s .n) row) 11 0)
     ∷ ofPart (s .choice) (λ (choice : List ℕ). cause (wrongLength (s .n) choice) 11 0)
-    ∷ ofPart (s .row) (λ (row : List ℕ). cause (tooLarge (s .n) (s .rules)) 12 0)
+    ∷ ofPart (s .row) (λ (row : List ℕ). cause (oversized (s .n) (length (clauses (s .rules))) (literals (clauses (s .rules)))) 12 0)
     ∷ cause (ltb (s .room) (s .needed)) 15 (s .needed)
     ∷ [])

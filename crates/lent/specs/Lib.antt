@@ -1,4 +1,7 @@
 pub mod Laws
 pub mod Lent
 pub mod Limits
+pub mod ScanLaws
+pub mod Scans
 pub mod Sound
+pub mod Stamps

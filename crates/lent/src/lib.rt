@@ -1,0 +1,18 @@
+// The checks of what a call is lent: each cause of document 01's table 11 to 14, in a function.
+mod choice;
+mod problem;
+mod range;
+mod row;
+mod rules;
+mod size;
+
+pub use choice::scan_choice;
+pub use problem::Problem;
+pub use problem::scan_problem;
+pub use range::check_range;
+pub use row::RowScan;
+pub use row::scan_row;
+pub use rules::RuleScan;
+pub use rules::scan_rules;
+pub use size::check_length;
+pub use size::check_size;

@@ -1,4 +1,8 @@
 // What a call answers where it gives no result: a cause, as document 01 numbers it, and a place.
+ghost use mathlib.Core.Path.{_≡_};
+ghost use mathlib.Core.Option.{some};
+ghost use Rattle.refusal.specs.Reply.{refusal, refused};
+
 pub struct Refusal {
     pub number: usize,
     pub place: usize,
@@ -8,4 +12,10 @@ pub struct Refusal {
 pub enum Verdict {
     Pass,
     Refuse(Refusal),
+}
+
+pub fn refuse(number: usize, place: usize) -> Verdict
+    ensures { λ r. ⌜ refused r ≡ some (refusal number place) ⌝ }
+{
+    Verdict::Refuse(Refusal { number, place })
 }

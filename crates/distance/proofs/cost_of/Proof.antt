@@ -1,6 +1,5 @@
 -- `distance::cost_of` meets its contract, by the three cases of `cost`.
 use mathlib.Core.Path.{sym}
-use native.Mathlib.Omega.{arith}
 use borrow.Author.Needs.{needs}
 use Rattle.distance.specs.Laws.{cost-free, cost-broken, cost-kept}
 use Rattle.distance.proofs.cost_of.Statement.{statement}

@@ -1,6 +1,6 @@
 -- `literal::value_of` meets its contract: variable v has its byte at index v - 1.
-use mathlib.Core.Path.{_≡_, sym, _∙_}
-use Prim.Native.Nat.{_-_, _<_}
+use mathlib.Core.Path.{sym, _∙_}
+use Prim.Native.Nat.{_-_}
 use native.Mathlib.Omega.{arith}
 use borrow.Author.Needs.{needs}
 use Rattle.literal.specs.Laws.{getD-inside, value-at, value-past}

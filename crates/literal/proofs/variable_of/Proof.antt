@@ -1,5 +1,4 @@
 -- `literal::variable_of` meets its contract: on each side of the branch the number that is cast is the literal's magnitude.
-use lib.IntN.{natAbs}
 use mir.Syntax.{w32, w64}
 use mir.ValLaws.{toZ-ofZ}
 use Rattle.literal.proofs.Signed.{widens, magnitude-fits, magnitude-usize, negative, nonnegative}

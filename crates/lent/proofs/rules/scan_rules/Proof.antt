@@ -1,0 +1,129 @@
+-- `lent::rules::scan_rules` meets its contract: each turn is one of the laws of `Scanning`.
+use mathlib.Core.Path.{_≡_, ap, _∙_}
+use Prim.Native.Nat.{_-_}
+use native.Mathlib.Omega.{arith}
+use lib.IntN.{pos}
+use lib.ListN.{length, getD}
+use borrow.Author.Needs.{needs}
+use Rattle.literal.specs.Laws.{as-read}
+use Rattle.literal.specs.Literal.{variable}
+use Rattle.lent.proofs.Scanning.{Scanning, start, clauses-over, closed, outside, literals-over, twice, joined, left-open, complete}
+use Rattle.lent.proofs.rules.scan_rules.Statement.{statement}
+use Rattle.lent.proofs.rules.scan_rules.Tie as tie
+
+abbrev Inv-loop : tie.InvT-loop
+Inv-loop n rules stamps₀ clauses₀ literals₀ is-open₀ i₀ stamps clauses literals is-open i = Scanning n rules stamps clauses literals is-open i
+
+abbrev μ-loop : tie.MeasureT-loop
+μ-loop n rules stamps₀ clauses₀ literals₀ is-open₀ i₀ stamps clauses literals is-open i = length rules - i
+
+no-stamps-requires : tie.Need-no-stamps-requires Inv-loop μ-loop
+no-stamps-requires c κs = search needs
+
+loop-holds : tie.Need-loop-holds Inv-loop μ-loop
+loop-holds c = start (c .before .args .n) (c .before .args .rules .now) (c .no-stamps .result) (c .no-stamps .ensures .0) (c .no-stamps .ensures .1)
+
+add-next : tie.Need-add-next Inv-loop μ-loop
+add-next c = search needs
+
+mul-variable-of : tie.Need-mul-variable-of Inv-loop μ-loop
+mul-variable-of c = search needs
+
+shared-slice-copy-out-variable-of : tie.Need-shared-slice-copy-out-variable-of Inv-loop μ-loop
+shared-slice-copy-out-variable-of c = search needs
+
+variable-of-requires : tie.Need-variable-of-requires Inv-loop μ-loop
+variable-of-requires c κs = search needs
+
+-- the callee's variable is that of the list's element
+handed : (c : tie.After-variable-of Inv-loop μ-loop)
+    → c .variable-of .result .0 ≡ variable (getD (c .before .before .before .before .before .args .rules .now) (c .before .before .before .loop .i) (pos 0))
+handed c =
+    c .variable-of .ensures
+    ∙ ap variable (as-read (getD (c .before .before .before .before .before .args .rules .now) (c .before .before .before .loop .i) (pos 0)) (c .before .variable-of-arg .given))
+
+returns : tie.Need-returns Inv-loop μ-loop
+returns c = clauses-over (c .before .before .before .before .before .before .before .args .n) (c .before .before .before .before .before .before .before .args .rules .now) (c .before .before .before .before .before .loop .stamps) (c .before .before .before .before .before .loop .clauses) (c .before .before .before .before .before .loop .literals) (c .before .before .before .before .before .loop .is-open) (c .before .before .before .before .before .loop .i) (c .before .before .before .before .before .loop .inv) (c .before .before .before .before .loop-test .taken) (c .before .before .variable-of .result .0) (handed (c .before .before)) (c .before .if1 .taken) (c .if2 .taken)
+
+add-clauses : tie.Need-add-clauses Inv-loop μ-loop
+add-clauses c = omega (arith, c .before .before .before .before .before .loop .inv .few)
+
+returns-2 : tie.Need-returns-2 Inv-loop μ-loop
+returns-2 c = outside (c .before .before .before .before .before .before .before .args .n) (c .before .before .before .before .before .before .before .args .rules .now) (c .before .before .before .before .before .loop .stamps) (c .before .before .before .before .before .loop .clauses) (c .before .before .before .before .before .loop .literals) (c .before .before .before .before .before .loop .is-open) (c .before .before .before .before .before .loop .i) (c .before .before .before .before .before .loop .inv) (c .before .before .before .before .loop-test .taken) (c .before .before .variable-of .result .0) (handed (c .before .before)) (c .before .if1 .left) (c .if3 .taken)
+
+returns-3 : tie.Need-returns-3 Inv-loop μ-loop
+returns-3 c = literals-over (c .before .before .before .before .before .before .before .before .args .n) (c .before .before .before .before .before .before .before .before .args .rules .now) (c .before .before .before .before .before .before .loop .stamps) (c .before .before .before .before .before .before .loop .clauses) (c .before .before .before .before .before .before .loop .literals) (c .before .before .before .before .before .before .loop .is-open) (c .before .before .before .before .before .before .loop .i) (c .before .before .before .before .before .before .loop .inv) (c .before .before .before .before .before .loop-test .taken) (c .before .before .before .variable-of .result .0) (handed (c .before .before .before)) (c .before .before .if1 .left) (c .before .if3 .left) (c .if4 .taken)
+
+add-stamp : tie.Need-add-stamp Inv-loop μ-loop
+add-stamp c = omega (arith, c .before .before .before .before .before .before .loop .inv .few)
+
+cast-stamp : tie.Need-cast-stamp Inv-loop μ-loop
+cast-stamp c = omega (arith, c .before .before .before .before .before .before .loop .inv .few)
+
+mul-if5 : tie.Need-mul-if5 Inv-loop μ-loop
+mul-if5 c = omega (arith, c .before .before .before .before .before .before .before .before .pre)
+
+array-read-if5 : tie.Need-array-read-if5 Inv-loop μ-loop
+array-read-if5 c = omega (arith, c .before .before .before .before .before .before .before .before .pre)
+
+returns-4 : tie.Need-returns-4 Inv-loop μ-loop
+returns-4 c = twice (c .before .before .before .before .before .before .before .before .before .args .n) (c .before .before .before .before .before .before .before .before .before .args .rules .now) (c .before .before .before .before .before .before .before .loop .stamps) (c .before .before .before .before .before .before .before .loop .clauses) (c .before .before .before .before .before .before .before .loop .literals) (c .before .before .before .before .before .before .before .loop .is-open) (c .before .before .before .before .before .before .before .loop .i) (c .before .before .before .before .before .before .before .loop .inv) (c .before .before .before .before .before .before .loop-test .taken) (c .before .before .before .before .variable-of .result .0) (handed (c .before .before .before .before)) (c .before .before .before .if1 .left) (c .before .before .if3 .left) (c .before .if4 .left) (c .if5 .taken)
+
+mul-stamps : tie.Need-mul-stamps Inv-loop μ-loop
+mul-stamps c = omega (arith, c .before .before .before .before .before .before .before .before .before .pre)
+
+array-write-stamps : tie.Need-array-write-stamps Inv-loop μ-loop
+array-write-stamps c = omega (arith, c .before .before .before .before .before .before .before .before .before .pre)
+
+add-literals : tie.Need-add-literals Inv-loop μ-loop
+add-literals c = omega (arith, c .before .before .before .before .before .before .before .loop .inv .many)
+
+loop-less : tie.Need-loop-less Inv-loop μ-loop
+loop-less c = search needs
+
+loop-again : tie.Need-loop-again Inv-loop μ-loop
+loop-again c = closed (c .before .before .before .before .before .before .before .args .n) (c .before .before .before .before .before .before .before .args .rules .now) (c .before .before .before .before .before .loop .stamps) (c .before .before .before .before .before .loop .clauses) (c .before .before .before .before .before .loop .literals) (c .before .before .before .before .before .loop .is-open) (c .before .before .before .before .before .loop .i) (c .before .before .before .before .before .loop .inv) (c .before .before .before .before .loop-test .taken) (c .before .before .variable-of .result .0) (handed (c .before .before)) (c .before .if1 .taken) (c .if2 .left)
+
+loop-less-2 : tie.Need-loop-less-2 Inv-loop μ-loop
+loop-less-2 c = search needs
+
+loop-again-2 : tie.Need-loop-again-2 Inv-loop μ-loop
+loop-again-2 c =
+    joined (c .before .before .before .before .before .before .before .before .before .args .n) (c .before .before .before .before .before .before .before .before .before .args .rules .now) (c .before .before .before .before .before .before .before .loop .stamps) (c .before .before .before .before .before .before .before .loop .clauses) (c .before .before .before .before .before .before .before .loop .literals) (c .before .before .before .before .before .before .before .loop .is-open) (c .before .before .before .before .before .before .before .loop .i) (c .before .before .before .before .before .before .before .loop .inv) (c .before .before .before .before .before .before .loop-test .taken) (c .before .before .before .before .variable-of .result .0) (handed (c .before .before .before .before)) (c .before .before .before .if1 .left) (c .before .before .if3 .left) (c .before .if4 .left) (c .before .before .before .before .before .before .before .before .before .pre) (c .if5 .left)
+
+returns-5 : tie.Need-returns-5 Inv-loop μ-loop
+returns-5 c = left-open (c .before .before .before .before .args .n) (c .before .before .before .before .args .rules .now) (c .before .before .loop .stamps) (c .before .before .loop .clauses) (c .before .before .loop .literals) (c .before .before .loop .is-open) (c .before .before .loop .i) (c .before .before .loop .inv) (c .before .loop-test .left) (c .if6 .taken)
+
+returns-6 : tie.Need-returns-6 Inv-loop μ-loop
+returns-6 c = complete (c .before .before .before .before .args .n) (c .before .before .before .before .args .rules .now) (c .before .before .loop .stamps) (c .before .before .loop .clauses) (c .before .before .loop .literals) (c .before .before .loop .is-open) (c .before .before .loop .i) (c .before .before .loop .inv) (c .before .loop-test .left) (c .if6 .left)
+
+pub scan-rules-spec : {M : Type 1} → statement M
+scan-rules-spec =
+    tie.close
+    (tie.spec
+    Inv-loop
+    μ-loop
+    no-stamps-requires
+    loop-holds
+    add-next
+    mul-variable-of
+    shared-slice-copy-out-variable-of
+    variable-of-requires
+    returns
+    add-clauses
+    returns-2
+    returns-3
+    add-stamp
+    cast-stamp
+    mul-if5
+    array-read-if5
+    returns-4
+    mul-stamps
+    array-write-stamps
+    add-literals
+    loop-less
+    loop-again
+    loop-less-2
+    loop-again-2
+    returns-5
+    returns-6)

@@ -1,0 +1,39 @@
+// The length of a row or a choice, and the size of a problem with wishes.
+use refusal::Verdict;
+ghost use mathlib.Core.Path.{_≡_};
+ghost use mathlib.Core.Bool.{not};
+ghost use lib.Dec.{eqb};
+ghost use Rattle.refusal.specs.Reply.{refused, cause};
+ghost use Rattle.lent.specs.Lent.{oversized};
+
+const MAX_WISH_VARIABLES: usize = 256;
+
+const MAX_WISH_CLAUSES: usize = 4096;
+
+const MAX_WISH_LITERALS: usize = 16384;
+
+// Whether a row or a choice has a byte for each of n variables.
+pub fn check_length(n: usize, length: usize) -> Verdict
+    ensures { λ r. ⌜ refused r ≡ cause (not (eqb length n)) 11 0 ⌝ }
+{
+    if length == n {
+        return Verdict::Pass;
+    }
+    refusal::refuse(11, 0)
+}
+
+// Whether a problem is small enough for a call that takes wishes.
+pub fn check_size(n: usize, clauses: usize, literals: usize) -> Verdict
+    ensures { λ r. ⌜ refused r ≡ cause (oversized n clauses literals) 12 0 ⌝ }
+{
+    if MAX_WISH_VARIABLES < n {
+        return refusal::refuse(12, 0);
+    }
+    if MAX_WISH_CLAUSES < clauses {
+        return refusal::refuse(12, 0);
+    }
+    if MAX_WISH_LITERALS < literals {
+        return refusal::refuse(12, 0);
+    }
+    Verdict::Pass
+}
