@@ -1,5 +1,5 @@
 -- A state of the search as the code keeps it: the assignment, the trail, and the running tally of assigned variables and broken wishes (document 01, step 1).
-use mathlib.Core.Path.{_≡_, refl, sym, ap, ap₂, _∙_, subst}
+use mathlib.Core.Path.{_≡_, refl, sym, ap, _∙_}
 use mathlib.Core.List.{List}
 use Prim.Native.Nat.{ℕ, _+_, _-_, _≤_, _<_}
 use native.Mathlib.Omega.{arith}
@@ -7,6 +7,7 @@ use lib.ListN.{length, getD, set, length-set}
 use Rattle.literal.specs.Literal.{value}
 use Rattle.literal.specs.Laws.{value-at}
 use Rattle.distance.specs.Distance.{cost, disagreement}
+use Rattle.distance.specs.Laws.{cost-most}
 use Rattle.walk.specs.State.{State, unassigned, assign}
 use Rattle.walk.specs.Assignment.{assign-set, assign-state, assign-fewer, assign-cost}
 use Rattle.propagation.specs.Trail.{undone, undone-assigned, undone-none}
@@ -16,6 +17,7 @@ pub record Searching (n : ℕ) (row a trail : List ℕ) (settled broken : ℕ) :
   pub long : length trail ≡ n
   pub counted : settled + unassigned a ≡ n
   pub breaks : broken ≡ disagreement row a
+  pub few : broken ≤ settled
   pub kept : undone settled trail a ≡ a
 
 -- what was assigned before is undone alike: from one state to a later one, s variables being assigned in the first
@@ -36,16 +38,17 @@ module _ (n : ℕ) (row a trail : List ℕ) (settled broken : ℕ) (s : Searchin
 
   pub assigned : Searching n row (assign a v b) (set trail (v - 1) settled) (settled + 1) (broken + cost (value row v) b)
   assigned =
-      record
-        { state = assign-state (s .state) v b (omega arith)
-        ; long = length-set trail (v - 1) settled ∙ s .long
-        ; counted = omega (arith, s .counted, assign-fewer (s .state) v b low high free bit)
-        ; breaks = omega (arith, s .breaks, assign-cost (s .state) row v b low high free)
-        ; kept =
+      record {
+        state = assign-state (s .state) v b (omega arith);
+        long = length-set trail (v - 1) settled ∙ s .long;
+        counted = omega (arith, s .counted, assign-fewer (s .state) v b low high free bit);
+        breaks = omega (arith, s .breaks, assign-cost (s .state) row v b low high free);
+        few = omega (arith, s .few, cost-most (value row v) b);
+        kept =
             ap (undone (settled + 1) (set trail (v - 1) settled)) (assign-set a v b low)
             ∙ undone-none settled trail a (v - 1) b (s .kept)
-            ∙ sym (assign-set a v b low)
-        }
+            ∙ sym (assign-set a v b low);
+      }
 
   pub assigned-later : Later settled trail a (set trail (v - 1) settled) (assign a v b)
   assigned-later t h =

@@ -1,18 +1,17 @@
 -- What a pass over the clauses finds: the first that is falsified or unit.
-use mathlib.Core.Path.{_≡_, refl, sym, ap, _∙_}
-use mathlib.Core.Bool.{Bool, true, false, cond, not, _&&_, _||_, true≢false}
+use mathlib.Core.Path.{_≡_, refl, sym, _∙_}
+use mathlib.Core.Bool.{Bool, true, false, cond, _&&_, _||_, true≢false}
 use mathlib.Core.List.{List, [], _∷_}
 use mathlib.Core.Option.{Option, none, some}
 use Prim.Native.Nat.{ℕ, _<_}
 use native.Mathlib.Omega.{arith}
 use lib.Dec.{eqb}
 use lib.IntN.{ℤ}
-use borrow.Author.Tests.{eqb-true, eq-eqb, ne-eqb}
+use borrow.Author.Tests.{eqb-true, ne-eqb}
 use Rattle.formula.specs.Formula.{any, satisfied}
 use Rattle.walk.specs.State.{find, isUnassigned, unassignedIn, isOpen, isUnit, isFalsified}
 use Rattle.walk.specs.Propagation.{unitLiteral}
 use Rattle.walk.specs.Counting.{find-some}
-use Rattle.standing.specs.declared.Standing.{Standing}
 use Rattle.standing.specs.declared.Standing.the-variants.{Satisfied, Open}
 use Rattle.standing.specs.Standing.{standingOf}
 use Rattle.propagation.specs.declared.unit.Unit as U

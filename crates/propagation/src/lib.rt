@@ -1,8 +1,11 @@
 // Unit propagation, and its undoing.
+mod propagate;
 mod settle;
 mod trail;
 mod unit;
 
+pub use propagate::Propagated;
+pub use propagate::propagate_units;
 pub use settle::Tally;
 pub use settle::assign_to;
 pub use trail::undo;

@@ -14,7 +14,14 @@ pub struct Tally {
 }
 
 // Assigns a variable, and gives the tally with it.
-pub fn assign_to(tally: Tally, row: &[u8], v: Variable, bit: u8, a: &mut [u8], trail: &mut [u16]) -> Tally
+pub fn assign_to(
+    tally: Tally,
+    row: &[u8],
+    v: Variable,
+    bit: u8,
+    a: &mut [u8],
+    trail: &mut [u16],
+) -> Tally
     requires { ⌜ (0 < v .0) × (v .0 ≤ length (now a)) × (length (now trail) ≡ length (now a)) ⌝ }
     requires { ⌜ (tally .settled ≤ 640) × (tally .broken ≤ tally .settled) ⌝ }
     ensures { λ r. ⌜ (r .settled ≡ tally .settled + 1) × (r .broken ≡ tally .broken + cost (value (now (row .entry)) (v .0)) bit) ⌝ }

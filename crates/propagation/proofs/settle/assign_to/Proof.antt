@@ -1,3 +1,4 @@
+-- `propagation::settle::assign_to` meets its contract.
 use mathlib.Core.Path.{_≡_, refl, sym, ap, _∙_}
 use Prim.Native.Nat.{ℕ, _+_}
 use native.Mathlib.Omega.{arith}
@@ -8,40 +9,28 @@ use Rattle.walk.specs.Assignment.{assign-set}
 use borrow.Author.Needs.{needs}
 use Rattle.propagation.proofs.settle.assign_to.Statement.{statement}
 use Rattle.propagation.proofs.settle.assign_to.Tie as tie
-use Rattle.propagation.proofs.settle.assign_to.Reads as reads
-use Rattle.propagation.proofs.settle.assign_to.Lts as lts
-use Rattle.distance.proofs.cost_of.Reads as cost-of-reads
-use Rattle.literal.proofs.value_of.Reads as value-of-reads
 
--- src/settle.rt:25:14
 sub-at : tie.Need-sub-at
 sub-at c = search needs
 
--- src/settle.rt:27:34
 value-of-requires : tie.Need-value-of-requires
 value-of-requires c κs = search needs
 
--- src/settle.rt:27:9
 cost-of-requires : tie.Need-cost-of-requires
 cost-of-requires c κs = search needs
 
--- src/settle.rt:28:5
 slice-write-a : tie.Need-slice-write-a
 slice-write-a c = search needs
 
--- src/settle.rt:29:17
 cast-trail : tie.Need-cast-trail
 cast-trail c = search needs
 
--- src/settle.rt:29:5
 mul-trail : tie.Need-mul-trail
 mul-trail c = search needs
 
--- src/settle.rt:29:5
 slice-write-trail : tie.Need-slice-write-trail
 slice-write-trail c = search needs
 
--- src/settle.rt:31:18
 add-t14 : tie.Need-add-t14
 add-t14 c = search needs
 
@@ -49,24 +38,20 @@ add-t14 c = search needs
 priced : (c : tie.After-struct-known) → c .before .cost-of .result ≡ cost (value (c .before .before .before .before .before .before .args .row .now) (c .before .before .before .before .before .before .args .v .0)) (c .before .before .before .before .before .before .args .bit)
 priced c = c .before .cost-of .ensures ∙ ap (λ (w : ℕ). cost w (c .before .before .before .before .before .before .args .bit)) (c .before .before .value-of .ensures)
 
-
--- src/settle.rt:32:17
 add-t16 : tie.Need-add-t16
 add-t16 c = omega (arith, cost-most (value (c .before .before .before .before .before .before .args .row .now) (c .before .before .before .before .before .before .args .v .0)) (c .before .before .before .before .before .before .args .bit), priced c)
 
--- src/settle.rt:17:1
 same-length : tie.Need-same-length
 same-length c = search needs
 
--- src/settle.rt:17:1
 same-length-2 : tie.Need-same-length-2
 same-length-2 c = search needs
 
--- src/settle.rt:17:1
 returns : tie.Need-returns
-returns c =
-    ((refl, ap (λ (k : ℕ). c .before .before .before .before .before .before .args .tally .broken + k) (priced c)),
-    (sym (assign-set (c .before .before .before .before .before .before .args .a .now) (c .before .before .before .before .before .before .args .v .0) (c .before .before .before .before .before .before .args .bit) (c .before .before .before .before .before .before .pre .0 .0)), refl))
+returns c = (
+  (refl, ap (λ (k : ℕ). c .before .before .before .before .before .before .args .tally .broken + k) (priced c)),
+  (sym (assign-set (c .before .before .before .before .before .before .args .a .now) (c .before .before .before .before .before .before .args .v .0) (c .before .before .before .before .before .before .args .bit) (c .before .before .before .before .before .before .pre .0 .0)), refl),
+)
 
 pub assign-to-spec : {M : Type 1} → statement M
 assign-to-spec =

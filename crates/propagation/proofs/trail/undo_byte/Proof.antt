@@ -1,16 +1,13 @@
+-- `propagation::trail::undo_byte` meets its contract.
 use mathlib.Core.Path.{sym, ap}
 use mathlib.Core.Bool.{Bool, cond}
 use borrow.Author.Tests.{lt-ltb, le-ltb}
 use Rattle.propagation.proofs.trail.undo_byte.Statement.{statement}
 use Rattle.propagation.proofs.trail.undo_byte.Tie as tie
-use Rattle.propagation.proofs.trail.undo_byte.Reads as reads
-use Rattle.propagation.proofs.trail.undo_byte.Lts as lts
 
--- src/trail.rt:21:1
 returns : tie.Need-returns
 returns c = sym (ap (λ (t : Bool). cond t (c .before .args .value) 2) (lt-ltb (c .before .args .before) (c .before .args .settled) (c .if1 .taken)))
 
--- src/trail.rt:21:1
 returns-2 : tie.Need-returns-2
 returns-2 c = sym (ap (λ (t : Bool). cond t (c .before .args .value) 2) (le-ltb (c .before .args .before) (c .before .args .settled) (c .if1 .left)))
 

@@ -1,5 +1,5 @@
 -- `propagation::unit::unit_in` meets its contract, by the clause's standing.
-use mathlib.Core.Path.{_≡_, sym, ap, _∙_}
+use mathlib.Core.Path.{sym, ap, _∙_}
 use mathlib.Core.List.{[]}
 use borrow.Author.Needs.{needs}
 use Rattle.standing.specs.declared.Standing.the-variants.{Open}
