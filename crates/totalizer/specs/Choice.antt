@@ -1,0 +1,73 @@
+-- Choices, and what their first variables say.
+use mathlib.Core.Path.{_≡_, refl, ap}
+use mathlib.Core.Bool.{Bool, true, false, not, cond, _&&_}
+use mathlib.Core.List.{List, [], _∷_}
+use mathlib.Core.Option.{none, some}
+use Prim.Native.Nat.{ℕ, zero, suc, _≤_, _<_}
+use native.Mathlib.Omega.{arith}
+use native.Mathlib.Nat.{not-suc-le-zero, le-of-suc-le-suc}
+use lib.Dec.{eqb, ltb}
+use lib.IntN.{ℤ, pos, negsuc}
+use lib.ListN.{length, getD, take, length-take}
+use lib.Seq.{getD-take}
+use borrow.Author.Tests.{ltb-true}
+use Rattle.literal.specs.Literal.{variable, value, wanted, holds}
+use Rattle.formula.specs.Formula.{all}
+use Rattle.lent.specs.Sound.{badChoice}
+use Rattle.soundness.specs.Laws.{and-left, and-right, and-both}
+use Rattle.totalizer.specs.Totalizer.{Choice}
+use Rattle.totalizer.specs.Meaning.{Opposite}
+
+byte-at : (a : List ℕ) → all (λ (b : ℕ). ltb b 2) a ≡ true → (i : ℕ) → i < length a → getD a i 2 < 2
+byte-at [] e i h = absurd (not-suc-le-zero h)
+byte-at (b ∷ a) e zero h = ltb-true b 2 (and-left (ltb b 2) (all (λ (c : ℕ). ltb c 2) a) e)
+byte-at (b ∷ a) e (suc i) h = byte-at a (and-right (ltb b 2) (all (λ (c : ℕ). ltb c 2) a) e) i (le-of-suc-le-suc h)
+
+-- the byte of every variable of a choice is 0 or 1
+pub choice-value : (n : ℕ) (a : List ℕ) → Choice n a → (v : ℕ) → 0 < v → v ≤ n → value a v < 2
+choice-value n a c zero z h = absurd (not-suc-le-zero z)
+choice-value n a c (suc k) z h = byte-at a (c .binary) k (omega arith)
+
+bit : (w : ℕ) → w < 2 → (eqb w 0 ≡ not (eqb w 1)) × (eqb w 1 ≡ not (eqb w 0))
+bit zero h = (refl, refl)
+bit (suc zero) h = (refl, refl)
+bit (suc (suc w)) h = absurd (omega arith)
+
+-- so opposite literals have opposite truth
+pub choice-opposite : (n : ℕ) (a : List ℕ) → Choice n a → Opposite (holds a) n
+choice-opposite n a c (pos zero) z h = absurd (not-suc-le-zero z)
+choice-opposite n a c (pos (suc k)) z h = bit (value a (suc k)) (choice-value n a c (suc k) z h) .0
+choice-opposite n a c (negsuc k) z h = bit (value a (suc k)) (choice-value n a c (suc k) z h) .1
+
+-- the first variables keep their values
+pub value-take : (n : ℕ) (a : List ℕ) (v : ℕ) → v ≤ n → value (take n a) v ≡ value a v
+value-take n a zero h = refl
+value-take n a (suc k) h = getD-take n a k 2 h
+
+pub holds-take : (n : ℕ) (a : List ℕ) (x : ℤ) → variable x ≤ n → holds (take n a) x ≡ holds a x
+holds-take n a x h = ap (λ (w : ℕ). eqb w (wanted x)) (value-take n a (variable x) h)
+
+take-binary : (n : ℕ) (a : List ℕ) → all (λ (b : ℕ). ltb b 2) a ≡ true → all (λ (b : ℕ). ltb b 2) (take n a) ≡ true
+take-binary zero a e = refl
+take-binary (suc n) [] e = refl
+take-binary (suc n) (b ∷ a) e =
+    and-both (ltb b 2) (all (λ (c : ℕ). ltb c 2) (take n a))
+    (and-left (ltb b 2) (all (λ (c : ℕ). ltb c 2) a) e)
+    (take-binary n a (and-right (ltb b 2) (all (λ (c : ℕ). ltb c 2) a) e))
+
+-- and are a choice themselves
+pub choice-take : (n m : ℕ) (a : List ℕ) → Choice m a → n ≤ m → Choice n (take n a)
+choice-take n m a c h = record { size = omega (arith, length-take n a); binary = take-binary n a (c .binary) }
+
+-- a given choice that passes the test of lent values is one
+pub sound-choice : (a : List ℕ) (i : ℕ) → badChoice i a ≡ none → Choice (length a) a
+sound-choice a i e = record { size = refl; binary = go a i e }
+  where
+    go : (b : List ℕ) (j : ℕ) → badChoice j b ≡ none → all (λ (c : ℕ). ltb c 2) b ≡ true
+    go [] j e = refl
+    go (b ∷ l) j e = step (ltb b 2) refl e (go l (suc j))
+      where
+        step : (t : Bool) → ltb b 2 ≡ t → cond t (badChoice (suc j) l) (some j) ≡ none → (badChoice (suc j) l ≡ none → all (λ (c : ℕ). ltb c 2) l ≡ true)
+            → ltb b 2 && all (λ (c : ℕ). ltb c 2) l ≡ true
+        step true q f ih = and-both (ltb b 2) (all (λ (c : ℕ). ltb c 2) l) q (ih f)
+        step false q f ih = let z : _≡_ {A = ℕ} 0 1 = cc in absurd (omega arith)
