@@ -34,7 +34,6 @@ pub record Nearest (n : ℕ) (f : List (List ℤ)) (row : List ℕ) (k : ℕ) : 
 abbrev starting : ℕ → ℕ → List (List ℕ)
 starting b n = map (λ (a : List ℕ). b ∷ a) (choices n)
 
--- `choices` lists the choices, and nothing else
 listed : (n : ℕ) (a : List ℕ) → Choice n a → List·Memᴰ a (choices n)
 listed zero [] h = List·Memᴰ·head refl
 listed zero (b ∷ a) h = absurd (omega (arith, h .size))
@@ -63,6 +62,7 @@ is-choice (suc n) a m =
         let r = Memᴰ·of-map (λ (c : List ℕ). b ∷ c) (choices n) q in
         subst (Choice (suc n)) (r .2) (one-more k (ih (r .0) (r .1)))
 
+-- `choices` lists the choices, and nothing else
 pub choices-iff : (n : ℕ) (a : List ℕ) → List·Memᴰ a (choices n) ↔ Choice n a
 choices-iff n a = (is-choice n a, listed n a)
 

@@ -16,7 +16,7 @@ use Rattle.literal.specs.Laws.{getD-inside}
 use Rattle.distance.specs.Distance.{cost, disagreement}
 use Rattle.distance.specs.Laws.{cost-free}
 use Rattle.choices.specs.Choices.{Choice}
-use Rattle.walk.specs.State.{State, isTwo, unassigned, assign, satisfy, isUnassigned}
+use Rattle.walk.specs.State.{State, isUnset, unassigned, assign, satisfy, isUnassigned}
 use Rattle.walk.specs.Extension.{Extends, wanted-bit, cost-unassigned}
 
 -- as a store into the list of bytes
@@ -64,7 +64,7 @@ assign-state {n} {a} h (suc j) b k = record { size = length-set a j b ∙ h .siz
 store-fewer : (a : List ℕ) (j b : ℕ) → j < length a → getD a j 2 ≡ 2 → b < 2 → suc (unassigned (set a j b)) ≡ unassigned a
 store-fewer [] j b h e k = absurd (not-suc-le-zero h)
 store-fewer (x ∷ a) zero b h e k = rw (e, ne-eqb b 2 (λ q. omega arith))
-store-fewer (x ∷ a) (suc j) b h e k = go (isTwo x) (store-fewer a j b (le-of-suc-le-suc h) e k)
+store-fewer (x ∷ a) (suc j) b h e k = go (isUnset x) (store-fewer a j b (le-of-suc-le-suc h) e k)
   where
     go : (t : Bool) → suc (unassigned (set a j b)) ≡ unassigned a
         → suc (cond t (suc (unassigned (set a j b))) (unassigned (set a j b))) ≡ cond t (suc (unassigned a)) (unassigned a)

@@ -9,7 +9,7 @@ use lib.ListN.{length}
 use Rattle.literal.specs.Literal.{variable, wanted, value}
 use Rattle.formula.specs.Formula.{any, all}
 use Rattle.distance.specs.Distance.{cost}
-use Rattle.walk.specs.State.{isTwo, isUnassigned, unassignedIn, isOpen}
+use Rattle.walk.specs.State.{isUnset, isUnassigned, unassignedIn, isOpen}
 
 -- a value breaks a wish if it costs something there
 abbrev pub breaks : ℕ → ℕ → Bool
@@ -20,8 +20,11 @@ abbrev pub isAgainst : List ℕ → ℤ → Bool
 isAgainst row x = breaks (value row (variable x)) (wanted x)
 
 -- an open clause "whose unsettled entries all go against wishes" (document 000: falsified by the reference assignment)
+abbrev pub assignedOrAgainst : List ℕ → List ℕ → ℤ → Bool
+assignedOrAgainst row a x = not (isUnassigned a x) || isAgainst row x
+
 abbrev pub isOpposed : List ℕ → List ℕ → List ℤ → Bool
-isOpposed row a c = isOpen a c && all (λ (x : ℤ). not (isUnassigned a x) || isAgainst row x) c
+isOpposed row a c = isOpen a c && all (assignedOrAgainst row a) c
 
 -- "of two open rules the shorter is handed back as itself (fewer unsettled entries; the first if equal)"
 abbrev pub shorter : List ℕ → List ℤ → List ℤ → List ℤ
@@ -43,23 +46,34 @@ fewest row a f = Option·map (unassignedIn a) (shortest row a f)
 -- the clauses that give the candidates
 abbrev pub isSource : List ℕ → List ℕ → Option ℕ → List ℤ → Bool
 isSource row a none c = isOpen a c
-isSource row a (some k) c = isOpposed row a c && eqb (unassignedIn a c) k
+isSource row a (some size) c = isOpposed row a c && eqb (unassignedIn a c) size
+
+-- a variable occurs in a clause
+abbrev pub isOf : ℕ → ℤ → Bool
+isOf v x = eqb (variable x) v
 
 abbrev pub mentions : ℕ → List ℤ → Bool
-mentions v c = any (λ (x : ℤ). eqb (variable x) v) c
+mentions v c = any (isOf v) c
+
+-- a candidate is an unassigned variable of such a clause
+abbrev pub offers : List ℕ → List ℕ → Option ℕ → ℕ → List ℤ → Bool
+offers row a size v c = isSource row a size c && mentions v c
 
 abbrev pub isCandidate : List ℕ → List ℕ → List (List ℤ) → ℕ → Bool
-isCandidate row a f v = isTwo (value a v) && any (λ (c : List ℤ). isSource row a (fewest row a f) c && mentions v c) f
+isCandidate row a f v = isUnset (value a v) && any (offers row a (fewest row a f) v) f
 
 -- "An open rule with k unsettled entries weighs 4 to the power 10 - min(k, 10)."
 abbrev pub clauseWeight : List ℕ → List ℤ → ℕ
 clauseWeight a c = cond (isOpen a c) (4 ^ (10 - min (unassignedIn a c) 10)) 0
 
--- the literal of variable v that wants the value b stands in a clause
-abbrev pub contains : ℕ → ℕ → List ℤ → Bool
-contains v b c = any (λ (x : ℤ). eqb (variable x) v && eqb (wanted x) b) c
+-- the literal of variable v that wants the value b (v itself at b = 1, -v at b = 0) stands in a clause
+abbrev pub isLiteral : ℕ → ℕ → ℤ → Bool
+isLiteral v b x = eqb (variable x) v && eqb (wanted x) b
 
--- "P and Q the weights of open rules holding v and -v": P at b = 1, Q at b = 0
+abbrev pub contains : ℕ → ℕ → List ℤ → Bool
+contains v b c = any (isLiteral v b) c
+
+-- "P and Q the weights of open rules holding v and -v": P is that of the value 1, Q that of 0
 abbrev pub weightOf : List ℕ → ℕ → ℕ → List (List ℤ) → ℕ
 weightOf a v b [] = 0
 weightOf a v b (c ∷ f) = cond (contains v b c) (clauseWeight a c) 0 + weightOf a v b f

@@ -12,21 +12,26 @@ use borrow.Author.Tests.{eqb-true, eqb-false, ltb-true, ltb-false, leb-true, leb
 use Rattle.literal.specs.Literal.{variable, value}
 use Rattle.formula.specs.Formula.{any, all, satisfied, models}
 use Rattle.choices.specs.Lists.{any-at, any-member, any-false, all-at, all-false}
-use Rattle.walk.specs.State.{State, isTwo, isUnassigned, unassignedIn, isOpen, isFalsified, fits}
-use Rattle.walk.specs.Branching.{isAgainst, isOpposed, shorter, shorterOf, shortest, fewest, isSource, mentions, isCandidate, score, better, best, branchingVariable}
+use Rattle.walk.specs.State.{State, isUnset, isUnassigned, unassignedIn, isOpen, isFalsified, fits}
+use Rattle.walk.specs.Branching.{isAgainst, assignedOrAgainst, isOf, offers, isOpposed, shorter, shorterOf, shortest, fewest, isSource, mentions, isCandidate, score, better, best, branchingVariable}
 use Rattle.walk.specs.Walk.{complete}
+use Rattle.walk.specs.Promises.{Branches}
 use Rattle.walk.specs.Extension.{satisfied-kept}
 use Rattle.walk.specs.Counting.{find-member, find-some}
 use Rattle.walk.specs.Fits.{fits-at}
 use Rattle.walk.specs.Completion.{complete-extends}
 
 module _ (candidate : ℕ → Bool) (score : ℕ → ℕ) where
-  -- what it is to be the best of the variables 1 to k: "Highest score wins, then lowest number"
+  -- "Highest score wins, then lowest number"
+  abbrev pub LosesTo : ℕ → ℕ → Type 0
+  LosesTo v u = candidate u ≡ true → (score u ≤ score v) × (score u ≡ score v → v ≤ u)
+
+  -- what it is to be the best of the variables 1 to k
   pub record Best (k v : ℕ) : Type 0 where
     pub passes : candidate v ≡ true
     pub above : 0 < v
     pub upTo : v ≤ k
-    pub wins : (u : ℕ) → 0 < u → u ≤ k → candidate u ≡ true → (score u ≤ score v) × (score u ≡ score v → v ≤ u)
+    pub wins : (u : ℕ) → 0 < u → u ≤ k → LosesTo v u
 
   abbrev pub IsBest : ℕ → Option ℕ → Type 0
   IsBest k none = (u : ℕ) → 0 < u → u ≤ k → candidate u ≡ false
@@ -49,18 +54,18 @@ module _ (candidate : ℕ → Bool) (score : ℕ → ℕ) where
             passes = e;
             above = omega arith;
             upTo = omega arith;
-            wins = next-or-before {P = λ (u : ℕ). candidate u ≡ true → (score u ≤ score (suc k)) × (score u ≡ score (suc k) → suc k ≤ u)} k (λ p. omega arith) (λ u l q p. absurd (true≢false (sym p ∙ h u l q)));
+            wins = next-or-before {P = LosesTo (suc k)} k (λ p. omega arith) (λ u l q p. absurd (true≢false (sym p ∙ h u l q)));
           }
       go false e = next-or-before {P = λ (u : ℕ). candidate u ≡ false} k e h
   best-step k (some v) h = go (candidate (suc k)) refl (ltb (score v) (score (suc k))) refl
     where
-      stays : (candidate (suc k) ≡ true → (score (suc k) ≤ score v) × (score (suc k) ≡ score v → v ≤ suc k)) → Best (suc k) v
+      stays : LosesTo v (suc k) → Best (suc k) v
       stays here =
           record {
             passes = h .passes;
             above = h .above;
             upTo = omega (arith, h .upTo);
-            wins = next-or-before {P = λ (u : ℕ). candidate u ≡ true → (score u ≤ score v) × (score u ≡ score v → v ≤ u)} k here (λ u l q p. h .wins u l q p);
+            wins = next-or-before {P = LosesTo v} k here (λ u l q p. h .wins u l q p);
           }
 
       go : (t : Bool) → candidate (suc k) ≡ t → (s : Bool) → ltb (score v) (score (suc k)) ≡ s → IsBest (suc k) (cond (t && s) (some (suc k)) (some v))
@@ -69,7 +74,7 @@ module _ (candidate : ℕ → Bool) (score : ℕ → ℕ) where
             passes = e;
             above = omega arith;
             upTo = omega arith;
-            wins = next-or-before {P = λ (u : ℕ). candidate u ≡ true → (score u ≤ score (suc k)) × (score u ≡ score (suc k) → suc k ≤ u)} k (λ p. omega arith) (λ u l r p. omega (arith, h .wins u l r p .0, ltb-true (score v) (score (suc k)) q));
+            wins = next-or-before {P = LosesTo (suc k)} k (λ p. omega arith) (λ u l r p. omega (arith, h .wins u l r p .0, ltb-true (score v) (score (suc k)) q));
           }
       go true e false q = stays (λ p. omega (arith, ltb-false (score v) (score (suc k)) q, h .upTo))
       go false e s q = stays (λ p. absurd (true≢false (sym p ∙ e)))
@@ -90,26 +95,22 @@ module _ (candidate : ℕ → Bool) (score : ℕ → ℕ) where
       go (some v) e q = (v, refl)
 
 -- the branching variable is unassigned, and one of the state's
-pub record Branches (a : List ℕ) (n v : ℕ) : Type 0 where
-  pub free : value a v ≡ 2
-  pub above : 0 < v
-  pub upTo : v ≤ n
-
 pub branching-sound : {n : ℕ} {a : List ℕ} → State n a → (row : List ℕ) (f : List (List ℤ)) {v : ℕ} → branchingVariable row a f ≡ some v → Branches a n v
 branching-sound {n} {a} h row f {v} e =
     let r = best-found (isCandidate row a f) (score a f) (length a) e in
-    let two = and-eq-true-iff (isTwo (value a v)) (any (λ (c : List ℤ). isSource row a (fewest row a f) c && mentions v c) f) .0 (r .passes) .0 in
-    record { free = eqb-true (value a v) 2 two; above = r .above; upTo = omega (arith, r .upTo, h .size) }
+    let two = and-eq-true-iff (isUnset (value a v)) (any (offers row a (fewest row a f) v) f) .0 (r .passes) .0 in
+    record { unset = eqb-true (value a v) 2 two; above = r .above; upTo = omega (arith, r .upTo, h .size) }
 
+-- an opposed clause is open
 pub opposed-open : (row a : List ℕ) (c : List ℤ) → isOpposed row a c ≡ true → satisfied a c ≡ false
 opposed-open row a c h =
-    not-true (satisfied a c) (and-eq-true-iff (isOpen a c) (all (λ (x : ℤ). not (isUnassigned a x) || isAgainst row x) c) .0 h .0)
+    not-true (satisfied a c) (and-eq-true-iff (isOpen a c) (all (assignedOrAgainst row a) c) .0 h .0)
 
--- its unassigned literals go against wishes
+-- and its unassigned literals go against wishes
 pub opposed-against : (row a : List ℕ) (c : List ℤ) → isOpposed row a c ≡ true → (x : ℤ) → List·Memᴰ x c → isUnassigned a x ≡ true → isAgainst row x ≡ true
 opposed-against row a c h x m u =
-    let every = and-eq-true-iff (isOpen a c) (all (λ (y : ℤ). not (isUnassigned a y) || isAgainst row y) c) .0 h .1 in
-    go (isUnassigned a x) u (all-at (λ (y : ℤ). not (isUnassigned a y) || isAgainst row y) every m)
+    let every = and-eq-true-iff (isOpen a c) (all (assignedOrAgainst row a) c) .0 h .1 in
+    go (isUnassigned a x) u (all-at (assignedOrAgainst row a) every m)
   where
     go : (t : Bool) → t ≡ true → not t || isAgainst row x ≡ true → isAgainst row x ≡ true
     go true p q = q
@@ -204,10 +205,10 @@ fewest-member row a f {k} e = let r : Fewest row a f k = subst (IsFewest row a f
 source-candidate : (row a : List ℕ) (f : List (List ℤ)) (c : List ℤ) → List·Memᴰ c f → isSource row a (fewest row a f) c ≡ true
     → (x : ℤ) → List·Memᴰ x c → isUnassigned a x ≡ true → isCandidate row a f (variable x) ≡ true
 source-candidate row a f c m s x w u =
-    let named : mentions (variable x) c ≡ true = any-at (λ (y : ℤ). eqb (variable y) (variable x)) w (eq-eqb (variable x) (variable x) refl) in
-    and-eq-true-iff (isTwo (value a (variable x))) (any (λ (g : List ℤ). isSource row a (fewest row a f) g && mentions (variable x) g) f) .1 (
+    let named : mentions (variable x) c ≡ true = any-at (isOf (variable x)) w (eq-eqb (variable x) (variable x) refl) in
+    and-eq-true-iff (isUnset (value a (variable x))) (any (offers row a (fewest row a f) (variable x)) f) .1 (
       u,
-      any-at (λ (g : List ℤ). isSource row a (fewest row a f) g && mentions (variable x) g) m
+      any-at (offers row a (fewest row a f) (variable x)) m
           (and-eq-true-iff (isSource row a (fewest row a f) c) (mentions (variable x) c) .1 (s, named)),
     )
 
@@ -219,16 +220,16 @@ pub record Candidate (row a : List ℕ) (f : List (List ℤ)) (v : ℕ) : Type 0
   pub literal : ℤ
   pub stands : List·Memᴰ literal clause
   pub named : variable literal ≡ v
-  pub free : isUnassigned a literal ≡ true
+  pub unset : isUnassigned a literal ≡ true
 
 pub candidate-from : (row a : List ℕ) (f : List (List ℤ)) (v : ℕ) → isCandidate row a f v ≡ true → Candidate row a f v
 candidate-from row a f v h =
-    let r = and-eq-true-iff (isTwo (value a v)) (any (λ (g : List ℤ). isSource row a (fewest row a f) g && mentions v g) f) .0 h in
-    let c = any-member (λ (g : List ℤ). isSource row a (fewest row a f) g && mentions v g) f (r .1) in
+    let r = and-eq-true-iff (isUnset (value a v)) (any (offers row a (fewest row a f) v) f) .0 h in
+    let c = any-member (offers row a (fewest row a f) v) f (r .1) in
     let q = and-eq-true-iff (isSource row a (fewest row a f) (c .0)) (mentions v (c .0)) .0 (c .2) in
-    let x = any-member (λ (y : ℤ). eqb (variable y) v) (c .0) (q .1) in
+    let x = any-member (isOf v) (c .0) (q .1) in
     let e : variable (x .0) ≡ v = eqb-true (variable (x .0)) v (x .2) in
-    record { clause = c .0; listed = c .1; source = q .0; literal = x .0; stands = x .1; named = e; free = ap (λ (u : ℕ). isTwo (value a u)) e ∙ r .0 }
+    record { clause = c .0; listed = c .1; source = q .0; literal = x .0; stands = x .1; named = e; unset = ap (λ (u : ℕ). isUnset (value a u)) e ∙ r .0 }
 
 -- an open clause that is not falsified has an unassigned literal
 open-unassigned : (a : List ℕ) (f : List (List ℤ)) → any (isFalsified a) f ≡ false → (c : List ℤ) → List·Memᴰ c f → satisfied a c ≡ false → 0 < unassignedIn a c
@@ -240,7 +241,7 @@ open-unassigned a f h c m e = go (unassignedIn a c) refl
         absurd (true≢false (sym falsified ∙ any-false (isFalsified a) h m))
     go (suc k) z = omega arith
 
--- where the completion is no model and no clause is falsified, some clause is open
+-- where the completion is no model, some clause is open
 undecided-open : (row a : List ℕ) (f : List (List ℤ)) → models (complete row a) f ≡ false → (c : List ℤ) × List·Memᴰ c f × (satisfied a c ≡ false)
 undecided-open row a f h = let r = all-false (satisfied (complete row a)) f h in (r .0, r .1, go (r .0) (r .2) (satisfied a (r .0)) refl)
   where

@@ -11,7 +11,7 @@ use borrow.Author.Tests.{eqb-true, eqb-false, ltb-true, ltb-false, ne-eqb}
 use Rattle.distance.specs.Distance.{cost, disagreement}
 use Rattle.distance.specs.Laws.{cost-free}
 use Rattle.choices.specs.Choices.{Choice}
-use Rattle.walk.specs.State.{State, isTwo}
+use Rattle.walk.specs.State.{State, isUnset}
 use Rattle.walk.specs.Branching.{breaks}
 use Rattle.walk.specs.Walk.{wishedValue, completeByte, complete}
 use Rattle.walk.specs.Extension.{Extends, cost-unassigned}
@@ -40,9 +40,9 @@ wished-bit w = go (breaks w 0)
     go false = lit< tt
 
 byte-bit : (w b : ℕ) → b ≤ 2 → completeByte w b < 2
-byte-bit w b h = go (isTwo b) refl
+byte-bit w b h = go (isUnset b) refl
   where
-    go : (t : Bool) → isTwo b ≡ t → cond t (wishedValue w) b < 2
+    go : (t : Bool) → isUnset b ≡ t → cond t (wishedValue w) b < 2
     go true e = wished-bit w
     go false e = let q : b ≡ 2 → ⊥ = eqb-false b 2 e in omega arith
 
@@ -70,9 +70,9 @@ wished-cost (suc zero) = refl
 wished-cost (suc (suc w)) = cost-free (suc (suc w)) (wishedValue (suc (suc w))) (omega arith)
 
 byte-cost : (w b : ℕ) → cost w (completeByte w b) ≡ cost w b
-byte-cost w b = go (isTwo b) refl
+byte-cost w b = go (isUnset b) refl
   where
-    go : (t : Bool) → isTwo b ≡ t → cost w (cond t (wishedValue w) b) ≡ cost w b
+    go : (t : Bool) → isUnset b ≡ t → cost w (cond t (wishedValue w) b) ≡ cost w b
     go true e = wished-cost w ∙ sym (cost-unassigned w) ∙ ap (cost w) (sym (eqb-true b 2 e))
     go false e = refl
 

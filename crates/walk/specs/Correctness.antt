@@ -4,7 +4,7 @@ use mathlib.Core.Logic.{⊎-elim}
 use mathlib.Core.Bool.{true, false}
 use mathlib.Core.List.{List}
 use mathlib.Core.Option.{Option, none, some}
-use Prim.Native.Nat.{ℕ, zero, suc, _-_, _≤_, _<_}
+use Prim.Native.Nat.{ℕ, zero, suc, _-_, _<_}
 use native.Mathlib.Omega.{arith}
 use lib.IntN.{ℤ}
 use lib.ListN.{getD, replicate, length-replicate}
@@ -14,12 +14,12 @@ use Rattle.choices.specs.Choices.{Model}
 use Rattle.walk.specs.State.{State, unassigned, assign, fits}
 use Rattle.walk.specs.Propagation.{propagate}
 use Rattle.walk.specs.Branching.{fewest}
-use Rattle.walk.specs.Walk.{Answer, Outcome, isDeadEnd, complete, completed, firstValue, eitherOf, walkBy}
+use Rattle.walk.specs.Walk.{Answer, Outcome, isDeadEnd, complete, completed, firstValue, firstAnswer, walkBy}
+use Rattle.walk.specs.Promises.{Found, Branches}
 use Rattle.walk.specs.Extension.{Extends}
 use Rattle.walk.specs.Assignment.{extends-branch}
 use Rattle.walk.specs.PropagationLaws.{propagate-forced}
 use Rattle.walk.specs.Completion.{complete-choice, complete-cost}
-use Rattle.walk.specs.BranchingLaws.{Branches}
 use Rattle.walk.specs.WalkLaws.{dead-causes, dead-none, exhausted-none, first-bit}
 use Rattle.walk.specs.Induction.{Ways, walk-induction}
 
@@ -39,16 +39,10 @@ start-unassigned (suc n) = ap suc (start-unassigned n)
 pub start-extends : (n : ℕ) (c : List ℕ) → Extends c (replicate n 2)
 start-extends n c = record { keeps = λ i q. absurd (q (nothing-assigned n i)) }
 
--- an answer of the walk: a model, with its own count, within the limit
-pub record Within (n : ℕ) (f : List (List ℤ)) (row : List ℕ) (d : ℕ) (x : Answer) : Type 0 where
-  pub model : Model n f (x .choice)
-  pub counted : disagreement row (x .choice) ≡ x .broken
-  pub limited : x .broken ≤ d
-
 -- what an answer says of the state that the walk started from
 abbrev pub Right : ℕ → List (List ℤ) → List ℕ → ℕ → List ℕ → Option Answer → Type 0
 Right n f row d a none = (c : List ℕ) → Model n f c → Extends c a → d < disagreement row c
-Right n f row d a (some x) = Within n f row d x
+Right n f row d a (some x) = Found n f row d x
 
 module _ (n : ℕ) (f : List (List ℤ)) (fit : fits n f ≡ true) (row : List ℕ) (d : ℕ) where
   after-settling : (a : List ℕ) (o : Option Answer) → Right n f row d (propagate f a) o → Right n f row d a o
@@ -59,11 +53,11 @@ module _ (n : ℕ) (f : List (List ℤ)) (fit : fits n f ≡ true) (row : List �
   of-completion a s e t =
       record { model = record { choice = complete-choice row s; satisfies = t }; counted = refl; limited = omega (arith, complete-cost row a, dead-causes f row d a e .1) }
 
-  after-fork : (a : List ℕ) (v b : ℕ) → Branches a n v → b < 2 → (r s : Outcome) (x y : Option Answer) → r .answer ≡ x → s .answer ≡ y
-      → Right n f row d (assign a v b) x → Right n f row d (assign a v (1 - b)) y → Right n f row d a (eitherOf x (r .forks) s .answer)
-  after-fork a v b k l r s (some x) y i j p q = p
-  after-fork a v b k l r s none (some y) i j p q = rw j q
-  after-fork a v b k l r s none none i j p q = rw j (λ c m e. ⊎-elim (p c m) (q c m) (extends-branch (m .choice) e v b (k .above) (k .upTo) l))
+  after-fork : (a : List ℕ) (v b : ℕ) → Branches a n v → b < 2 → (x y : Option Answer)
+      → Right n f row d (assign a v b) x → Right n f row d (assign a v (1 - b)) y → Right n f row d a (firstAnswer x y)
+  after-fork a v b k l (some x) y p q = p
+  after-fork a v b k l none (some y) p q = q
+  after-fork a v b k l none none p q = λ c m e. ⊎-elim (p c m) (q c m) (extends-branch (m .choice) e v b (k .above) (k .upTo) l)
 
   ways : Ways n f row d (λ (a : List ℕ) (r : Outcome). Right n f row d a (r .answer))
   ways =
@@ -72,7 +66,7 @@ module _ (n : ℕ) (f : List (List ℤ)) (fit : fits n f ≡ true) (row : List �
         dies = λ a s e c m h. dead-none h f row d e (m .satisfies);
         completes = λ a s e t. of-completion a (s .state) e t;
         exhausts = λ a s e t x c m h. exhausted-none (s .state) h f fit row d x (m .satisfies);
-        forks = λ a v r s h u e k p q. after-fork a v (firstValue row (fewest row a f) v) k (first-bit row (fewest row a f) v) r s (r .answer) (s .answer) refl refl p q;
+        forks = λ a v r s h u e k p q. after-fork a v (firstValue row (fewest row a f) v) k (first-bit row (fewest row a f) v) (r .answer) (s .answer) p q;
       }
 
   pub walk-right : (k : ℕ) (a : List ℕ) → State n a → unassigned a < k → Right n f row d a (walkBy k f row d a .answer)

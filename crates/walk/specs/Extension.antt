@@ -14,7 +14,7 @@ use Rattle.distance.specs.Distance.{cost, disagreement}
 use Rattle.distance.specs.Laws.{cost-kept, disagreement-nothing}
 use Rattle.choices.specs.Lists.{any-at, any-member, any-false}
 use Rattle.walk.specs.Counting.{count-member, count-zero}
-use Rattle.walk.specs.State.{isTwo, isUnassigned, unassignedIn, isOpen, isFalsified}
+use Rattle.walk.specs.State.{isUnset, isUnassigned, unassignedIn, isOpen, isFalsified}
 
 -- b extends a if it has a's value wherever a has one
 pub record Extends (b a : List ℕ) : Type 0 where
@@ -71,7 +71,7 @@ unassigned-none a c h x m = go (isUnassigned a x) refl
     go false e = refl
 
 pub assigned-kept : {b a : List ℕ} → Extends b a → (x : ℤ) → isUnassigned a x ≡ false → isUnassigned b x ≡ false
-assigned-kept {b} {a} h x q = ap isTwo (keeps-value h (variable x) (eqb-false (value a (variable x)) 2 q)) ∙ q
+assigned-kept {b} {a} h x q = ap isUnset (keeps-value h (variable x) (eqb-false (value a (variable x)) 2 q)) ∙ q
 
 -- a falsified clause stays falsified
 pub falsified-open : (a : List ℕ) (c : List ℤ) → isFalsified a c ≡ true → satisfied a c ≡ false
@@ -99,9 +99,9 @@ pub cost-unassigned : (w : ℕ) → cost w 2 ≡ 0
 cost-unassigned w = cost-kept w 2 (λ e. omega arith)
 
 cost-grows : (w x y : ℕ) → ((x ≡ 2 → ⊥) → y ≡ x) → cost w x ≤ cost w y
-cost-grows w x y h = go (isTwo x) refl
+cost-grows w x y h = go (isUnset x) refl
   where
-    go : (t : Bool) → isTwo x ≡ t → cost w x ≤ cost w y
+    go : (t : Bool) → isUnset x ≡ t → cost w x ≤ cost w y
     go true e = let q : cost w x ≡ 0 = ap (cost w) (eqb-true x 2 e) ∙ cost-unassigned w in omega arith
     go false e = let q : cost w y ≡ cost w x = ap (cost w) (h (eqb-false x 2 e)) in omega arith
 

@@ -12,20 +12,15 @@ use Rattle.walk.specs.State.{State, unassigned, assign, fits}
 use Rattle.walk.specs.Propagation.{unitLiteral, propagate}
 use Rattle.walk.specs.Branching.{fewest, branchingVariable}
 use Rattle.walk.specs.Walk.{Outcome, deadEnd, isDeadEnd, complete, completed, isExhausted, firstValue, eitherOf, forkOn, decide, walkBy}
+use Rattle.walk.specs.Promises.{Undecided, Branches}
 use Rattle.walk.specs.PropagationLaws.{propagate-state, propagate-quiet, propagate-fewer}
-use Rattle.walk.specs.BranchingLaws.{Branches, branching-sound, branching-exists}
+use Rattle.walk.specs.BranchingLaws.{branching-sound, branching-exists}
 use Rattle.walk.specs.WalkLaws.{dead-causes, decide-dead, decide-complete, decide-exhausted, decide-fork, first-bit, branch-state, branch-fewer}
 
 -- a state to which unit propagation adds nothing
 pub record Settled (n : ℕ) (f : List (List ℤ)) (a : List ℕ) : Type 0 where
   pub state : State n a
   pub quiet : unitLiteral a f ≡ none
-
--- steps 1 to 3 decide nothing
-pub record Undecided (f : List (List ℤ)) (row : List ℕ) (d : ℕ) (a : List ℕ) : Type 0 where
-  pub alive : isDeadEnd f row d a ≡ false
-  pub incomplete : models (complete row a) f ≡ false
-  pub within : isExhausted f row d a ≡ false
 
 -- the ways that the walk can go, for a statement P of the state that it starts from and what it comes to
 pub record Ways (n : ℕ) (f : List (List ℤ)) (row : List ℕ) (d : ℕ) (P : List ℕ → Outcome → Type 0) : Type 0 where
@@ -34,7 +29,7 @@ pub record Ways (n : ℕ) (f : List (List ℤ)) (row : List ℕ) (d : ℕ) (P : 
   pub completes : (a : List ℕ) → Settled n f a → isDeadEnd f row d a ≡ false → models (complete row a) f ≡ true → P a (completed row a)
   pub exhausts : (a : List ℕ) → Settled n f a → isDeadEnd f row d a ≡ false → models (complete row a) f ≡ false → isExhausted f row d a ≡ true → P a deadEnd
   pub forks : (a : List ℕ) (v : ℕ) (r s : Outcome) → Settled n f a → Undecided f row d a → branchingVariable row a f ≡ some v → Branches a n v
-      → P (assign a v (firstValue row (fewest row a f) v)) r → P (assign a v (1 - firstValue row (fewest row a f) v)) s → P a (eitherOf (r .answer) (r .forks) s)
+      → P (assign a v (firstValue row (fewest row a f) v)) r → P (assign a v (1 - firstValue row (fewest row a f) v)) s → P a (eitherOf r s)
 
 -- where steps 1 to 3 decide nothing there is a branching variable: unassigned, and one of 1 to n
 pub branching : {n : ℕ} {a : List ℕ} → State n a → (f : List (List ℤ)) → fits n f ≡ true → (row : List ℕ) (d : ℕ) → Undecided f row d a

@@ -14,7 +14,8 @@ use Rattle.distance.specs.Laws.{cost-free}
 use Rattle.choices.specs.Choices.{Model}
 use Rattle.walk.specs.State.{unassigned, fits}
 use Rattle.walk.specs.Walk.{Answer, walk, firstAnswer, climb, nearestWalk}
-use Rattle.walk.specs.Correctness.{start-state, start-extends, Within, Right, walk-right}
+use Rattle.walk.specs.Promises.{Found, Closest}
+use Rattle.walk.specs.Correctness.{start-state, start-extends, Right, walk-right}
 
 -- no choice breaks more wishes than there are
 cost-weight : (w b : ℕ) → cost w b ≤ weight w
@@ -35,12 +36,6 @@ disagreement-free zero a = refl
 disagreement-free (suc n) [] = refl
 disagreement-free (suc n) (b ∷ a) = omega (arith, cost-free 2 b (omega arith), disagreement-free n a)
 
--- an answer of nearest: a model, with its own count, and no model breaks fewer
-pub record Closest (n : ℕ) (f : List (List ℤ)) (row : List ℕ) (x : Answer) : Type 0 where
-  pub model : Model n f (x .choice)
-  pub counted : disagreement row (x .choice) ≡ x .broken
-  pub below : (a : List ℕ) → Model n f a → x .broken ≤ disagreement row a
-
 -- what the answer of the walks up to limit m says
 abbrev pub RightUpTo : ℕ → List (List ℤ) → List ℕ → ℕ → Option Answer → Type 0
 RightUpTo n f row m none = (a : List ℕ) → Model n f a → m < disagreement row a
@@ -55,7 +50,7 @@ module _ (n : ℕ) (f : List (List ℤ)) (fit : fits n f ≡ true) (row : List �
   at-limit : (d : ℕ) → ((a : List ℕ) → Model n f a → d ≤ disagreement row a) → (o : Option Answer) → Right n f row d (replicate n 2) o → RightUpTo n f row d o
   at-limit d h none p = λ a m. p a m (start-extends n a)
   at-limit d h (some x) p =
-      let r : Within n f row d x = p in
+      let r : Found n f row d x = p in
       record { model = r .model; counted = r .counted; below = λ a m. omega (arith, h a m, r .limited) }
 
   climb-right : (k d m : ℕ) → m ≡ d + k → ((a : List ℕ) → Model n f a → d ≤ disagreement row a) → RightUpTo n f row m (climb n f row k d)

@@ -20,12 +20,12 @@ abbrev pub find {ℓ} : {A : Type ℓ} → (A → Bool) → List A → Option A
 find p [] = none
 find p (x ∷ l) = cond (p x) (some x) (find p l)
 
--- the number of unassigned variables
-abbrev pub isTwo : ℕ → Bool
-isTwo b = eqb b 2
+-- the byte of an unassigned variable, and the number of these
+abbrev pub isUnset : ℕ → Bool
+isUnset b = eqb b 2
 
 abbrev pub unassigned : List ℕ → ℕ
-unassigned a = count isTwo a
+unassigned a = count isUnset a
 
 -- variable v takes the value b; its byte is that at index v - 1
 abbrev pub assign : List ℕ → ℕ → ℕ → List ℕ
@@ -38,7 +38,7 @@ satisfy a x = assign a (variable x) (wanted x)
 
 -- an unsettled entry is one whose variable is unassigned
 abbrev pub isUnassigned : List ℕ → ℤ → Bool
-isUnassigned a x = isTwo (value a (variable x))
+isUnassigned a x = isUnset (value a (variable x))
 
 -- the number of unsettled entries of a clause
 abbrev pub unassignedIn : List ℕ → List ℤ → ℕ
@@ -56,7 +56,7 @@ isUnit a c = isOpen a c && eqb (unassignedIn a c) 1
 abbrev pub isFalsified : List ℕ → List ℤ → Bool
 isFalsified a c = isOpen a c && eqb (unassignedIn a c) 0
 
--- every literal of a formula has its variable in 1 to n
+-- every literal of a formula speaks of one of the variables 1 to n
 abbrev pub isWithin : ℕ → ℤ → Bool
 isWithin n x = ltb 0 (variable x) && leb (variable x) n
 

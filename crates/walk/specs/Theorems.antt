@@ -2,7 +2,7 @@
 use mathlib.Core.Path.{_≡_, refl, sym, subst}
 use mathlib.Core.Logic.{_↔_, Iff·trans, Iff·symm}
 use mathlib.Core.Bool.{true}
-use mathlib.Core.List.{List, []}
+use mathlib.Core.List.{List, [], List·Memᴰ}
 use mathlib.Core.Option.{Option, none, some, Option·map}
 use Prim.Native.Nat.{ℕ, suc, _<_}
 use native.Mathlib.Omega.{arith}
@@ -10,18 +10,18 @@ use lib.IntN.{ℤ}
 use lib.ListN.{replicate}
 use Rattle.formula.specs.Formula.{clauses}
 use Rattle.distance.specs.Distance.{wishes, disagreement, within, nearest}
-use Rattle.choices.specs.Choices.{Model, within-none, nearest-none, nearest-some}
+use Rattle.choices.specs.Choices.{Model, within-iff, within-none, nearest-none, nearest-some}
 use Rattle.walk.specs.State.{State, unassigned, fits}
 use Rattle.walk.specs.Branching.{branchingVariable}
 use Rattle.walk.specs.Walk.{Answer, walkBy, walk, plainWalk, nearestWalk}
-use Rattle.walk.specs.BranchingLaws.{Branches}
+use Rattle.walk.specs.Promises.{Found, Closest, Undecided, Branches}
 use Rattle.walk.specs.WalkLaws.{walk-enough}
-use Rattle.walk.specs.Induction.{Undecided, branching}
-use Rattle.walk.specs.Correctness.{start-state, start-unassigned, start-extends, Within, Right}
-use Rattle.walk.specs.Nearest.{Closest, RightUpTo, disagreement-wishes, disagreement-free, start-right, nearest-right}
+use Rattle.walk.specs.Induction.{branching}
+use Rattle.walk.specs.Correctness.{start-state, start-unassigned, start-extends, Right}
+use Rattle.walk.specs.Nearest.{RightUpTo, disagreement-wishes, disagreement-free, start-right, nearest-right}
 
 -- Soundness: what the walk finds is a choice that meets all rules, with the count that it breaks, and that is at most d.
-pub walk-sound : (n : ℕ) (f : List (List ℤ)) → fits n f ≡ true → (row : List ℕ) (d : ℕ) (x : Answer) → walk n f row d .answer ≡ some x → Within n f row d x
+pub walk-sound : (n : ℕ) (f : List (List ℤ)) → fits n f ≡ true → (row : List ℕ) (d : ℕ) (x : Answer) → walk n f row d .answer ≡ some x → Found n f row d x
 walk-sound n f fit row d x e = subst (Right n f row d (replicate n 2)) e (start-right n f fit row d)
 
 -- Completeness: it finds nothing exactly when every choice that meets all rules breaks more than d wishes.
@@ -37,10 +37,16 @@ walk-none n f fit row d = (forth, λ g. back g (walk n f row d .answer) (start-r
     back : ((a : List ℕ) → Model n f a → d < disagreement row a) → (o : Option Answer) → Right n f row d (replicate n 2) o → o ≡ none
     back g none p = refl
     back g (some x) p =
-        let r : Within n f row d x = p in
+        let r : Found n f row d x = p in
         absurd (omega (arith, g (x .choice) (r .model), r .counted, r .limited))
 
 -- The same of the choices that are listed.
+pub walk-listed : (n : ℕ) (list : List ℤ) → fits n (clauses list) ≡ true → (row : List ℕ) (d : ℕ) (x : Answer)
+    → walk n (clauses list) row d .answer ≡ some x → List·Memᴰ (x .choice) (within n list row d)
+walk-listed n list fit row d x e =
+    let r = walk-sound n (clauses list) fit row d x e in
+    within-iff n list row d (x .choice) .1 (r .model, omega (arith, r .counted, r .limited))
+
 pub walk-within : (n : ℕ) (list : List ℤ) → fits n (clauses list) ≡ true → (row : List ℕ) (d : ℕ)
     → (walk n (clauses list) row d .answer ≡ none) ↔ (within n list row d ≡ [])
 walk-within n list fit row d = Iff·trans (walk-none n (clauses list) fit row d) (Iff·symm (within-none n list row d))

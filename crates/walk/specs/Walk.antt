@@ -9,7 +9,7 @@ use lib.ListN.{replicate}
 use Rattle.literal.specs.Literal.{value}
 use Rattle.formula.specs.Formula.{any, models}
 use Rattle.distance.specs.Distance.{disagreement, wishes}
-use Rattle.walk.specs.State.{isTwo, unassigned, assign, isFalsified}
+use Rattle.walk.specs.State.{isUnset, unassigned, assign, isFalsified}
 use Rattle.walk.specs.Propagation.{propagate}
 use Rattle.walk.specs.Branching.{breaks, isOpposed, fewest, branchingVariable}
 
@@ -35,7 +35,7 @@ abbrev pub wishedValue : ℕ → ℕ
 wishedValue w = cond (breaks w 0) 1 0
 
 abbrev pub completeByte : ℕ → ℕ → ℕ
-completeByte w b = cond (isTwo b) (wishedValue w) b
+completeByte w b = cond (isUnset b) (wishedValue w) b
 
 abbrev pub complete : List ℕ → List ℕ → List ℕ
 complete row [] = []
@@ -55,20 +55,29 @@ unwishedValue w = cond (breaks w 1) 1 0
 
 abbrev pub firstValue : List ℕ → Option ℕ → ℕ → ℕ
 firstValue row none v = 1
-firstValue row (some k) v = unwishedValue (value row v)
+firstValue row (some size) v = unwishedValue (value row v)
 
--- the second branch counts where the first found nothing, and so do its forks
-abbrev pub eitherOf : Option Answer → ℕ → Outcome → Outcome
-eitherOf (some x) forks second = record { answer = some x; forks = suc forks }
-eitherOf none forks second = record { answer = second .answer; forks = suc (forks + second .forks) }
+-- the first answer of two, if there is one
+abbrev pub firstAnswer : Option Answer → Option Answer → Option Answer
+firstAnswer (some x) later = some x
+firstAnswer none later = later
+
+-- The second state is tried only where the first gave no answer, and only then do its forks count.
+abbrev pub forksAfter : Option Answer → Outcome → ℕ
+forksAfter (some x) second = 0
+forksAfter none second = second .forks
+
+abbrev pub eitherOf : Outcome → Outcome → Outcome
+eitherOf first second = record { answer = firstAnswer (first .answer) (second .answer); forks = suc (first .forks + forksAfter (first .answer) second) }
 
 -- "a fork tries two states"; `try` is the walk from each
 abbrev pub fork : (List ℕ → Outcome) → List ℕ → ℕ → ℕ → Outcome
-fork try a v b = eitherOf (try (assign a v b) .answer) (try (assign a v b) .forks) (try (assign a v (1 - b)))
+fork try a v b = eitherOf (try (assign a v b)) (try (assign a v (1 - b)))
 
+-- the fork on a branching variable, which exists (`branching-variable` of Theorems) wherever it is asked for
 abbrev pub forkOn : (List ℕ → Outcome) → List ℕ → List ℕ → Option ℕ → Option ℕ → Outcome
-forkOn try row a shortest none = deadEnd
-forkOn try row a shortest (some v) = fork try a v (firstValue row shortest v)
+forkOn try row a size none = deadEnd
+forkOn try row a size (some v) = fork try a v (firstValue row size v)
 
 -- steps 1 to 5 at a state to which unit propagation adds nothing
 abbrev pub decide : List (List ℤ) → List ℕ → ℕ → (List ℕ → Outcome) → List ℕ → Outcome
@@ -99,10 +108,6 @@ abbrev pub plainWalk : ℕ → List (List ℤ) → Outcome
 plainWalk n f = walk n f (replicate n 2) 0
 
 -- the first answer of the walks with the limits d, d + 1, .., d + k
-abbrev pub firstAnswer : Option Answer → Option Answer → Option Answer
-firstAnswer (some x) later = some x
-firstAnswer none later = later
-
 abbrev pub climb : ℕ → List (List ℤ) → List ℕ → ℕ → ℕ → Option Answer
 climb n f row zero d = walk n f row d .answer
 climb n f row (suc k) d = firstAnswer (walk n f row d .answer) (climb n f row k (suc d))

@@ -19,14 +19,14 @@ use Rattle.walk.specs.State.{State, unassigned, assign, satisfy, unassig
 use Rattle.walk.specs.Propagation.{propagate}
 use Rattle.walk.specs.Branching.{breaks, isOpposed, fewest, isSource, isCandidate, score, branchingVariable}
 use Rattle.walk.specs.Walk.{Outcome, deadEnd, isDeadEnd, complete, completed, isExhausted, unwishedValue, firstValue, eitherOf, forkOn, decide, walkBy, walkFrom}
+use Rattle.walk.specs.Promises.{Branches}
 use Rattle.walk.specs.Extension.{Extends, wanted-bit, satisfied-by-unassigned, falsified-kept, falsified-never, disagreement-grows}
 use Rattle.walk.specs.Assignment.{assign-state, assign-fewer, assign-cost, extends-satisfy}
 use Rattle.walk.specs.Fits.{fits-at}
 use Rattle.walk.specs.PropagationLaws.{propagate-extends, propagate-state, propagate-fewer}
-use Rattle.walk.specs.BranchingLaws.{Branches, Candidate, best-found, branching-sound, candidate-from, opposed-open, opposed-against}
+use Rattle.walk.specs.BranchingLaws.{Candidate, best-found, branching-sound, candidate-from, opposed-open, opposed-against}
 
 -- step 1's two causes
-
 or-cases {ℓ} : {P : Type ℓ} (x y : Bool) → x || y ≡ true → (x ≡ true → P) → (y ≡ true → P) → P
 or-cases true y h f g = f refl
 or-cases false y h f g = g h
@@ -140,14 +140,14 @@ first-against row a f {k} {v} e b = rw e (unwished-breaks (value row v) (wanted 
     opposed = and-eq-true-iff (isOpposed row a (r .clause)) (eqb (unassignedIn a (r .clause)) k) .0 (subst (λ (o : Option ℕ). isSource row a o (r .clause) ≡ true) e (r .source)) .0
 
     dear : 0 < cost (value row (variable (r .literal))) (wanted (r .literal))
-    dear = ltb-true 0 (cost (value row (variable (r .literal))) (wanted (r .literal))) (opposed-against row a (r .clause) opposed (r .literal) (r .stands) (r .free))
+    dear = ltb-true 0 (cost (value row (variable (r .literal))) (wanted (r .literal))) (opposed-against row a (r .clause) opposed (r .literal) (r .stands) (r .unset))
 
 -- both branches of a fork are states with one unassigned variable fewer
 pub branch-state : {n : ℕ} {a : List ℕ} → State n a → (v b : ℕ) → b < 2 → State n (assign a v b)
 branch-state h v b k = assign-state h v b (omega arith)
 
 pub branch-fewer : {n : ℕ} {a : List ℕ} → State n a → (v b : ℕ) → Branches a n v → b < 2 → unassigned (assign a v b) < unassigned a
-branch-fewer h v b k l = omega (arith, assign-fewer h v b (k .above) (k .upTo) (k .free) l)
+branch-fewer h v b k l = omega (arith, assign-fewer h v b (k .above) (k .upTo) (k .unset) l)
 
 -- two walks that agree on smaller states agree after a fork
 fork-same : {n : ℕ} {a : List ℕ} → State n a → (f : List (List ℤ)) (row : List ℕ) (s t : List ℕ → Outcome)
@@ -159,7 +159,7 @@ fork-same {n} {a} h f row s t same m (some v) e =
     let b : ℕ = firstValue row m v in
     let l : b < 2 = first-bit row m v in
     let r : 1 - b < 2 = omega arith in
-    ap₂ (λ (x y : Outcome). eitherOf (x .answer) (x .forks) y)
+    ap₂ eitherOf
     (same (assign a v b) (branch-state h v b l) (branch-fewer h v b k l))
     (same (assign a v (1 - b)) (branch-state h v (1 - b) r) (branch-fewer h v (1 - b) k r))
 
