@@ -7,7 +7,7 @@ use lib.ListN.{length, getD, drop}
 use Rattle.literal.specs.Laws.{as-read}
 use Rattle.walk.specs.State.{find, isUnassigned}
 use Rattle.standing.specs.Standing.{literalOf}
-use Rattle.standing.specs.Laws.{find-here, find-later, find-past}
+use Rattle.walk.specs.Loops.{find-here, find-later, find-past}
 use Rattle.standing.specs.declared.Literal.the-variants.{At}
 use borrow.Author.Needs.{needs}
 use Rattle.standing.proofs.first_unassigned.Statement.{statement}
@@ -51,7 +51,7 @@ returns c =
     let args = c .before .before .before .before .before .before .before .args in
     let i = c .before .before .before .before .before .loop .i in
     sym (c .before .before .before .before .before .loop .inv .1
-    ∙ ap literalOf (find-here (isUnassigned (args .assignment .now)) (args .clause .now) i (c .before .before .before .before .loop-test .taken) (sym (handed (c .before .before)) ∙ c .before .if1 .taken))
+    ∙ ap literalOf (find-here (isUnassigned (args .assignment .now)) (args .clause .now) i (pos 0) (c .before .before .before .before .loop-test .taken) (sym (handed (c .before .before)) ∙ c .before .if1 .taken))
     ∙ ap At (sym (as-read (getD (args .clause .now) i (pos 0)) (c .t11 .given))))
 
 add-i : tie.Need-add-i Inv-loop μ-loop
@@ -66,7 +66,7 @@ loop-again c =
     let i = c .before .before .before .before .loop .i in (
       omega arith,
       c .before .before .before .before .loop .inv .1
-          ∙ ap literalOf (find-later (isUnassigned (args .assignment .now)) (args .clause .now) i (c .before .before .before .loop-test .taken) (sym (handed (c .before)) ∙ c .if1 .left)),
+          ∙ ap literalOf (find-later (isUnassigned (args .assignment .now)) (args .clause .now) i (pos 0) (c .before .before .before .loop-test .taken) (sym (handed (c .before)) ∙ c .if1 .left)),
     )
 
 returns-2 : tie.Need-returns-2 Inv-loop μ-loop

@@ -11,7 +11,7 @@ use Rattle.literal.specs.Literal.{holds}
 use Rattle.formula.specs.Formula.{satisfied}
 use Rattle.formula.specs.Laws.{any-here, any-later, any-past}
 use Rattle.walk.specs.State.{isUnassigned, unassignedIn}
-use Rattle.standing.specs.Laws.{count-here, count-later, count-past}
+use Rattle.walk.specs.Loops.{count-here, count-later, count-past}
 use Rattle.standing.specs.declared.Standing.the-variants.{Satisfied, Open}
 use borrow.Author.Needs.{needs}
 use Rattle.standing.proofs.standing_of.Statement.{statement}
@@ -86,10 +86,10 @@ loop-again c =
     let none = c .before .before .before .before .before .before .before .loop .inv .2 ∙ any-later (holds a) l i h (sym (held (c .before .before .before .before)) ∙ c .before .before .before .if1 .left) in
     ⊎-elim
     (λ w.
-    let one = count-here (isUnassigned a) l i h (sym (free (c .before)) ∙ w .0 .taken) in
+    let one = count-here (isUnassigned a) l i (pos 0) h (sym (free (c .before)) ∙ w .0 .taken) in
     (omega arith, omega (arith, w .1), none, omega (arith, w .1, one)))
     (λ w.
-    let one = count-later (isUnassigned a) l i h (sym (free (c .before)) ∙ w .0 .left) in
+    let one = count-later (isUnassigned a) l i (pos 0) h (sym (free (c .before)) ∙ w .0 .left) in
     (omega arith, omega (arith, w .1), none, omega (arith, w .1, one)))
     (c .if2 .came)
 
