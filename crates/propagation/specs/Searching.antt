@@ -10,7 +10,7 @@ use Rattle.distance.specs.Distance.{cost, disagreement}
 use Rattle.distance.specs.Laws.{cost-most}
 use Rattle.walk.specs.State.{State, unassigned, assign}
 use Rattle.walk.specs.Assignment.{assign-set, assign-state, assign-fewer, assign-cost}
-use Rattle.propagation.specs.Trail.{undone, undone-assigned, undone-none}
+use Rattle.propagation.specs.Trail.{undone, undone-assigned, undone-none, undone-twice}
 
 pub record Searching (n : ℕ) (row a trail : List ℕ) (settled broken : ℕ) : Type 0 where
   pub state : State n a
@@ -57,3 +57,23 @@ module _ (n : ℕ) (row a trail : List ℕ) (settled broken : ℕ) (s : Searchin
   -- there is room for one more
   pub not-all : settled < n
   not-all = omega (arith, s .counted, assign-fewer (s .state) v b low high free bit)
+
+-- after a search that found nothing, what was assigned since is taken away
+module _ (n : ℕ) (row a trail : List ℕ) (settled broken : ℕ) (s : Searching n row a trail settled broken)
+    (a′ trail′ : List ℕ) (later : Later settled trail a trail′ a′) (long : length trail′ ≡ length trail) where
+  pub restored : undone settled trail′ a′ ≡ a
+  restored = later settled (omega arith) ∙ s .kept
+
+  pub restored-later : Later settled trail a trail′ a
+  restored-later t h = ap (undone t trail′) (sym restored) ∙ undone-twice t settled trail′ a′ h ∙ later t h
+
+  pub restored-searching : Searching n row a trail′ settled broken
+  restored-searching =
+      record
+        { state = s .state
+        ; long = long ∙ s .long
+        ; counted = s .counted
+        ; breaks = s .breaks
+        ; few = s .few
+        ; kept = restored-later settled (omega arith) ∙ s .kept
+        }

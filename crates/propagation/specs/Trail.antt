@@ -92,3 +92,16 @@ pub undone-end : (s : ℕ) (trail a whole : List ℕ) (i : ℕ) → length a ≡
 undone-end s trail a whole i k h w =
     let past : length trail ≤ i = omega arith in
     sym (w ∙ ap₂ (λ (l r : List ℕ). l ++ undone s r (drop i a)) (take-all i a (omega arith)) (drop-of-length-le trail past) ∙ append-nil a)
+
+-- what an earlier s takes away is gone whether or not a later one took its part first
+twice : (t s r b : ℕ) → t ≤ s → cond (ltb r t) (cond (ltb r s) b 2) 2 ≡ cond (ltb r t) b 2
+twice t s r b h = go (ltb r t) refl
+  where
+    go : (u : Bool) → ltb r t ≡ u → cond u (cond (ltb r s) b 2) 2 ≡ cond u b 2
+    go true q = rw (lt-ltb r s (omega (arith, ltb-true r t q)))
+    go false q = refl
+
+pub undone-twice : (t s : ℕ) (trail a : List ℕ) → t ≤ s → undone t trail (undone s trail a) ≡ undone t trail a
+undone-twice t s [] a h = refl
+undone-twice t s (r ∷ trail) [] h = refl
+undone-twice t s (r ∷ trail) (b ∷ a) h = ap₂ _∷_ (twice t s r b h) (undone-twice t s trail a h)
