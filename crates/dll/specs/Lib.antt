@@ -1,3 +1,5 @@
 pub mod AttemptLaws
+pub mod Fits
 pub mod ForkLaws
+pub mod Pick
 pub mod Tried
