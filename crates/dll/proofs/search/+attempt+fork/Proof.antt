@@ -25,7 +25,7 @@ use Rattle.propagation.specs.Propagated as P
 use Rattle.propagation.specs.Searching.{Searching, Later, later-more, assigned, assigned-later, not-all, restored, restored-later, restored-searching}
 use Rattle.propagation.specs.Trail.{undone}
 use Rattle.dll.specs.AttemptLaws.{by-propagation, by-completion, by-exhaustion, by-fork}
-use Rattle.dll.specs.Fits.{sound-fits}
+use Rattle.searches.specs.Fits.{sound-fits}
 use Rattle.dll.specs.ForkLaws.{first-found, second-found, none-found, branch-searching, branch-fewer, branch-after, branch-room}
 use Rattle.dll.specs.Pick.{pickOf, pick-none, pick-fork}
 use Rattle.dll.specs.Tried.{clip, Says}

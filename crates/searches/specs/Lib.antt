@@ -1,0 +1,4 @@
+pub mod Admitted
+pub mod Fits
+pub mod Meaning
+pub mod Searches
