@@ -1,8 +1,9 @@
 -- Refusals (document 01, "Refusals"), and the reply of a call as numbers.
 use mathlib.Core.Bool.{Bool, cond}
-use mathlib.Core.List.{List, [], _∷_}
+use mathlib.Core.List.{List, [], _∷_, _++_}
 use mathlib.Core.Option.{Option, none, some}
 use Prim.Native.Nat.{ℕ}
+use lib.ListN.{length, drop}
 use Rattle.refusal.specs.declared.Refusal.{Refusal}
 use Rattle.refusal.specs.declared.Verdict.{Verdict}
 use Rattle.refusal.specs.declared.Verdict.the-variants.{Pass, Refuse}
@@ -40,3 +41,8 @@ pub data Reply : Type 0 where
 abbrev pub unless : Option Refusal → Reply → Reply
 unless none answer = answer
 unless (some r) answer = refusing r
+
+-- What a call leaves in the output that it was lent: a refusal leaves it as it was, and "On success bytes past the needed length stay" (document 01, "Refusals").
+abbrev pub filled {ℓ} : {A : Type ℓ} → Option Refusal → List A → List A → List A
+filled none result out = result ++ drop (length result) out
+filled (some r) result out = out
