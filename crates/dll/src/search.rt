@@ -5,7 +5,7 @@ use crate::tried::Tried;
 use crate::tried::add_forks;
 use literal::Variable;
 use propagation::Propagated;
-use propagation::Tally;
+use tally::Tally;
 ghost use mathlib.Core.Path.{_≡_};
 ghost use mathlib.Core.Option.{none};
 ghost use Prim.Native.Nat.{_≤_, _<_};

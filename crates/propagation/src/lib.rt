@@ -6,7 +6,6 @@ mod unit;
 
 pub use propagate::Propagated;
 pub use propagate::propagate_units;
-pub use settle::Tally;
 pub use settle::assign_to;
 pub use trail::undo;
 pub use unit::Unit;

@@ -1,8 +1,8 @@
 // Unit propagation (document 01, step 1: settle).
-use crate::settle::Tally;
 use crate::settle::assign_to;
 use crate::unit::Unit;
 use crate::unit::find_unit;
+use tally::Tally;
 ghost use mathlib.Core.Path.{_≡_};
 ghost use mathlib.Core.Bool.{true};
 ghost use Prim.Native.Nat.{_≤_};

@@ -1,17 +1,12 @@
 // A variable is assigned, with its place in the trail and its part in the tally.
 use literal::Variable;
+use tally::Tally;
 ghost use mathlib.Core.Path.{_≡_};
 ghost use Prim.Native.Nat.{_+_, _-_, _≤_, _<_};
 ghost use lib.ListN.{length, set};
 ghost use Rattle.literal.specs.Literal.{value};
 ghost use Rattle.distance.specs.Distance.{cost};
 ghost use Rattle.walk.specs.State.{assign};
-
-// The running tally: how many variables are assigned, and how many wishes are broken.
-pub struct Tally {
-    pub settled: usize,
-    pub broken: usize,
-}
 
 // Assigns a variable, and gives the tally with it.
 pub fn assign_to(
@@ -34,8 +29,5 @@ pub fn assign_to(
     let cost = distance::cost_of(literal::value_of(v, row), bit);
     a[at] = bit;
     trail[at] = settled as u16;
-    Tally {
-        settled: settled + 1,
-        broken: tally.broken + cost,
-    }
+    tally::counted(settled, tally.broken, cost)
 }

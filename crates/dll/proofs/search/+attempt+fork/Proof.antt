@@ -19,7 +19,7 @@ use Rattle.walk.specs.Walk.{Outcome, isDeadEnd, complete, decide, walkFrom}
 use Rattle.walk.specs.Walk.{fork as forkOf}
 use Rattle.walk.specs.Promises.{Branches}
 use Rattle.walk.specs.PropagationLaws.{propagate-fewer}
-use Rattle.propagation.specs.declared.settle.Tally.{Tally}
+use Rattle.tally.specs.declared.Tally.{Tally}
 use Rattle.propagation.specs.declared.propagate.Propagated.the-variants.{Dead, Settled}
 use Rattle.propagation.specs.Propagated as P
 use Rattle.propagation.specs.Searching.{Searching, Later, later-more, assigned, assigned-later, not-all, restored, restored-later, restored-searching}

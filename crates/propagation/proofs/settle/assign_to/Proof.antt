@@ -31,15 +31,13 @@ mul-trail c = search needs
 slice-write-trail : tie.Need-slice-write-trail
 slice-write-trail c = search needs
 
-add-t14 : tie.Need-add-t14
-add-t14 c = search needs
-
 -- the cost is that of the value at the variable's wish
-priced : (c : tie.After-struct-known) → c .before .cost-of .result ≡ cost (value (c .before .before .before .before .before .before .args .row .now) (c .before .before .before .before .before .before .args .v .0)) (c .before .before .before .before .before .before .args .bit)
-priced c = c .before .cost-of .ensures ∙ ap (λ (w : ℕ). cost w (c .before .before .before .before .before .before .args .bit)) (c .before .before .value-of .ensures)
+priced : (c : tie.After-cost-of) → c .cost-of .result ≡ cost (value (c .before .before .before .before .before .args .row .now) (c .before .before .before .before .before .args .v .0)) (c .before .before .before .before .before .args .bit)
+priced c = c .cost-of .ensures ∙ ap (λ (w : ℕ). cost w (c .before .before .before .before .before .args .bit)) (c .before .value-of .ensures)
 
-add-t16 : tie.Need-add-t16
-add-t16 c = omega (arith, cost-most (value (c .before .before .before .before .before .before .args .row .now) (c .before .before .before .before .before .before .args .v .0)) (c .before .before .before .before .before .before .args .bit), priced c)
+
+counted-requires : tie.Need-counted-requires
+counted-requires c κs = omega (arith, cost-most (value (c .before .before .before .before .before .args .row .now) (c .before .before .before .before .before .args .v .0)) (c .before .before .before .before .before .args .bit), priced c)
 
 same-length : tie.Need-same-length
 same-length c = search needs
@@ -48,10 +46,9 @@ same-length-2 : tie.Need-same-length-2
 same-length-2 c = search needs
 
 returns : tie.Need-returns
-returns c = (
-  (refl, ap (λ (k : ℕ). c .before .before .before .before .before .before .args .tally .broken + k) (priced c)),
-  (sym (assign-set (c .before .before .before .before .before .before .args .a .now) (c .before .before .before .before .before .before .args .v .0) (c .before .before .before .before .before .before .args .bit) (c .before .before .before .before .before .before .pre .0 .0)), refl),
-)
+returns c =
+    ((c .counted .ensures .0, c .counted .ensures .1 ∙ ap (λ (k : ℕ). c .before .before .before .before .before .before .args .tally .broken + k) (priced (c .before))),
+    (sym (assign-set (c .before .before .before .before .before .before .args .a .now) (c .before .before .before .before .before .before .args .v .0) (c .before .before .before .before .before .before .args .bit) (c .before .before .before .before .before .before .pre .0 .0)), refl))
 
 pub assign-to-spec : {M : Type 1} → statement M
 assign-to-spec =
@@ -64,8 +61,7 @@ assign-to-spec =
     cast-trail
     mul-trail
     slice-write-trail
-    add-t14
-    add-t16
+    counted-requires
     same-length
     same-length-2
     returns)
