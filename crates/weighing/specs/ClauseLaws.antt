@@ -1,0 +1,1 @@
+-- What one clause adds to the weights and the marks.
