@@ -16,3 +16,7 @@ opposes row a x = not (holds a x) && assignedOrAgainst row a x
 abbrev pub fewestOf : Option ℕ → Fewest
 fewestOf none = Nothing
 fewestOf (some k) = Literals k
+
+abbrev pub sizeOf : Fewest → Option ℕ
+sizeOf Nothing = none
+sizeOf (Literals k) = some k

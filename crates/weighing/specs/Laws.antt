@@ -1,6 +1,6 @@
 -- The laws of adding a weight at each literal of a clause, and of marking its variables.
 use mathlib.Core.Path.{_≡_, refl, sym, ap, ap₂, _∙_}
-use mathlib.Core.Bool.{Bool, true, false, cond, not, _&&_, _||_}
+use mathlib.Core.Bool.{Bool, true, false, cond, not, _||_, and-eq-true-iff}
 use mathlib.Core.List.{List, _∷_}
 use Prim.Native.Nat.{ℕ, _+_, _^_, _≤_, _<_}
 use native.Mathlib.Decide.{ℕ-discrete}
@@ -16,7 +16,6 @@ use lib.Seq.{drop-cons, getD-set-same, getD-set-other}
 use borrow.Author.Tests.{eq-eqb, ne-eqb, ltb-true, ltb-false, not-true}
 use Rattle.literal.specs.Literal.{variable}
 use Rattle.formula.specs.Formula.{any}
-use Rattle.soundness.specs.Laws.{and-left, and-right}
 use Rattle.walk.specs.Branching.{isOf, mentions}
 use Rattle.weighing.specs.Weights.{slot, isAt, isMarked, distinct}
 
@@ -41,8 +40,7 @@ module _ (c : List ℤ) (w : ℕ) (before now : List ℕ) (k : ℕ) (s : Adding 
 
   parts : (not (any (isAt (slot x)) rest) ≡ true) × (distinct rest ≡ true)
   parts =
-      let both : not (any (isAt (slot x)) rest) && distinct rest ≡ true = sym (ap distinct split) ∙ s .once in
-      (and-left (not (any (isAt (slot x)) rest)) (distinct rest) both, and-right (not (any (isAt (slot x)) rest)) (distinct rest) both)
+      and-eq-true-iff (not (any (isAt (slot x)) rest)) (distinct rest) .0 (sym (ap distinct split) ∙ s .once)
 
   -- what is there at the next literal's slot and the weight are no more than what was there and the weight
   pub adding-fits : getD now (slot x) 0 + w ≤ getD before (slot x) 0 + w
