@@ -7,7 +7,7 @@ use Prim.Native.Nat.{ℕ, _≤_}
 use lib.IntN.{ℤ}
 use lib.ListN.{length, drop, drop-of-length-le}
 use Rattle.literal.specs.Literal.{holds}
-use Rattle.formula.specs.Formula.{all, clauses, satisfied}
+use Rattle.formula.specs.Formula.{any, all, clauses, satisfied}
 use Rattle.walk.specs.State.{isUnassigned, unassignedIn}
 use Rattle.walk.specs.Branching.{isAgainst, assignedOrAgainst, isOpposed, shorter, fewest}
 use Rattle.walk.specs.BranchingLaws.{fewer, fewer-assoc, shorter-fewer, fewest-opposed, fewest-other}
@@ -61,3 +61,22 @@ fewest-found row a found s l i h = rw (drop-of-length-le l h) (alone (size a fou
     alone : (o : Option ℕ) → fewer o none ≡ o
     alone none = refl
     alone (some k) = refl
+
+-- step 3 asks whether some clause is opposed: there is one where there is a shortest
+abbrev pub isSome : Option ℕ → Bool
+isSome none = false
+isSome (some k) = true
+
+pub any-opposed : (row a : List ℕ) (f : List (List ℤ)) → any (isOpposed row a) f ≡ isSome (fewest row a f)
+any-opposed row a [] = refl
+any-opposed row a (c ∷ f) = go (isOpposed row a c) refl (any-opposed row a f)
+  where
+    counted : (o : Option ℕ) → isSome (fewer (some (unassignedIn a c)) o) ≡ true
+    counted none = refl
+    counted (some k) = refl
+
+    go : (b : Bool) → isOpposed row a c ≡ b → any (isOpposed row a) f ≡ isSome (fewest row a f) → isOpposed row a c || any (isOpposed row a) f ≡ isSome (fewest row a (c ∷ f))
+    go true e ih =
+        ap (λ (t : Bool). t || any (isOpposed row a) f) e
+        ∙ sym (ap isSome (fewest-opposed row a c f e) ∙ counted (fewest row a f))
+    go false e ih = ap (λ (t : Bool). t || any (isOpposed row a) f) e ∙ ih ∙ sym (ap isSome (fewest-other row a c f e))

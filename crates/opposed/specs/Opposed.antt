@@ -13,6 +13,7 @@ use Rattle.opposed.specs.declared.fewest.Fewest.the-variants.{Nothing, L
 abbrev pub opposes : List ℕ → List ℕ → ℤ → Bool
 opposes row a x = not (holds a x) && assignedOrAgainst row a x
 
-abbrev pub fewestOf : Option ℕ → Fewest
-fewestOf none = Nothing
-fewestOf (some k) = Literals k
+-- the number that a `Fewest` holds
+abbrev pub sizeOf : Fewest → Option ℕ
+sizeOf Nothing = none
+sizeOf (Literals k) = some k

@@ -5,7 +5,7 @@ use crate::pair::unassigned_in;
 ghost use mathlib.Core.Path.{_≡_};
 ghost use Rattle.formula.specs.Formula.{clauses};
 ghost use Rattle.walk.specs.Branching.{fewest};
-ghost use Rattle.opposed.specs.Opposed.{fewestOf};
+ghost use Rattle.opposed.specs.Opposed.{sizeOf};
 
 // The fewest unassigned literals of an opposed clause, where there is one.
 pub enum Fewest {
@@ -15,7 +15,7 @@ pub enum Fewest {
 
 // Finds the shortest opposed clause in one pass over the list, and counts its unassigned literals.
 pub fn fewest_opposed(list: &[i32], row: &[u8], assignment: &[u8]) -> Fewest
-    ensures { λ r. ⌜ r ≡ fewestOf (fewest (now (row .entry)) (now (assignment .entry)) (clauses (now (list .entry)))) ⌝ }
+    ensures { λ r. ⌜ sizeOf r ≡ fewest (now (row .entry)) (now (assignment .entry)) (clauses (now (list .entry))) ⌝ }
 {
     let mut shortest = &list[0..0];
     let mut found = false;

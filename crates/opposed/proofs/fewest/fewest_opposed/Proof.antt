@@ -3,7 +3,8 @@ use mathlib.Core.Path.{_≡_, sym, ap, ap₂, _∙_}
 use mathlib.Core.Bool.{Bool, true}
 use mathlib.Core.List.{List, _∷_}
 use mathlib.Core.Logic.{⊎-elim}
-use Prim.Native.Nat.{_+_, _-_}
+use mathlib.Core.Option.{Option, some}
+use Prim.Native.Nat.{ℕ, _+_, _-_}
 use native.Mathlib.Omega.{arith}
 use lib.IntN.{ℤ}
 use lib.ListN.{length, take, drop}
@@ -11,9 +12,7 @@ use Rattle.formula.specs.Formula.{clauses}
 use Rattle.formula.specs.Laws.{end-inside, clauses-step}
 use Rattle.walk.specs.Branching.{fewest}
 use Rattle.walk.specs.BranchingLaws.{fewer}
-use Rattle.opposed.specs.Opposed.{fewestOf}
 use Rattle.opposed.specs.Laws.{size, fewest-kept, fewest-first, fewest-shorter, fewest-found}
-use Rattle.opposed.specs.declared.fewest.Fewest.the-variants.{Literals}
 use denote.Ref.{now}
 use borrow.Author.Needs.{needs}
 use Rattle.opposed.proofs.fewest.fewest_opposed.Statement.{statement}
@@ -103,16 +102,16 @@ returns : tie.Need-returns Inv-loop μ-loop
 returns c =
     let a = c .before .before .before .before .before .before .before .args .assignment .now in
     let l = c .before .before .before .before .before .before .before .args .list .now in
-    ap Literals (c .unassigned-in .ensures)
-    ∙ sym (ap fewestOf (c .before .before .before .loop .inv ∙ fewest-found (c .before .before .before .before .before .before .before .args .row .now) a (c .before .before .before .loop .found) (c .before .before .before .loop .shortest .now) l (c .before .before .before .loop .from) (c .before .before .loop-test .left)
-    ∙ ap (λ (b : Bool). size a b (c .before .before .before .loop .shortest .now)) (c .before .if3 .taken)))
+    ap {B = Option ℕ} some (c .unassigned-in .ensures)
+    ∙ sym (c .before .before .before .loop .inv ∙ fewest-found (c .before .before .before .before .before .before .before .args .row .now) a (c .before .before .before .loop .found) (c .before .before .before .loop .shortest .now) l (c .before .before .before .loop .from) (c .before .before .loop-test .left)
+    ∙ ap (λ (b : Bool). size a b (c .before .before .before .loop .shortest .now)) (c .before .if3 .taken))
 
 returns-2 : tie.Need-returns-2 Inv-loop μ-loop
 returns-2 c =
     let a = c .before .before .before .before .before .before .args .assignment .now in
     let l = c .before .before .before .before .before .before .args .list .now in
-    sym (ap fewestOf (c .before .before .loop .inv ∙ fewest-found (c .before .before .before .before .before .before .args .row .now) a (c .before .before .loop .found) (c .before .before .loop .shortest .now) l (c .before .before .loop .from) (c .before .loop-test .left)
-    ∙ ap (λ (b : Bool). size a b (c .before .before .loop .shortest .now)) (c .if3 .left)))
+    sym (c .before .before .loop .inv ∙ fewest-found (c .before .before .before .before .before .before .args .row .now) a (c .before .before .loop .found) (c .before .before .loop .shortest .now) l (c .before .before .loop .from) (c .before .loop-test .left)
+    ∙ ap (λ (b : Bool). size a b (c .before .before .loop .shortest .now)) (c .if3 .left))
 
 pub fewest-opposed-spec : {M : Type 1} → statement M
 fewest-opposed-spec =
