@@ -1,13 +1,16 @@
 -- Where a state forks: steps 3 and 4 of the walk, as one answer.
 use mathlib.Core.Path.{_≡_, refl, sym, ap, ap₂, subst, _∙_}
-use mathlib.Core.Bool.{Bool, true, false}
+use mathlib.Core.Bool.{Bool, true, false, _&&_}
 use mathlib.Core.List.{List}
 use mathlib.Core.Option.{Option, none, some}
 use Prim.Native.Nat.{ℕ, _<_}
 use native.Mathlib.Omega.{arith}
+use lib.Dec.{eqb}
 use lib.IntN.{ℤ}
 use Rattle.literal.specs.declared.Variable.{Variable}
 use Rattle.formula.specs.Formula.{models}
+use Rattle.distance.specs.Distance.{disagreement}
+use Rattle.opposed.specs.Laws.{isSome, any-opposed}
 use Rattle.walk.specs.Branching.{fewest, branchingVariable}
 use Rattle.walk.specs.BranchingLaws.{branching-sound}
 use Rattle.walk.specs.Promises.{Branches}
@@ -66,3 +69,18 @@ module _ (f : List (List ℤ)) (row : List ℕ) (d : ℕ) (try : List ℕ → Ou
           (decide-fork f row d try a alive open′ p ∙ ap (forkOn try row a (fewest row a f)) q ∙ ap₂ (fork try a) same first,
           subst (Branches a n) same (branching-sound h row f q),
           subst (λ (k : ℕ). k < 2) first (first-bit row (fewest row a f) u))
+
+-- the answer, from what was found out step by step
+module _ (f : List (List ℤ)) (row : List ℕ) (d : ℕ) (a : List ℕ) (broken : ℕ) (counted : broken ≡ disagreement row a) (size : Option ℕ) (short : size ≡ fewest row a f) where
+  exhausted : (t : Bool) → t ≡ eqb broken d && isSome size → isExhausted f row d a ≡ t
+  exhausted t e = rw (e, counted, short, any-opposed row a f)
+
+  pub at-limit : (t : Bool) → t ≡ eqb broken d && isSome size → t ≡ true → DeadEnd ≡ pickOf f row d a
+  at-limit t e q = sym (ap (λ (u : Bool). picked u row (fewest row a f) (branchingVariable row a f)) (exhausted t e ∙ q))
+
+  module _ (t : Bool) (e : t ≡ eqb broken d && isSome size) (q : t ≡ false) where
+    pub no-branch : branchingVariable row a f ≡ none → DeadEnd ≡ pickOf f row d a
+    no-branch b = rw (exhausted t e, q, b)
+
+    pub branch-on : (v : Variable) (c : ℕ) → branchingVariable row a f ≡ some (v .0) → c ≡ firstValue row size (v .0) → Branch v c ≡ pickOf f row d a
+    branch-on v c b w = rw (exhausted t e, q, b, w, short)
