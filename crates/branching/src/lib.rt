@@ -8,4 +8,3 @@ pub use best::Branch;
 pub use numbers::no_marks;
 pub use numbers::no_weights;
 pub use variable::branching_variable;
-pub use variable::branching_variable_with;

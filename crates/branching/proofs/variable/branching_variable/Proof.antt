@@ -1,34 +1,32 @@
--- `branching::branching_variable` meets its contract, by what its callee ensures.
-use native.Mathlib.Omega.{arith}
-use borrow.Author.Needs.{needs}
+-- `branching::branching_variable` meets its contract, by what its two callees ensure.
+use mathlib.Core.Path.{_∙_}
+use lib.ListN.{length}
+use Rattle.formula.specs.Formula.{clauses}
+use Rattle.opposed.specs.Opposed.{sizeOf}
+use Rattle.branching.specs.Laws.{totals-branch, totals-scorable, sound-ready}
 use Rattle.branching.proofs.variable.branching_variable.Statement.{statement}
 use Rattle.branching.proofs.variable.branching_variable.Tie as tie
 
-no-weights-requires : tie.Need-no-weights-requires
-no-weights-requires c κs = search needs
+weigh-list-requires : tie.Need-weigh-list-requires
+weigh-list-requires c κs = sound-ready (length (c .before .before .before .before .before .before .args .assignment .now)) (c .before .before .before .before .before .before .args .list .now) (c .before .before .before .before .before .before .args .weights .now) (c .before .before .before .before .before .before .args .marks .now) (c .before .before .before .before .before .before .pre .0) (c .before .before .before .before .before .before .pre .1 .1 .0) (c .before .before .before .before .before .before .pre .1 .1 .1)
 
-no-marks-requires : tie.Need-no-marks-requires
-no-marks-requires c κs = search needs
+best-variable-requires : tie.Need-best-variable-requires
+best-variable-requires c κs =
+    totals-scorable (length (c .before .before .before .before .before .before .before .before .before .before .before .before .before .args .assignment .now)) (c .before .before .before .before .before .before .before .before .before .before .before .before .before .args .row .now) (c .before .before .before .before .before .before .before .before .before .before .before .before .before .args .assignment .now) (sizeOf (c .before .before .before .before .before .before .before .before .before .before .before .before .before .args .size)) (c .before .before .before .before .before .before .before .before .before .before .before .before .before .args .list .now) (c .before .before .before .before .before .before .before .before .before .before .before .before .before .args .weights .now) (c .before .before .before .before .before .before .before .before .before .before .before .before .before .args .marks .now) (c .before .before .before .before .before .before .weigh-list .last .1 .1 .1 .1 .0) (c .before .before .before .before .before .before .weigh-list .last .1 .1 .1 .1 .1 .0)
+    (sound-ready (length (c .before .before .before .before .before .before .before .before .before .before .before .before .before .args .assignment .now)) (c .before .before .before .before .before .before .before .before .before .before .before .before .before .args .list .now) (c .before .before .before .before .before .before .before .before .before .before .before .before .before .args .weights .now) (c .before .before .before .before .before .before .before .before .before .before .before .before .before .args .marks .now) (c .before .before .before .before .before .before .before .before .before .before .before .before .before .pre .0) (c .before .before .before .before .before .before .before .before .before .before .before .before .before .pre .1 .1 .0) (c .before .before .before .before .before .before .before .before .before .before .before .before .before .pre .1 .1 .1)) (c .before .before .before .before .before .before .weigh-list .kept .1 .1 .1 .1 .0) (c .before .before .before .before .before .before .weigh-list .kept .1 .1 .1 .1 .1 .0) (c .before .before .before .before .before .before .weigh-list .ensures)
 
-slice-aggregate-branching-variable-with : tie.Need-slice-aggregate-branching-variable-with
-slice-aggregate-branching-variable-with c = search needs
+same-length : tie.Need-same-length
+same-length c = c .before .before .before .before .before .before .before .weigh-list .kept .1 .1 .1 .1 .0
 
-slice-aggregate-branching-variable-with-2 : tie.Need-slice-aggregate-branching-variable-with-2
-slice-aggregate-branching-variable-with-2 c = search needs
-
-branching-variable-with-requires : tie.Need-branching-variable-with-requires
-branching-variable-with-requires c κs = (c .before .before .before .before .before .before .pre .0, (c .before .before .before .before .before .before .pre .1 .0, (omega (arith, c .before .before .before .before .before .before .pre .1 .1, c .before .before .before .no-weights .ensures), omega (arith, c .before .before .before .before .before .before .pre .1 .1, c .before .before .no-marks .ensures))))
+same-length-2 : tie.Need-same-length-2
+same-length-2 c = c .before .before .before .before .before .before .before .weigh-list .kept .1 .1 .1 .1 .1 .0
 
 returns : tie.Need-returns
-returns c = search needs
+returns c =
+    c .best-variable .ensures
+    ∙ totals-branch (c .before .before .before .before .before .before .before .before .before .before .before .before .before .before .args .row .now) (c .before .before .before .before .before .before .before .before .before .before .before .before .before .before .args .assignment .now) (sizeOf (c .before .before .before .before .before .before .before .before .before .before .before .before .before .before .args .size)) (clauses (c .before .before .before .before .before .before .before .before .before .before .before .before .before .before .args .list .now)) (c .before .before .before .before .before .before .before .weigh-list .last .1 .1 .1 .1 .0) (c .before .before .before .before .before .before .before .weigh-list .last .1 .1 .1 .1 .1 .0) (c .before .before .before .before .before .before .before .weigh-list .ensures) (c .before .before .before .before .before .before .before .before .before .before .before .before .before .before .pre .1 .0)
 
 pub branching-variable-spec : {M : Type 1} → statement M
 branching-variable-spec =
     tie.close
-    (tie.spec
-    no-weights-requires
-    no-marks-requires
-    slice-aggregate-branching-variable-with
-    slice-aggregate-branching-variable-with-2
-    branching-variable-with-requires
-    returns)
+    (tie.spec weigh-list-requires best-variable-requires same-length same-length-2 returns)
