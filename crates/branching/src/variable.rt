@@ -12,8 +12,8 @@ ghost use Rattle.walk.specs.Branching.{fewest, branchingVariable};
 ghost use Rattle.opposed.specs.Opposed.{sizeOf};
 ghost use Rattle.branching.specs.Branch.{variableOf};
 
-// Weighs the clauses of a sound list, then takes the best variable. The caller lends the numbers
-// that it works with: two for each variable and two more, and one for each variable and one more.
+// Weighs the clauses of a sound list, then takes the best variable. The numbers to work with are
+// lent, with anything in them, so that a deep search has them on its stack once.
 pub fn branching_variable(
     list: &[i32],
     row: &[u8],
