@@ -65,10 +65,11 @@ module _ (f : List (List ℤ)) (row : List ℕ) (d : ℕ) (try : List ℕ → Ou
       go false p (some u) q r =
           let at : variable u ≡ v = branch-variable u v (firstValue row (fewest row a f) u) c r in
           let same : u ≡ v .0 = ap number at in
-          let first : firstValue row (fewest row a f) u ≡ c = branch-value (variable u) v (firstValue row (fewest row a f) u) c r in
-          (decide-fork f row d try a alive open′ p ∙ ap (forkOn try row a (fewest row a f)) q ∙ ap₂ (fork try a) same first,
-          subst (Branches a n) same (branching-sound h row f q),
-          subst (λ (k : ℕ). k < 2) first (first-bit row (fewest row a f) u))
+          let first : firstValue row (fewest row a f) u ≡ c = branch-value (variable u) v (firstValue row (fewest row a f) u) c r in (
+            decide-fork f row d try a alive open′ p ∙ ap (forkOn try row a (fewest row a f)) q ∙ ap₂ (fork try a) same first,
+            subst (Branches a n) same (branching-sound h row f q),
+            subst (λ (k : ℕ). k < 2) first (first-bit row (fewest row a f) u),
+          )
 
 -- the answer, from what was found out step by step
 module _ (f : List (List ℤ)) (row : List ℕ) (d : ℕ) (a : List ℕ) (broken : ℕ) (counted : broken ≡ disagreement row a) (size : Option ℕ) (short : size ≡ fewest row a f) where

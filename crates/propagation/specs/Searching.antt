@@ -69,11 +69,11 @@ module _ (n : ℕ) (row a trail : List ℕ) (settled broken : ℕ) (s : Searchin
 
   pub restored-searching : Searching n row a trail′ settled broken
   restored-searching =
-      record
-        { state = s .state
-        ; long = long ∙ s .long
-        ; counted = s .counted
-        ; breaks = s .breaks
-        ; few = s .few
-        ; kept = restored-later settled (omega arith) ∙ s .kept
-        }
+      record {
+        state = s .state;
+        long = long ∙ s .long;
+        counted = s .counted;
+        breaks = s .breaks;
+        few = s .few;
+        kept = restored-later settled (omega arith) ∙ s .kept;
+      }

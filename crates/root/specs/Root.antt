@@ -40,11 +40,11 @@ nothing-undone (t ∷ trail) (suc n) e = ?
 pub root-searching : (n : ℕ) (row trail a : List ℕ) → length trail ≡ n → a ≡ replicate n 2 → Searching n row a trail 0 0
 root-searching n row trail a l e =
     rw e
-    (record
-      { state = start-state n
-      ; long = l
-      ; counted = omega (arith, start-unassigned n)
-      ; breaks = sym (nothing-broken row n)
-      ; few = omega arith
-      ; kept = nothing-undone trail n l
-      })
+    (record {
+      state = start-state n;
+      long = l;
+      counted = omega (arith, start-unassigned n);
+      breaks = sym (nothing-broken row n);
+      few = omega arith;
+      kept = nothing-undone trail n l;
+    })

@@ -89,16 +89,16 @@ module _ (n : ℕ) (rules : List ℤ) (row : List ℕ) (d needed room : ℕ) whe
       let (bad, last) = first-nothing (causeAt 13 (badRule n unread 0 rules)) (causeAt 13 (badWish 0 0 row) ∷ []) after in
       let range = in-range n d (cause-none (outOfRange n d) 14 0 out) in
       let size = oversized-not n (length (clauses rules)) (literals (clauses rules)) (cause-none (oversized n (length (clauses rules)) (literals (clauses rules))) 12 0 small) in
-      record
-        { positive = range .0
-        ; small = size .0
-        ; limited = range .2
-        ; soundRules = causeAt-none 13 (badRule n unread 0 rules) bad
-        ; soundRow = causeAt-none 13 (badWish 0 0 row) (sym (first-last (causeAt 13 (badWish 0 0 row))) ∙ last)
-        ; long = eqb-true (length row) n (not-false (eqb (length row) n) (cause-none (wrongLength n row) 11 0 long))
-        ; few = size .1
-        ; short = size .2
-        }
+      record {
+        positive = range .0;
+        small = size .0;
+        limited = range .2;
+        soundRules = causeAt-none 13 (badRule n unread 0 rules) bad;
+        soundRow = causeAt-none 13 (badWish 0 0 row) (sym (first-last (causeAt 13 (badWish 0 0 row))) ∙ last);
+        long = eqb-true (length row) n (not-false (eqb (length row) n) (cause-none (wrongLength n row) 11 0 long));
+        few = size .1;
+        short = size .2;
+      }
 
   pub admitted-room : Admitted n rules row d → refusalOf (lentWith n rules row d needed room) ≡ room₁₅
   admitted-room a =

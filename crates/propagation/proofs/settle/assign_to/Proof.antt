@@ -35,7 +35,6 @@ slice-write-trail c = search needs
 priced : (c : tie.After-cost-of) → c .cost-of .result ≡ cost (value (c .before .before .before .before .before .args .row .now) (c .before .before .before .before .before .args .v .0)) (c .before .before .before .before .before .args .bit)
 priced c = c .cost-of .ensures ∙ ap (λ (w : ℕ). cost w (c .before .before .before .before .before .args .bit)) (c .before .value-of .ensures)
 
-
 counted-requires : tie.Need-counted-requires
 counted-requires c κs = omega (arith, cost-most (value (c .before .before .before .before .before .args .row .now) (c .before .before .before .before .before .args .v .0)) (c .before .before .before .before .before .args .bit), priced c)
 
@@ -46,9 +45,10 @@ same-length-2 : tie.Need-same-length-2
 same-length-2 c = search needs
 
 returns : tie.Need-returns
-returns c =
-    ((c .counted .ensures .0, c .counted .ensures .1 ∙ ap (λ (k : ℕ). c .before .before .before .before .before .before .args .tally .broken + k) (priced (c .before))),
-    (sym (assign-set (c .before .before .before .before .before .before .args .a .now) (c .before .before .before .before .before .before .args .v .0) (c .before .before .before .before .before .before .args .bit) (c .before .before .before .before .before .before .pre .0 .0)), refl))
+returns c = (
+  (c .counted .ensures .0, c .counted .ensures .1 ∙ ap (λ (k : ℕ). c .before .before .before .before .before .before .args .tally .broken + k) (priced (c .before))),
+  (sym (assign-set (c .before .before .before .before .before .before .args .a .now) (c .before .before .before .before .before .before .args .v .0) (c .before .before .before .before .before .before .args .bit) (c .before .before .before .before .before .before .pre .0 .0)), refl),
+)
 
 pub assign-to-spec : {M : Type 1} → statement M
 assign-to-spec =
