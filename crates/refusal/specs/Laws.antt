@@ -38,6 +38,6 @@ causeAt-none number none e = refl
 causeAt-none number (some place) e = absurd (Option·some-ne-none (refusal number place) e)
 
 -- where none of several causes applies, the first does not, nor any after it
-pub first-nothing : (o : Option Refusal) (causes : List (Option Refusal)) → first (o ∷ causes) ≡ none → (o ≡ none) × (first causes ≡ none)
-first-nothing none causes e = (refl, e)
-first-nothing (some r) causes e = absurd (Option·some-ne-none r e)
+pub no-first : (o : Option Refusal) (causes : List (Option Refusal)) → first (o ∷ causes) ≡ none → (o ≡ none) × (first causes ≡ none)
+no-first none causes e = (refl, e)
+no-first (some r) causes e = absurd (Option·some-ne-none r e)

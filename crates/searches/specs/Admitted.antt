@@ -11,7 +11,7 @@ use lib.ListN.{length}
 use borrow.Author.Tests.{eqb-true, not-false, ltb-false, le-ltb, eq-eqb, ne-eqb}
 use Rattle.formula.specs.Formula.{clauses, literals}
 use Rattle.refusal.specs.declared.Refusal.{Refusal}
-use Rattle.refusal.specs.Laws.{first-some, first-none, first-early, first-late, first-last, first-nothing, cause-none, causeAt-none}
+use Rattle.refusal.specs.Laws.{first-some, first-none, first-early, first-late, first-last, no-first, cause-none, causeAt-none}
 use Rattle.refusal.specs.Reply.{first, cause, causeAt}
 use Rattle.lent.specs.Laws.{in-range}
 use Rattle.lent.specs.Lent.{Lent, refusalOf, outOfRange, wrongLength, oversized}
@@ -85,8 +85,8 @@ module _ (n : ℕ) (rules : List ℤ) (row : List ℕ) (d needed room : ℕ) whe
   -- what is admitted is refused only for want of room
   pub admitted-of : unsound n d rules row ≡ none → short₁₁ ≡ none → large₁₂ ≡ none → Admitted n rules row d
   admitted-of sound long small =
-      let (out, after) = first-nothing (cause (outOfRange n d) 14 0) (causeAt 13 (badRule n unread 0 rules) ∷ causeAt 13 (badWish 0 0 row) ∷ []) sound in
-      let (bad, last) = first-nothing (causeAt 13 (badRule n unread 0 rules)) (causeAt 13 (badWish 0 0 row) ∷ []) after in
+      let (out, after) = no-first (cause (outOfRange n d) 14 0) (causeAt 13 (badRule n unread 0 rules) ∷ causeAt 13 (badWish 0 0 row) ∷ []) sound in
+      let (bad, last) = no-first (causeAt 13 (badRule n unread 0 rules)) (causeAt 13 (badWish 0 0 row) ∷ []) after in
       let range = in-range n d (cause-none (outOfRange n d) 14 0 out) in
       let size = oversized-not n (length (clauses rules)) (literals (clauses rules)) (cause-none (oversized n (length (clauses rules)) (literals (clauses rules))) 12 0 small) in
       record {

@@ -1,0 +1,7 @@
+pub mod Class
+pub mod Examples
+pub mod Format
+pub mod Laws
+pub mod RoundTrip
+pub mod Sizes
+pub mod Written
