@@ -3,11 +3,12 @@ use mathlib.Core.Path.{_≡_, refl, sym, ap, ap₂, subst, _∙_}
 use mathlib.Core.Bool.{true, cond}
 use mathlib.Core.List.{List, [], _∷_}
 use mathlib.Core.Option.{none, some}
-use Prim.Native.Nat.{ℕ, zero, suc, _+_}
-use native.Mathlib.Nat.{zero-le}
+use Prim.Native.Nat.{ℕ, zero, suc, _+_, zero-le}
 use native.Mathlib.Omega.{arith}
 use lib.ListN.{length, replicate}
+use borrow.Author.Tests.{le-ltb}
 use Rattle.distance.specs.Distance.{disagreement}
+use Rattle.distance.specs.Laws.{cost-kept}
 use Rattle.walk.specs.Correctness.{start-state, start-unassigned}
 use Rattle.walk.specs.State.{State, unassigned}
 use Rattle.walk.specs.Walk.{Outcome}
@@ -29,13 +30,13 @@ root-says o s trail a trail′ a′ (Nothing g) w = (w .0, w .1)
 nothing-broken : (row : List ℕ) (n : ℕ) → disagreement row (replicate n 2) ≡ 0
 nothing-broken [] n = refl
 nothing-broken (w ∷ row) zero = refl
-nothing-broken (w ∷ row) (suc n) = ?
+nothing-broken (w ∷ row) (suc n) = ap₂ _+_ (cost-kept w 2 (λ e. omega arith)) (nothing-broken row n)
 
 nothing-undone : (trail : List ℕ) (n : ℕ) → length trail ≡ n → undone 0 trail (replicate n 2) ≡ replicate n 2
 nothing-undone [] zero e = refl
-nothing-undone [] (suc n) e = ?
+nothing-undone [] (suc n) e = absurd (omega arith)
 nothing-undone (t ∷ trail) zero e = refl
-nothing-undone (t ∷ trail) (suc n) e = ?
+nothing-undone (t ∷ trail) (suc n) e = rw (le-ltb t 0 zero-le) (ap (λ (a : List ℕ). 2 ∷ a) (nothing-undone trail n (omega (arith, e))))
 
 pub root-searching : (n : ℕ) (row trail a : List ℕ) → length trail ≡ n → a ≡ replicate n 2 → Searching n row a trail 0 0
 root-searching n row trail a l e =

@@ -1,18 +1,27 @@
 // The walk from its root: every variable unassigned.
 use dll::Tried;
-use propagation::Tally;
+use tally::Tally;
 ghost use mathlib.Core.Path.{_≡_};
 ghost use mathlib.Core.Option.{none};
-ghost use Prim.Native.Nat.{_≤_};
+ghost use Prim.Native.Nat.{_+_, _*_, _≤_, _<_};
 ghost use lib.ListN.{length, replicate};
 ghost use Rattle.formula.specs.Formula.{clauses};
 ghost use Rattle.lent.specs.Sound.{unread, badRule};
 ghost use Rattle.walk.specs.Walk.{walk};
 ghost use Rattle.root.specs.Root.{RootSays};
 
-// Walks from the root in lent space: an assignment and a trail of n elements each, whatever they hold.
-pub fn walk_from_root(list: &[i32], row: &[u8], d: usize, a: &mut [u8], trail: &mut [u16]) -> Tried
+// Walks from the root in lent space, whatever it holds.
+pub fn walk_from_root(
+    list: &[i32],
+    row: &[u8],
+    d: usize,
+    a: &mut [u8],
+    trail: &mut [u16],
+    weights: &mut [u64],
+    marks: &mut [u64],
+) -> Tried
     requires { ⌜ (length (now trail) ≡ length (now a)) × (length (now a) ≤ 640) × (badRule (length (now a)) unread 0 (now list) ≡ none) ⌝ }
+    requires { ⌜ (2 * length (now a) + 1 < length (now weights)) × (length (now a) < length (now marks)) ⌝ }
     ensures { λ r. ⌜ RootSays (walk (length (now (a .entry))) (clauses (now (list .entry))) (now (row .entry)) d) (now (a .exit)) r ⌝ }
 {
     unassign_all(a);
@@ -20,7 +29,7 @@ pub fn walk_from_root(list: &[i32], row: &[u8], d: usize, a: &mut [u8], trail: &
         settled: 0,
         broken: 0,
     };
-    dll::attempt(list, row, d, tally, a, trail)
+    dll::attempt(list, row, d, tally, a, trail, weights, marks)
 }
 
 // Every byte 2: an assignment without a value, or a row without a wish.
