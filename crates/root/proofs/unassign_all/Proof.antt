@@ -29,7 +29,7 @@ size : (l : List ℕ) (i : ℕ) → i ≤ length l → length (replicate i 2 ++ 
 size l i h = omega (arith, length-append (replicate i 2) (drop i l), length-replicate {A = ℕ} i 2, length-drop i l)
 
 filled : (l : List ℕ) (i : ℕ) → i ≡ length l → replicate i 2 ++ drop i l ≡ replicate (length l) 2
-filled l i e = ap₂ _++_ (ap (λ (k : ℕ). replicate k 2) e) (drop-of-length-le l i (omega arith)) ∙ append-nil (replicate (length l) 2)
+filled l i e = ap₂ _++_ (ap (λ (k : ℕ). replicate k 2) e) (drop-of-length-le l {i = i} (omega arith)) ∙ append-nil (replicate (length l) 2)
 
 -- src/lib.rt:40:5
 loop-holds : tie.Need-loop-holds Inv-loop μ-loop
@@ -49,7 +49,7 @@ loop-less c = omega (arith, c .before .loop .inv .0, c .loop-test .taken, size (
 
 -- src/lib.rt:40:5
 loop-again : tie.Need-loop-again Inv-loop μ-loop
-loop-again c = 
+loop-again c =
     let l = c .before .before .args .a .now in
     let i = c .before .loop .i in
     let low : i < length l = omega (arith, c .before .loop .inv .0, c .loop-test .taken, size l i (c .before .loop .inv .0), ap length (c .before .loop .inv .1)) in
@@ -61,7 +61,7 @@ same-length c = ap length (c .before .loop .inv .1) ∙ size (c .before .before 
 
 -- src/lib.rt:36:1
 returns : tie.Need-returns Inv-loop μ-loop
-returns c = 
+returns c =
     let l = c .before .before .args .a .now in
     let i = c .before .loop .i in
     let all : i ≡ length l = omega (arith, c .before .loop .inv .0, c .loop-test .left, size l i (c .before .loop .inv .0), ap length (c .before .loop .inv .1)) in
