@@ -1,4 +1,6 @@
 // The walk from its root: every variable unassigned.
+mod into;
+
 use dll::Tried;
 use tally::Tally;
 ghost use mathlib.Core.Path.{_≡_};
@@ -9,6 +11,7 @@ ghost use Rattle.formula.specs.Formula.{clauses};
 ghost use Rattle.lent.specs.Sound.{unread, badRule};
 ghost use Rattle.walk.specs.Walk.{walk};
 ghost use Rattle.root.specs.Root.{RootSays};
+pub use into::walk_into;
 
 // Walks from the root in lent space, whatever it holds.
 pub fn walk_from_root(
