@@ -1,14 +1,16 @@
 // A walk in space of its own, whose answer goes to a lent choice.
 use crate::walk_from_root;
 use dll::Tried;
+use searches::Searched;
 ghost use mathlib.Core.Path.{_≡_};
 ghost use mathlib.Core.List.{_++_};
 ghost use Prim.Native.Nat.{_≤_};
 ghost use lib.ListN.{length, drop};
 ghost use Rattle.formula.specs.Formula.{clauses};
 ghost use Rattle.walk.specs.Walk.{walk};
+ghost use Rattle.searches.specs.Answers.{searchedOf};
 ghost use Rattle.admission.specs.Startable.{Startable};
-ghost use Rattle.root.specs.Into.{Reaches};
+ghost use Rattle.root.specs.Into.{Reaches, brokenIn};
 
 // Walks from the root; where that finds an answer, it stands in the first n bytes of the choice.
 pub fn walk_into(n: usize, list: &[i32], row: &[u8], d: usize, choice: &mut [u8]) -> Tried
@@ -33,6 +35,16 @@ pub fn walk_into(n: usize, list: &[i32], row: &[u8], d: usize, choice: &mut [u8]
             Tried::Found(broken, forks)
         }
         Tried::Nothing(forks) => Tried::Nothing(forks),
+    }
+}
+
+// What a walk came to, as a search's answer.
+pub fn answer_of(tried: Tried) -> Searched
+    ensures { λ r. ⌜ r ≡ searchedOf (brokenIn tried) ⌝ }
+{
+    match tried {
+        Tried::Found(broken, _) => Searched::Found(broken),
+        Tried::Nothing(_) => Searched::Nothing,
     }
 }
 

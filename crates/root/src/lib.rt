@@ -11,6 +11,7 @@ ghost use Rattle.formula.specs.Formula.{clauses};
 ghost use Rattle.lent.specs.Sound.{unread, badRule};
 ghost use Rattle.walk.specs.Walk.{walk};
 ghost use Rattle.root.specs.Root.{RootSays};
+pub use into::answer_of;
 pub use into::walk_into;
 
 // Walks from the root in lent space, whatever it holds.

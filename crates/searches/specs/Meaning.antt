@@ -34,6 +34,9 @@ module _ (n : ℕ) (rules : List ℤ) (sound : badRule n unread 0 rules ≡ none
       go none e = e
       go (some x) e = e
 
+  pub nearest-nothing : nearestWalk n (clauses rules) row ≡ none → (a : List ℕ) → Model n (clauses rules) a → ⊥
+  nearest-nothing e = nearest-none n rules row .0 (sym nearest-is ∙ ap brokenBy e)
+
 -- plain search
 pub plain-found : (n : ℕ) (rules : List ℤ) → badRule n unread 0 rules ≡ none → (x : Answer) → plainWalk n (clauses rules) .answer ≡ some x → Model n (clauses rules) (x .choice)
 plain-found n rules sound x e = plain-sound n (clauses rules) (sound-fits n rules sound) x e
