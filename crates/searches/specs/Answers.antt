@@ -56,6 +56,9 @@ pub searched-reply : (o : Option ℕ) → replyOf (searchedOf o) ≡ found o
 searched-reply none = refl
 searched-reply (some broken) = refl
 
+pub refused-reply : (refusal : Option Refusal) (r : Refusal) (answer : Reply) → refusal ≡ some r → refusing r ≡ unless refusal answer
+refused-reply refusal r answer e = rw e
+
 -- the reply and the choice of a search that is refused, and of one that comes to an answer
 module _ (refusal : Option Refusal) (answer : Option Answer) (n : ℕ) (before : List ℕ) where
   pub refused-answer : (r : Refusal) → refusal ≡ some r

@@ -42,7 +42,7 @@ enum-known-r : tie.Need-enum-known-r
 enum-known-r c = search needs
 
 returns : tie.Need-returns
-returns c = 
+returns c =
     let args = c .before .before .before .before .before .args in
     let lent = lentToPlain (args .n) (args .rules .now) (length (args .choice .now)) in
     let r = c .before .r .given .0 .0 in
@@ -71,17 +71,21 @@ same-length : tie.Need-same-length
 same-length c = search needs
 
 returns-2 : tie.Need-returns-2
-returns-2 c = 
+returns-2 c =
     let args = c .before .before .before .before .before .before .before .before .before .before .before .args in
     let lent = lentToPlain (args .n) (args .rules .now) (length (args .choice .now)) in
     let answer = plainWalk (args .n) (clauses (args .rules .now)) .answer in
     let after = c .before .before .before .walk-into .last .1 .1 .1 .1 .0 in
     let reaches = subst (λ (row : List ℕ). Reaches (walk (args .n) (clauses (args .rules .now)) row 0) (args .n) (args .choice .now) after (c .before .before .before .walk-into .result)) (free (c .before .before .before .before .before .before)) (c .before .before .before .walk-into .ensures) in
     let answered : c .answer-of .result ≡ searchedOf (brokenBy answer) = c .answer-of .ensures ∙ ap searchedOf (reaches .answered) in
-    let w = given-answer (refusalOf lent) answer (args .n) (args .choice .now) (passed (c .before .before .before .before .before .before .before)) (c .answer-of .result) after answered (reaches .output) in
-    (w .0, (w .1,
-    subst (PlainMeans (args .n) (args .rules .now) after) (sym answered)
-    (plain-means (args .n) (args .choice .now) (args .rules .now) (started (c .before .before .before .before .before .before .before) .sound) after answer refl (reaches .output))))
+    let w = given-answer (refusalOf lent) answer (args .n) (args .choice .now) (passed (c .before .before .before .before .before .before .before)) (c .answer-of .result) after answered (reaches .output) in (
+      w .0,
+      (
+        w .1,
+        subst (PlainMeans (args .n) (args .rules .now) after) (sym answered)
+            (plain-means (args .n) (args .choice .now) (args .rules .now) (started (c .before .before .before .before .before .before .before) .sound) after answer refl (reaches .output)),
+      ),
+    )
 
 pub search-spec : {M : Type 1} → statement M
 search-spec =

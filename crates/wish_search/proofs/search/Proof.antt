@@ -24,7 +24,7 @@ enum-known-r : tie.Need-enum-known-r
 enum-known-r c = search needs
 
 returns : tie.Need-returns
-returns c = 
+returns c =
     let args = c .before .before .before .before .before .before .args in
     let lent = lentToSearch (args .n) (args .rules .now) (args .row .now) (args .d) (length (args .choice .now)) in
     let r = c .before .r .given .0 .0 in
@@ -35,7 +35,7 @@ enum-told : tie.Need-enum-told
 enum-told c = search needs
 
 walk-into-requires : tie.Need-walk-into-requires
-walk-into-requires c κs = 
+walk-into-requires c κs =
     let args = c .before .before .before .before .before .before .args in
     startable-wished (args .n) (args .rules .now) (args .row .now) (args .d) (length (args .choice .now)) (passed (c .before))
 
@@ -46,7 +46,7 @@ same-length : tie.Need-same-length
 same-length c = search needs
 
 returns-2 : tie.Need-returns-2
-returns-2 c = 
+returns-2 c =
     let args = c .before .before .before .before .before .before .before .before .before .before .args in
     let lent = lentToSearch (args .n) (args .rules .now) (args .row .now) (args .d) (length (args .choice .now)) in
     let answer = walk (args .n) (clauses (args .rules .now)) (args .row .now) (args .d) .answer in
@@ -54,10 +54,14 @@ returns-2 c =
     let reaches = c .before .before .before .walk-into .ensures in
     let answered : c .answer-of .result ≡ searchedOf (brokenBy answer) = c .answer-of .ensures ∙ ap searchedOf (reaches .answered) in
     let w = given-answer (refusalOf lent) answer (args .n) (args .choice .now) (passed (c .before .before .before .before .before)) (c .answer-of .result) after answered (reaches .output) in
-    let sound = startable-wished (args .n) (args .rules .now) (args .row .now) (args .d) (length (args .choice .now)) (passed (c .before .before .before .before .before)) .sound in
-    (w .0, (w .1,
-    subst (SearchMeans (args .n) (args .rules .now) (args .row .now) (args .d) after) (sym answered)
-    (search-means (args .n) (args .choice .now) (args .rules .now) sound (args .row .now) after (args .d) answer refl (reaches .output))))
+    let sound = startable-wished (args .n) (args .rules .now) (args .row .now) (args .d) (length (args .choice .now)) (passed (c .before .before .before .before .before)) .sound in (
+      w .0,
+      (
+        w .1,
+        subst (SearchMeans (args .n) (args .rules .now) (args .row .now) (args .d) after) (sym answered)
+            (search-means (args .n) (args .choice .now) (args .rules .now) sound (args .row .now) after (args .d) answer refl (reaches .output)),
+      ),
+    )
 
 pub search-spec : {M : Type 1} → statement M
 search-spec =
