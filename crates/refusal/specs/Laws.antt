@@ -37,7 +37,7 @@ pub causeAt-none : (number : ℕ) (o : Option ℕ) → causeAt number o ≡ none
 causeAt-none number none e = refl
 causeAt-none number (some place) e = absurd (Option·some-ne-none (refusal number place) e)
 
--- where none of several causes applies, the first does not
+-- where none of several causes applies, the first does not, nor any after it
 pub no-first : (o : Option Refusal) (causes : List (Option Refusal)) → first (o ∷ causes) ≡ none → (o ≡ none) × (first causes ≡ none)
 no-first none causes e = (refl, e)
 no-first (some r) causes e = absurd (Option·some-ne-none r e)

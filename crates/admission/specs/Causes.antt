@@ -1,0 +1,57 @@
+-- The causes to refuse a search, in two runs: those that the scans of the numbers, the rules and the row find, and those after them.
+use mathlib.Core.Path.{_≡_, refl, sym, ap, ap₂, _∙_}
+use mathlib.Core.Bool.{not}
+use mathlib.Core.List.{List, [], _∷_}
+use mathlib.Core.Option.{Option, none, some}
+use Prim.Native.Nat.{ℕ}
+use lib.Dec.{eqb, ltb}
+use lib.IntN.{ℤ}
+use lib.ListN.{length}
+use Rattle.formula.specs.Formula.{clauses, literals}
+use Rattle.refusal.specs.declared.Refusal.{Refusal}
+use Rattle.refusal.specs.Laws.{first-late, first-last}
+use Rattle.refusal.specs.Reply.{refusal, first, cause, causeAt}
+use Rattle.lent.specs.Lent.{refusalOf, outOfRange, wrongLength, oversized}
+use Rattle.lent.specs.Scans.{unsound}
+use Rattle.lent.specs.Sound.{unread, badRule, badWish}
+use Rattle.searches.specs.Admitted.{lentWith}
+use Rattle.searches.specs.Searches.{lentToPlain}
+
+-- 11, 12 and 15: the row's length, the size of the problem, and the room
+abbrev pub laterCauses : ℕ → ℕ → ℕ → ℕ → ℕ → ℕ → List (Option Refusal)
+laterCauses n long clauses literals needed room =
+    cause (not (eqb long n)) 11 0
+    ∷ cause (oversized n clauses literals) 12 0
+    ∷ cause (ltb room needed) 15 needed
+    ∷ []
+
+-- the first of them
+pub first-of-three : (a b c o : Option Refusal) → a ≡ none → b ≡ none → o ≡ c → o ≡ first (a ∷ b ∷ c ∷ [])
+first-of-three a b c o e f g = g ∙ sym (rw (e, f) (first-last c))
+
+skip : (o : Option Refusal) (l : List (Option Refusal)) → first (o ∷ none ∷ l) ≡ first (o ∷ l)
+skip none l = refl
+skip (some r) l = refl
+
+-- where the scans find nothing, the later causes decide
+pub decided-late : (n : ℕ) (rules : List ℤ) (row : List ℕ) (d k m needed room : ℕ) → unsound n d rules row ≡ none
+    → k ≡ length (clauses rules) → m ≡ literals (clauses rules)
+    → first (laterCauses n (length row) k m needed room) ≡ refusalOf (lentWith n rules row d needed room)
+decided-late n rules row d k m needed room sound e f =
+    let early : List (Option Refusal) = cause (outOfRange n d) 14 0 ∷ causeAt 13 (badRule n unread 0 rules) ∷ causeAt 13 (badWish 0 0 row) ∷ [] in
+    let wrong : Option Refusal = cause (wrongLength n row) 11 0 in
+    let large : Option Refusal = cause (oversized n (length (clauses rules)) (literals (clauses rules))) 12 0 in
+    let short : Option Refusal = cause (ltb room needed) 15 needed in
+    ap₂ (λ (i j : ℕ). first (laterCauses n (length row) i j needed room)) e f
+    ∙ sym (first-late early (none ∷ wrong ∷ none ∷ large ∷ short ∷ []) sound ∙ skip wrong (large ∷ short ∷ []))
+
+-- without wishes
+module _ (n : ℕ) (rules : List ℤ) (room : ℕ) where
+  pub plain-range : (r : Refusal) → cause (outOfRange n 0) 14 0 ≡ some r → some r ≡ refusalOf (lentToPlain n rules room)
+  plain-range r e = sym (rw e)
+
+  pub plain-rules : cause (outOfRange n 0) 14 0 ≡ none → (place : ℕ) → badRule n unread 0 rules ≡ some place → some (refusal 13 place) ≡ refusalOf (lentToPlain n rules room)
+  plain-rules e place f = sym (rw (e, f))
+
+  pub plain-room : cause (outOfRange n 0) 14 0 ≡ none → badRule n unread 0 rules ≡ none → (o : Option Refusal) → o ≡ cause (ltb room n) 15 n → o ≡ refusalOf (lentToPlain n rules room)
+  plain-room e f o g = g ∙ sym (rw (e, f) (first-last (cause (ltb room n) 15 n)))

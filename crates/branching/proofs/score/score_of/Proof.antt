@@ -1,0 +1,63 @@
+-- `branching::score_of` meets its contract.
+use Prim.Native.Nat.{_+_, _*_}
+use native.Mathlib.Omega.{arith}
+use borrow.Author.Needs.{needs}
+use Rattle.branching.proofs.score.score_of.Statement.{statement}
+use Rattle.branching.proofs.score.score_of.Tie as tie
+
+mul-at : tie.Need-mul-at
+mul-at c = search needs
+
+mul-off : tie.Need-mul-off
+mul-off c = search needs
+
+shared-slice-read-off : tie.Need-shared-slice-read-off
+shared-slice-read-off c = search needs
+
+add-on : tie.Need-add-on
+add-on c = search needs
+
+mul-on : tie.Need-mul-on
+mul-on c = search needs
+
+shared-slice-read-on : tie.Need-shared-slice-read-on
+shared-slice-read-on c = search needs
+
+mul-result : tie.Need-mul-result
+mul-result c = omega (arith, c .before .before .before .before .pre .1 (2 * c .before .before .before .before .args .v .0), c .before .before .before .before .pre .1 (2 * c .before .before .before .before .args .v .0 + 1))
+
+mul-result-2 : tie.Need-mul-result-2
+mul-result-2 c = omega (arith, c .before .before .before .before .pre .1 (2 * c .before .before .before .before .args .v .0), c .before .before .before .before .pre .1 (2 * c .before .before .before .before .args .v .0 + 1))
+
+add-result : tie.Need-add-result
+add-result c = omega (arith, c .before .before .before .before .pre .1 (2 * c .before .before .before .before .args .v .0), c .before .before .before .before .pre .1 (2 * c .before .before .before .before .args .v .0 + 1))
+
+lesser-requires : tie.Need-lesser-requires
+lesser-requires c κs = search needs
+
+mul-result-3 : tie.Need-mul-result-3
+mul-result-3 c = omega (arith, c .before .before .before .before .before .pre .1 (2 * c .before .before .before .before .before .args .v .0), c .before .before .before .before .before .pre .1 (2 * c .before .before .before .before .before .args .v .0 + 1), c .lesser .ensures)
+
+add-result-2 : tie.Need-add-result-2
+add-result-2 c = omega (arith, c .before .before .before .before .before .pre .1 (2 * c .before .before .before .before .before .args .v .0), c .before .before .before .before .before .pre .1 (2 * c .before .before .before .before .before .args .v .0 + 1), c .lesser .ensures)
+
+returns : tie.Need-returns
+returns c = search needs
+
+pub score-of-spec : {M : Type 1} → statement M
+score-of-spec =
+    tie.close
+    (tie.spec
+    mul-at
+    mul-off
+    shared-slice-read-off
+    add-on
+    mul-on
+    shared-slice-read-on
+    mul-result
+    mul-result-2
+    add-result
+    lesser-requires
+    mul-result-3
+    add-result-2
+    returns)

@@ -1,0 +1,7 @@
+// The walk of the wish search: document 000's search procedure, by Davis, Logemann and Loveland.
+mod pick;
+mod search;
+mod tried;
+
+pub use search::attempt;
+pub use tried::Tried;

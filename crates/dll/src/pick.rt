@@ -1,0 +1,68 @@
+// Where a state forks (document 01, steps 3 and 4).
+use branching::Branch;
+use literal::Variable;
+use opposed::Fewest;
+ghost use mathlib.Core.Path.{_≡_};
+ghost use mathlib.Core.Bool.{_&&_};
+ghost use mathlib.Core.Option.{none};
+ghost use Prim.Native.Nat.{_+_, _*_, _<_};
+ghost use lib.Dec.{eqb};
+ghost use lib.ListN.{length};
+ghost use Rattle.formula.specs.Formula.{clauses};
+ghost use Rattle.distance.specs.Distance.{disagreement};
+ghost use Rattle.lent.specs.Sound.{unread, badRule};
+ghost use Rattle.opposed.specs.Laws.{isSome};
+ghost use Rattle.opposed.specs.Opposed.{sizeOf};
+ghost use Rattle.walk.specs.Walk.{firstValue};
+ghost use Rattle.dll.specs.Pick.{pickOf};
+
+// A dead end, or the branching variable with the value that it takes first.
+pub enum Pick {
+    DeadEnd,
+    Branch(Variable, u8),
+}
+
+// Decides a propagated state that its completion does not settle. The numbers to weigh with are lent
+// from the root: as locals they would stand in the frame of every level of the walk.
+pub fn pick_branch(
+    list: &[i32],
+    row: &[u8],
+    d: usize,
+    broken: usize,
+    a: &[u8],
+    weights: &mut [u64],
+    marks: &mut [u64],
+) -> Pick
+    requires { ⌜ (broken ≡ disagreement (now row) (now a)) × (badRule (length (now a)) unread 0 (now list) ≡ none) ⌝ }
+    requires { ⌜ (2 * length (now a) + 1 < length (now weights)) × (length (now a) < length (now marks)) ⌝ }
+    ensures { λ r. ⌜ r ≡ pickOf (clauses (now (list .entry))) (now (row .entry)) d (now (a .entry)) ⌝ }
+{
+    let size = opposed::fewest_opposed(list, row, a);
+    if is_exhausted(size, broken, d) {
+        return Pick::DeadEnd;
+    }
+    match branching::branching_variable(list, row, a, size, weights, marks) {
+        Branch::Nothing => Pick::DeadEnd,
+        Branch::On(v) => Pick::Branch(v, first_value(row, size, v)),
+    }
+}
+
+// Whether a clause asks for one more broken wish than may be.
+fn is_exhausted(size: Fewest, broken: usize, d: usize) -> bool
+    ensures { λ r. ⌜ r ≡ eqb broken d && isSome (sizeOf size) ⌝ }
+{
+    match size {
+        Fewest::Nothing => false,
+        Fewest::Literals(_) => broken == d,
+    }
+}
+
+// The value to try first: against the wish where a clause asks for that, else on.
+fn first_value(row: &[u8], size: Fewest, v: Variable) -> u8
+    ensures { λ r. ⌜ r ≡ firstValue (now (row .entry)) (sizeOf size) (v .0) ⌝ }
+{
+    match size {
+        Fewest::Nothing => 1,
+        Fewest::Literals(_) => wish::unwished_value(literal::value_of(v, row)),
+    }
+}

@@ -1,0 +1,23 @@
+// What trying a state comes to.
+ghost use mathlib.Core.Path.{_≡_};
+ghost use Prim.Native.Nat.{_+_, min};
+
+// An answer, with the number of broken wishes, or nothing; and the forks that were made, as far as 64
+// bits count them.
+pub enum Tried {
+    Found(usize, u64),
+    Nothing(u64),
+}
+
+// Two numbers of forks and one more.
+pub fn add_forks(first: u64, second: u64) -> u64
+    ensures { λ r. ⌜ r ≡ min (first + second + 1) 18446744073709551615 ⌝ }
+{
+    if 18446744073709551614 < first {
+        return 18446744073709551615;
+    }
+    if 18446744073709551614 - first < second {
+        return 18446744073709551615;
+    }
+    first + second + 1
+}

@@ -1,0 +1,56 @@
+// Nearest: the least number of broken wishes with a choice that meets all rules, or none when the
+// rules can't be met.
+use dll::Tried;
+use refusal::Verdict;
+use searches::Searched;
+ghost use mathlib.Core.Path.{_≡_};
+ghost use mathlib.Core.Option.{none};
+ghost use lib.ListN.{length};
+ghost use Rattle.formula.specs.Formula.{clauses};
+ghost use Rattle.distance.specs.Distance.{wishes};
+ghost use Rattle.admission.specs.Startable.{Startable};
+ghost use Rattle.searches.specs.Answers.{replyOf, NearestMeans, searchedOf};
+ghost use Rattle.searches.specs.Searches.{nearestReply, nearestChoice, brokenBy, choiceAfter};
+ghost use Rattle.walk.specs.Walk.{nearestWalk};
+
+// Searches from what was lent; a choice that is found goes to the first n bytes of the lent choice.
+pub fn search(n: usize, rules: &[i32], row: &[u8], choice: &mut [u8]) -> Searched
+    ensures reply { λ r. ⌜ replyOf r ≡ nearestReply n (now (rules .entry)) (now (row .entry)) (length (now (choice .entry))) ⌝ }
+    ensures output { λ r. ⌜ now (choice .exit) ≡ nearestChoice n (now (rules .entry)) (now (row .entry)) (now (choice .entry)) ⌝ }
+    ensures meaning { λ r. ⌜ NearestMeans n (now (rules .entry)) (now (row .entry)) (now (choice .exit)) r ⌝ }
+{
+    if let Verdict::Refuse(r) = admission::check_wished(n, 0, rules, row, choice.len()) {
+        return Searched::Refused(r);
+    }
+    climb(n, rules, row, choice)
+}
+
+// Walks with the limits 0, 1, .. until one finds an answer. No choice breaks more wishes than there
+// are, so the number of wishes is the last limit.
+fn climb(n: usize, rules: &[i32], row: &[u8], choice: &mut [u8]) -> Searched
+    requires { ⌜ Startable n (now rules) (length (now choice)) ⌝ }
+    ensures answer { λ r. ⌜ r ≡ searchedOf (brokenBy (nearestWalk n (clauses (now (rules .entry))) (now (row .entry)))) ⌝ }
+    ensures output { λ r. ⌜ now (choice .exit) ≡ choiceAfter none (nearestWalk n (clauses (now (rules .entry))) (now (row .entry))) n (now (choice .entry)) ⌝ }
+{
+    let last = count_wishes(row);
+    let mut d: usize = 0;
+    while d < last {
+        if let Tried::Found(broken, _) = root::walk_into(n, rules, row, d, choice) {
+            return Searched::Found(broken);
+        }
+        d += 1;
+    }
+    root::answer_of(root::walk_into(n, rules, row, d, choice))
+}
+
+fn count_wishes(row: &[u8]) -> usize
+    ensures { λ r. ⌜ r ≡ wishes (now (row .entry)) ⌝ }
+{
+    let mut count: usize = 0;
+    let mut i = 0;
+    while i < row.len() {
+        count += distance::weight_of(row[i]);
+        i += 1;
+    }
+    count
+}

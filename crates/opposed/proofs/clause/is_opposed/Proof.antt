@@ -1,0 +1,70 @@
+-- `opposed::is_opposed` meets its contract. The loop's invariant: the literals passed oppose.
+use mathlib.Core.Path.{_≡_, sym, ap, _∙_}
+use Prim.Native.Nat.{_-_, _≤_}
+use native.Mathlib.Omega.{arith}
+use lib.IntN.{pos}
+use lib.ListN.{length, getD, drop}
+use borrow.Author.Tests.{not-true, not-false}
+use Rattle.literal.specs.Laws.{as-read}
+use Rattle.formula.specs.Formula.{all}
+use Rattle.walk.specs.Branching.{isOpposed}
+use Rattle.walk.specs.Loops.{all-here, all-fails, all-past}
+use Rattle.opposed.specs.Opposed.{opposes}
+use Rattle.opposed.specs.Laws.{opposed-all}
+use borrow.Author.Needs.{needs}
+use Rattle.opposed.proofs.clause.is_opposed.Statement.{statement}
+use Rattle.opposed.proofs.clause.is_opposed.Tie as tie
+
+abbrev Inv-loop : tie.InvT-loop
+Inv-loop clause row assignment i₀ i = (i ≤ length clause) × (isOpposed row assignment clause ≡ all (opposes row assignment) (drop i clause))
+
+abbrev μ-loop : tie.MeasureT-loop
+μ-loop clause row assignment i₀ i = length clause - i
+
+loop-holds : tie.Need-loop-holds Inv-loop μ-loop
+loop-holds c = (omega arith, opposed-all (c .before .before .args .row .now) (c .before .before .args .assignment .now) (c .before .before .args .clause .now))
+
+mul-is-opposing : tie.Need-mul-is-opposing Inv-loop μ-loop
+mul-is-opposing c = search needs
+
+shared-slice-copy-out-is-opposing : tie.Need-shared-slice-copy-out-is-opposing Inv-loop μ-loop
+shared-slice-copy-out-is-opposing c = search needs
+
+is-opposing-requires : tie.Need-is-opposing-requires Inv-loop μ-loop
+is-opposing-requires c κs = search needs
+
+-- the callee's answer is about the clause's literal
+handed : (c : tie.After-is-opposing Inv-loop μ-loop)
+    → c .is-opposing .result ≡ opposes (c .before .before .before .before .before .before .args .row .now) (c .before .before .before .before .before .before .args .assignment .now) (getD (c .before .before .before .before .before .before .args .clause .now) (c .before .before .before .loop .i) (pos 0))
+handed c = c .is-opposing .ensures ∙ ap (opposes (c .before .before .before .before .before .before .args .row .now) (c .before .before .before .before .before .before .args .assignment .now)) (as-read (getD (c .before .before .before .before .before .before .args .clause .now) (c .before .before .before .loop .i) (pos 0)) (c .before .is-opposing-arg .given))
+
+returns : tie.Need-returns Inv-loop μ-loop
+returns c = sym (c .before .before .before .before .loop .inv .1 ∙ all-fails (opposes (c .before .before .before .before .before .before .before .args .row .now) (c .before .before .before .before .before .before .before .args .assignment .now)) (c .before .before .before .before .before .before .before .args .clause .now) (c .before .before .before .before .loop .i) (pos 0) (c .before .before .before .loop-test .taken) (sym (handed (c .before)) ∙ not-true _ (c .if1 .taken)))
+
+add-i : tie.Need-add-i Inv-loop μ-loop
+add-i c = search needs
+
+loop-less : tie.Need-loop-less Inv-loop μ-loop
+loop-less c = search needs
+
+loop-again : tie.Need-loop-again Inv-loop μ-loop
+loop-again c = (omega arith, c .before .before .before .before .loop .inv .1 ∙ all-here (opposes (c .before .before .before .before .before .before .before .args .row .now) (c .before .before .before .before .before .before .before .args .assignment .now)) (c .before .before .before .before .before .before .before .args .clause .now) (c .before .before .before .before .loop .i) (pos 0) (c .before .before .before .loop-test .taken) (sym (handed (c .before)) ∙ not-false _ (c .if1 .left)))
+
+returns-2 : tie.Need-returns-2 Inv-loop μ-loop
+returns-2 c = sym (c .before .loop .inv .1 ∙ all-past (opposes (c .before .before .before .before .args .row .now) (c .before .before .before .before .args .assignment .now)) (c .before .before .before .before .args .clause .now) (c .before .loop .i) (c .loop-test .left))
+
+pub is-opposed-spec : {M : Type 1} → statement M
+is-opposed-spec =
+    tie.close
+    (tie.spec
+    Inv-loop
+    μ-loop
+    loop-holds
+    mul-is-opposing
+    shared-slice-copy-out-is-opposing
+    is-opposing-requires
+    returns
+    add-i
+    loop-less
+    loop-again
+    returns-2)

@@ -1,0 +1,27 @@
+// Plain search: a choice that meets all rules, or none; up to the limits of a rule file.
+use refusal::Verdict;
+use searches::Searched;
+ghost use mathlib.Core.Path.{_≡_};
+ghost use lib.ListN.{length, replicate};
+ghost use Rattle.searches.specs.Answers.{replyOf, PlainMeans};
+ghost use Rattle.searches.specs.Searches.{plainReply, plainChoice};
+
+// Searches from what was lent; a choice that is found goes to the first n bytes of the lent choice.
+pub fn search(n: usize, rules: &[i32], choice: &mut [u8]) -> Searched
+    ensures reply { λ r. ⌜ replyOf r ≡ plainReply n (now (rules .entry)) (length (now (choice .entry))) ⌝ }
+    ensures output { λ r. ⌜ now (choice .exit) ≡ plainChoice n (now (rules .entry)) (now (choice .entry)) ⌝ }
+    ensures meaning { λ r. ⌜ PlainMeans n (now (rules .entry)) (now (choice .exit)) r ⌝ }
+{
+    if let Verdict::Refuse(r) = admission::check_plain(n, rules, choice.len()) {
+        return Searched::Refused(r);
+    }
+    let row = no_wishes();
+    root::answer_of(root::walk_into(n, rules, &row[..n], 0, choice))
+}
+
+// A wish row in which every variable is free.
+fn no_wishes() -> [u8; 640]
+    ensures { λ r. ⌜ r ≡ replicate 640 2 ⌝ }
+{
+    [2; 640]
+}

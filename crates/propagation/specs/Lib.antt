@@ -1,0 +1,4 @@
+pub mod Propagated
+pub mod Searching
+pub mod Trail
+pub mod Unit

@@ -1,0 +1,130 @@
+-- What a pass over the clauses finds: the first that is falsified or unit.
+use mathlib.Core.Path.{_≡_, refl, sym, _∙_}
+use mathlib.Core.Bool.{Bool, true, false, cond, _&&_, _||_, true≢false}
+use mathlib.Core.List.{List, [], _∷_}
+use mathlib.Core.Option.{Option, none, some}
+use Prim.Native.Nat.{ℕ, _<_}
+use native.Mathlib.Omega.{arith}
+use lib.Dec.{eqb}
+use lib.IntN.{ℤ}
+use borrow.Author.Tests.{eqb-true, ne-eqb}
+use Rattle.formula.specs.Formula.{any, satisfied}
+use Rattle.walk.specs.State.{find, isUnassigned, unassignedIn, isOpen, isUnit, isFalsified}
+use Rattle.walk.specs.Propagation.{unitLiteral}
+use Rattle.walk.specs.Counting.{find-some}
+use Rattle.standing.specs.declared.Standing.the-variants.{Satisfied, Open}
+use Rattle.standing.specs.Standing.{standingOf}
+use Rattle.propagation.specs.declared.unit.Unit as U
+use Rattle.propagation.specs.declared.unit.Unit.{Unit}
+
+abbrev pub unitOf : Option ℤ → Unit
+unitOf none = U.the-variants.Nothing
+unitOf (some x) = U.the-variants.Literal x
+
+abbrev pub scan : List ℕ → List (List ℤ) → Unit
+scan a [] = U.the-variants.Nothing
+scan a (c ∷ f) = cond (isFalsified a c) U.the-variants.Conflict (cond (isUnit a c) (unitOf (find (isUnassigned a) c)) (scan a f))
+
+-- a clause by its standing
+module _ (a : List ℕ) (c : List ℤ) where
+  satisfied-is : standingOf a c ≡ Satisfied → satisfied a c ≡ true
+  satisfied-is e = go (satisfied a c) e
+    where
+      go : (t : Bool) → cond t Satisfied (Open (unassignedIn a c)) ≡ Satisfied → t ≡ true
+      go true q = refl
+      go false q = cc
+
+  open-is : (k : ℕ) → standingOf a c ≡ Open k → (satisfied a c ≡ false) × (unassignedIn a c ≡ k)
+  open-is k e = go (satisfied a c) e
+    where
+      go : (t : Bool) → cond t Satisfied (Open (unassignedIn a c)) ≡ Open k → (t ≡ false) × (unassignedIn a c ≡ k)
+      go true q = ((cc), (cc))
+      go false q = (refl, (cc))
+
+  pub scan-satisfied : (f : List (List ℤ)) → standingOf a c ≡ Satisfied → scan a (c ∷ f) ≡ scan a f
+  scan-satisfied f e = rw (satisfied-is e)
+
+  pub scan-falsified : (f : List (List ℤ)) → standingOf a c ≡ Open 0 → scan a (c ∷ f) ≡ U.the-variants.Conflict
+  scan-falsified f e = rw (open-is 0 e .0, open-is 0 e .1)
+
+  pub scan-unit : (f : List (List ℤ)) → standingOf a c ≡ Open 1 → scan a (c ∷ f) ≡ unitOf (find (isUnassigned a) c)
+  scan-unit f e = rw (open-is 1 e .0, open-is 1 e .1)
+
+  pub scan-open : (f : List (List ℤ)) (k : ℕ) → standingOf a c ≡ Open k → (k ≡ 0 → ⊥) → (k ≡ 1 → ⊥) → scan a (c ∷ f) ≡ scan a f
+  scan-open f k e z o = rw (open-is k e .0, open-is k e .1, ne-eqb k 0 z, ne-eqb k 1 o)
+
+-- a unit clause has its literal
+unit-found : (a : List ℕ) (c : List ℤ) → isUnit a c ≡ true → (x : ℤ) × (find (isUnassigned a) c ≡ some x)
+unit-found a c e = find-some (isUnassigned a) c (go (isOpen a c) (eqb (unassignedIn a c) 1) refl e)
+  where
+    go : (o z : Bool) → eqb (unassignedIn a c) 1 ≡ z → o && z ≡ true → 0 < unassignedIn a c
+    go false z q h = absurd (true≢false (sym h))
+    go true false q h = absurd (true≢false (sym h))
+    go true true q h = omega (arith, eqb-true (unassignedIn a c) 1 q)
+
+-- one clause decides for all from it on, or leaves it to the rest
+module _ (a : List ℕ) (c : List ℤ) (f : List (List ℤ)) where
+  pub scan-pass : scan a (c ∷ []) ≡ U.the-variants.Nothing → scan a (c ∷ f) ≡ scan a f
+  scan-pass e = go (isFalsified a c) (isUnit a c) refl (find (isUnassigned a) c) refl e
+    where
+      go : (t u : Bool) → isUnit a c ≡ u → (o : Option ℤ) → find (isUnassigned a) c ≡ o
+          → cond t U.the-variants.Conflict (cond u (unitOf o) U.the-variants.Nothing) ≡ U.the-variants.Nothing
+          → cond t U.the-variants.Conflict (cond u (unitOf o) (scan a f)) ≡ scan a f
+      go true u p o r q = cc
+      go false true p none r q = let y = unit-found a c p in let clash : none ≡ some (y .0) = sym r ∙ y .1 in cc
+      go false true p (some x) r q = cc
+      go false false p o r q = refl
+
+  pub scan-stop : (u : Unit) → scan a (c ∷ []) ≡ u → (u ≡ U.the-variants.Nothing → ⊥) → scan a (c ∷ f) ≡ u
+  scan-stop u e n = go (isFalsified a c) (isUnit a c) e
+    where
+      go : (t o : Bool) → cond t U.the-variants.Conflict (cond o (unitOf (find (isUnassigned a) c)) U.the-variants.Nothing) ≡ u
+          → cond t U.the-variants.Conflict (cond o (unitOf (find (isUnassigned a) c)) (scan a f)) ≡ u
+      go true o q = q
+      go false true q = q
+      go false false q = absurd (n (sym q))
+
+pub conflict-some : U.the-variants.Conflict ≡ U.the-variants.Nothing → ⊥
+conflict-some e = let z : _≡_ {A = ℕ} 0 1 = cc in omega arith
+
+pub literal-some : (x : ℤ) → U.the-variants.Literal x ≡ U.the-variants.Nothing → ⊥
+literal-some x e = let z : _≡_ {A = ℕ} 0 1 = cc in omega arith
+
+-- what the pass tells
+pub scan-conflict : (a : List ℕ) (f : List (List ℤ)) → scan a f ≡ U.the-variants.Conflict → any (isFalsified a) f ≡ true
+scan-conflict a [] e = cc
+scan-conflict a (c ∷ f) e = go (isFalsified a c) (isUnit a c) (find (isUnassigned a) c) e (scan-conflict a f)
+  where
+    go : (t u : Bool) (o : Option ℤ) → cond t U.the-variants.Conflict (cond u (unitOf o) (scan a f)) ≡ U.the-variants.Conflict
+        → (scan a f ≡ U.the-variants.Conflict → any (isFalsified a) f ≡ true) → t || any (isFalsified a) f ≡ true
+    go true u o q ih = refl
+    go false true none q ih = cc
+    go false true (some x) q ih = cc
+    go false false o q ih = ih q
+
+pub scan-literal : (a : List ℕ) (f : List (List ℤ)) (x : ℤ) → scan a f ≡ U.the-variants.Literal x → unitLiteral a f ≡ some x
+scan-literal a [] x e = cc
+scan-literal a (c ∷ f) x e = go (isFalsified a c) (isUnit a c) (find (isUnassigned a) c) e (scan-literal a f x)
+  where
+    go : (t u : Bool) (o : Option ℤ) → cond t U.the-variants.Conflict (cond u (unitOf o) (scan a f)) ≡ U.the-variants.Literal x
+        → (scan a f ≡ U.the-variants.Literal x → unitLiteral a f ≡ some x) → cond u o (unitLiteral a f) ≡ some x
+    go true u o q ih = cc
+    go false true none q ih = cc
+    go false true (some y) q ih = cc
+    go false false o q ih = ih q
+
+pub scan-nothing : (a : List ℕ) (f : List (List ℤ)) → scan a f ≡ U.the-variants.Nothing → (unitLiteral a f ≡ none) × (any (isFalsified a) f ≡ false)
+scan-nothing a [] e = (refl, refl)
+scan-nothing a (c ∷ f) e = go (isFalsified a c) (isUnit a c) refl (find (isUnassigned a) c) refl e (scan-nothing a f)
+  where
+    go : (t u : Bool) → isUnit a c ≡ u → (o : Option ℤ) → find (isUnassigned a) c ≡ o
+        → cond t U.the-variants.Conflict (cond u (unitOf o) (scan a f)) ≡ U.the-variants.Nothing
+        → (scan a f ≡ U.the-variants.Nothing → (unitLiteral a f ≡ none) × (any (isFalsified a) f ≡ false))
+        → (cond u o (unitLiteral a f) ≡ none) × (t || any (isFalsified a) f ≡ false)
+    go true u p o r q ih = ((cc), (cc))
+    go false true p none r q ih =
+        let y = unit-found a c p in
+        let clash : none ≡ some (y .0) = sym r ∙ y .1 in
+        ((cc), (cc))
+    go false true p (some x) r q ih = ((cc), (cc))
+    go false false p o r q ih = ih q

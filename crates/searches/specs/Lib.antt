@@ -1,0 +1,5 @@
+pub mod Admitted
+pub mod Answers
+pub mod Fits
+pub mod Meaning
+pub mod Searches

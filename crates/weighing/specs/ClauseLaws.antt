@@ -1,0 +1,126 @@
+-- What a clause weighs, and whether it gives candidates, by its standing.
+use mathlib.Core.Path.{_≡_, refl, sym, ap, ap₂, _∙_}
+use mathlib.Core.Bool.{Bool, true, false, cond, not, _&&_, _||_}
+use mathlib.Core.List.{List, [], _∷_}
+use mathlib.Core.Option.{Option, none, some}
+use Prim.Native.Nat.{ℕ, zero, suc, _+_, _-_, _*_, _^_, min, _≤_, _<_}
+use native.Mathlib.Nat.{pow-le-pow-right}
+use native.Mathlib.Omega.{arith}
+use lib.Dec.{eqb, lit<}
+use lib.IntN.{ℤ}
+use lib.ListN.{length, getD}
+use borrow.Author.Tests.{eq-eqb, ne-eqb}
+use Rattle.formula.specs.Formula.{any, all, satisfied}
+use Rattle.walk.specs.State.{unassignedIn, isOpen}
+use Rattle.walk.specs.Branching.{assignedOrAgainst, isOpposed, isSource, mentions, offers, clauseWeight}
+use Rattle.standing.specs.declared.Standing.{Standing}
+use Rattle.standing.specs.declared.Standing.the-variants.{Satisfied, Open}
+use Rattle.standing.specs.Standing.{standingOf}
+use Rattle.standing.specs.Laws.{satisfied-stands, open-stands}
+use Rattle.weighing.specs.Weights.{isAt, isMarked, weightAt, Weighed}
+
+-- the powers of 4 in the code's table
+abbrev pub powers : List ℕ
+powers = 1048576 ∷ 262144 ∷ 65536 ∷ 16384 ∷ 4096 ∷ 1024 ∷ 256 ∷ 64 ∷ 16 ∷ 4 ∷ []
+
+pub power-at : (k : ℕ) → k < 10 → getD powers k 0 ≡ 4 ^ (10 - min k 10)
+power-at zero h = refl
+power-at (suc zero) h = refl
+power-at (suc (suc zero)) h = refl
+power-at (suc (suc (suc zero))) h = refl
+power-at (suc (suc (suc (suc zero)))) h = refl
+power-at (suc (suc (suc (suc (suc zero))))) h = refl
+power-at (suc (suc (suc (suc (suc (suc zero)))))) h = refl
+power-at (suc (suc (suc (suc (suc (suc (suc zero))))))) h = refl
+power-at (suc (suc (suc (suc (suc (suc (suc (suc zero)))))))) h = refl
+power-at (suc (suc (suc (suc (suc (suc (suc (suc (suc zero))))))))) h = refl
+power-at (suc (suc (suc (suc (suc (suc (suc (suc (suc (suc k)))))))))) h = absurd (omega arith)
+
+pub power-past : (k : ℕ) → 10 ≤ k → 4 ^ (10 - min k 10) ≡ 1
+power-past k h = let e : 10 - min k 10 ≡ 0 = omega arith in ap (λ (j : ℕ). 4 ^ j) e
+
+pub power-top : (k : ℕ) → 4 ^ (10 - min k 10) ≤ 4 ^ 10
+power-top k = pow-le-pow-right {n = 4} (lit< tt) {i = 10 - min k 10} {j = 10} (omega arith)
+
+-- its weight, and the most that it can be
+module _ (a : List ℕ) (c : List ℤ) where
+  pub open-weight : (k : ℕ) → satisfied a c ≡ false → unassignedIn a c ≡ k → clauseWeight a c ≡ 4 ^ (10 - min k 10)
+  open-weight k s e = ap₂ (λ (b : Bool) (j : ℕ). cond (not b) (4 ^ (10 - min j 10)) 0) s e
+
+  pub satisfied-weight : satisfied a c ≡ true → clauseWeight a c ≡ 0
+  satisfied-weight s = rw s
+
+  pub weight-top : clauseWeight a c ≤ 4 ^ 10
+  weight-top = go (isOpen a c)
+    where
+      go : (b : Bool) → cond b (4 ^ (10 - min (unassignedIn a c) 10)) 0 ≤ 4 ^ 10
+      go true = power-top (unassignedIn a c)
+      go false = omega arith
+
+-- the sum over a formula
+pub weight-most : (a : List ℕ) (i : ℕ) (f : List (List ℤ)) → weightAt a i f ≤ 4 ^ 10 * length f
+weight-most a i [] = omega arith
+weight-most a i (c ∷ f) = omega (arith, weight-most a i f, most (any (isAt i) c))
+  where
+    most : (b : Bool) → cond b (clauseWeight a c) 0 ≤ 4 ^ 10
+    most true = weight-top a c
+    most false = omega arith
+
+-- whether it gives candidates
+module _ (row a : List ℕ) (c : List ℤ) where
+  pub open-source : satisfied a c ≡ false → isSource row a none c ≡ true
+  open-source s = ap not s
+
+  pub size-source : (k : ℕ) → unassignedIn a c ≡ k → isSource row a (some k) c ≡ isOpposed row a c
+  size-source k e = ap (λ (b : Bool). isOpposed row a c && b) (eq-eqb (unassignedIn a c) k e) ∙ kept (isOpposed row a c)
+    where
+      kept : (b : Bool) → b && true ≡ b
+      kept true = refl
+      kept false = refl
+
+  pub other-source : (k : ℕ) → (unassignedIn a c ≡ k → ⊥) → isSource row a (some k) c ≡ false
+  other-source k e = ap (λ (b : Bool). isOpposed row a c && b) (ne-eqb (unassignedIn a c) k e) ∙ lost (isOpposed row a c)
+    where
+      lost : (b : Bool) → b && false ≡ false
+      lost true = refl
+      lost false = refl
+
+  pub satisfied-source : satisfied a c ≡ true → (size : Option ℕ) → isSource row a size c ≡ false
+  satisfied-source s none = ap not s
+  satisfied-source s (some k) = ap (λ (b : Bool). (not b && all (assignedOrAgainst row a) c) && eqb (unassignedIn a c) k) s
+
+  -- the marks that it leaves, by r, the verdict whether it gives candidates
+  pub marked-source : (size : Option ℕ) (r : Bool) → r ≡ isSource row a size c → r ≡ true → (marks marks′ : List ℕ)
+      → ((v : ℕ) → isMarked marks′ v ≡ isMarked marks v || mentions v c) → (v : ℕ) → isMarked marks′ v ≡ isMarked marks v || offers row a size v c
+  marked-source size r e t marks marks′ h v = h v ∙ ap (λ (b : Bool). isMarked marks v || (b && mentions v c)) (sym t ∙ e)
+
+  pub marked-other : (size : Option ℕ) (r : Bool) → r ≡ isSource row a size c → r ≡ false → (marks : List ℕ)
+      → (v : ℕ) → isMarked marks v ≡ isMarked marks v || offers row a size v c
+  marked-other size r e t marks v = sym (ap (λ (b : Bool). isMarked marks v || (b && mentions v c)) (sym e ∙ t) ∙ kept (isMarked marks v))
+    where
+      kept : (b : Bool) → b || false ≡ b
+      kept true = refl
+      kept false = refl
+
+  -- what weighing it does, by r, its standing: a satisfied clause changes nothing
+  pub weighed-satisfied : (r : Standing) → r ≡ standingOf a c → r ≡ Satisfied → (size : Option ℕ) (weights marks : List ℕ) → Weighed row a size c weights marks weights marks
+  weighed-satisfied r e t size weights marks =
+      let s : satisfied a c ≡ true = satisfied-stands a c (sym e ∙ t) in
+      record {
+        sums = λ i. omega (arith, nothing s (any (isAt i) c));
+        marked = marked-other size (isSource row a size c) refl (satisfied-source s size) marks;
+      }
+    where
+      nothing : satisfied a c ≡ true → (b : Bool) → cond b (clauseWeight a c) 0 ≡ 0
+      nothing s true = satisfied-weight a c s
+      nothing s false = refl
+
+  -- an open one adds its weight, and its marks if it gives candidates
+  pub weighed-open : (k w : ℕ) (r : Standing) → r ≡ standingOf a c → r ≡ Open k → w ≡ 4 ^ (10 - min k 10) → (size : Option ℕ) (weights marks weights′ marks′ : List ℕ)
+      → ((i : ℕ) → getD weights′ i 0 ≡ getD weights i 0 + cond (any (isAt i) c) w 0)
+      → ((v : ℕ) → isMarked marks′ v ≡ isMarked marks v || offers row a size v c)
+      → Weighed row a size c weights marks weights′ marks′
+  weighed-open k w r e t q size weights marks weights′ marks′ h g =
+      let stands = open-stands a c k (sym e ∙ t) in
+      let weighs : w ≡ clauseWeight a c = q ∙ sym (open-weight a c k (stands .0) (stands .1)) in
+      record { sums = λ i. h i ∙ ap (λ (j : ℕ). getD weights i 0 + cond (any (isAt i) c) j 0) weighs; marked = g }

@@ -1,0 +1,4 @@
+pub mod ClauseLaws
+pub mod Laws
+pub mod ListLaws
+pub mod Weights

@@ -1,0 +1,61 @@
+// What one clause adds to the weights and the marks.
+use crate::add::add_weight;
+use crate::mark::mark_variables;
+use opposed::Fewest;
+use standing::Standing;
+ghost use mathlib.Core.Path.{_≡_};
+ghost use Prim.Native.Nat.{_-_, _^_, min};
+ghost use Rattle.walk.specs.Branching.{isSource};
+ghost use Rattle.standing.specs.Standing.{standingOf};
+ghost use Rattle.opposed.specs.Opposed.{sizeOf};
+ghost use Rattle.weighing.specs.Weights.{Weighable, Weighed};
+
+const POWERS: [u64; 10] = [1048576, 262144, 65536, 16384, 4096, 1024, 256, 64, 16, 4];
+
+// The weight of an open clause with so many unassigned literals.
+pub fn weight_of(count: usize) -> u64
+    ensures { λ r. ⌜ r ≡ 4 ^ (10 - min count 10) ⌝ }
+{
+    if count < 10 { POWERS[count] } else { 1 }
+}
+
+// Whether an open clause with so many unassigned literals gives candidates.
+pub fn is_source(
+    clause: &[i32],
+    count: usize,
+    row: &[u8],
+    assignment: &[u8],
+    fewest: Fewest,
+) -> bool
+    requires { ⌜ standingOf (now assignment) (now clause) ≡ Standing.Open count ⌝ }
+    ensures { λ r. ⌜ r ≡ isSource (now (row .entry)) (now (assignment .entry)) (sizeOf fewest) (now (clause .entry)) ⌝ }
+{
+    let Fewest::Literals(size) = fewest else {
+        return true;
+    };
+    if count != size {
+        return false;
+    }
+    opposed::is_opposed(clause, row, assignment)
+}
+
+// Adds a clause's weight where it is open, and marks its variables where it gives candidates.
+pub fn weigh_clause(
+    clause: &[i32],
+    row: &[u8],
+    assignment: &[u8],
+    fewest: Fewest,
+    weights: &mut [u64],
+    marks: &mut [u64],
+)
+    requires { ⌜ Weighable (now clause) (now weights) (now marks) ⌝ }
+    ensures { λ _. ⌜ Weighed (now (row .entry)) (now (assignment .entry)) (sizeOf fewest) (now (clause .entry)) (now (weights .entry)) (now (marks .entry)) (now (weights .exit)) (now (marks .exit)) ⌝ }
+{
+    let Standing::Open(count) = standing::standing_of(clause, assignment) else {
+        return;
+    };
+    add_weight(clause, weight_of(count), &mut *weights);
+    if is_source(clause, count, row, assignment, fewest) {
+        mark_variables(clause, &mut *marks);
+    }
+}

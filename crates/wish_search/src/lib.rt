@@ -1,0 +1,19 @@
+// The wish search: a choice that meets all rules and breaks at most d wishes, or none.
+use refusal::Verdict;
+use searches::Searched;
+ghost use mathlib.Core.Path.{_≡_};
+ghost use lib.ListN.{length};
+ghost use Rattle.searches.specs.Answers.{replyOf, SearchMeans};
+ghost use Rattle.searches.specs.Searches.{searchReply, searchChoice};
+
+// Searches from what was lent; a choice that is found goes to the first n bytes of the lent choice.
+pub fn search(n: usize, rules: &[i32], row: &[u8], d: usize, choice: &mut [u8]) -> Searched
+    ensures reply { λ r. ⌜ replyOf r ≡ searchReply n (now (rules .entry)) (now (row .entry)) d (length (now (choice .entry))) ⌝ }
+    ensures output { λ r. ⌜ now (choice .exit) ≡ searchChoice n (now (rules .entry)) (now (row .entry)) d (now (choice .entry)) ⌝ }
+    ensures meaning { λ r. ⌜ SearchMeans n (now (rules .entry)) (now (row .entry)) d (now (choice .exit)) r ⌝ }
+{
+    if let Verdict::Refuse(r) = admission::check_wished(n, d, rules, row, choice.len()) {
+        return Searched::Refused(r);
+    }
+    root::answer_of(root::walk_into(n, rules, row, d, choice))
+}
