@@ -27,4 +27,4 @@ readOutput (gives n c list) out = filled (tooShort list out) list out
 -- the numbers of each answer
 abbrev pub replyOf : ReadRules → Reply
 replyOf (Refused r) = refusing r
-replyOf (Read variables clauses length) = answering 1 variables clauses length
+replyOf (Read h) = answering 1 (h .variables) (h .clauses) (h .length)

@@ -37,7 +37,7 @@ readOutput file out = leaving (reading file) out
 -- the numbers of each answer
 abbrev pub replyOf : ReadWishes → Reply
 replyOf (Refused r) = refusing r
-replyOf (Read variables wishes limit) = answering 1 variables wishes limit
+replyOf (Read h) = answering 1 (h .variables) (h .wishes) (h .limit)
 
 -- what is found before anything is written: the first cause of the file, or the numbers of line one
 abbrev pub fileScan : Reading → FileScan
