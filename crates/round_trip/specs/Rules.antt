@@ -3,14 +3,13 @@ use mathlib.Core.Path.{_≡_, ap, _∙_}
 use mathlib.Core.List.{List, [], _∷_, _++_}
 use mathlib.Core.Option.{none}
 use Prim.Native.Nat.{ℕ, _≤_}
-use lib.Dec.{ltb}
 use lib.IntN.{ℤ}
 use lib.ListN.{length, take, drop}
 use lib.Seq.{take-append-seam}
 use borrow.Author.Tests.{le-ltb}
 use Rattle.formula.specs.Formula.{clauses}
 use Rattle.refusal.specs.Laws.{cause-none, causeAt-none, no-first}
-use Rattle.refusal.specs.Reply.{cause, causeAt, answering}
+use Rattle.refusal.specs.Reply.{cause, causeAt, answering, tooShort}
 use Rattle.lent.specs.Laws.{in-range}
 use Rattle.lent.specs.Lent.{refusalOf, outOfRange}
 use Rattle.lent.specs.Sound.{unread, badRule}
@@ -31,8 +30,7 @@ module _ (n : ℕ) (l : List ℤ) (file : List ℕ) (taken : refusalOf (lentToWr
   -- what the writer wrote reads as what it was given
   pub read-back : reading part ≡ gives n (length (clauses l)) l
   read-back =
-      let size : ℕ = length (written n l) in
-      let short = cause (ltb (length file) size) 15 size in
+      let short = tooShort (length (written n l)) (length file) in
       let numbers = no-first (cause (outOfRange n 0) 14 0) (causeAt 13 (badRule n unread 0 l) ∷ none ∷ none ∷ none ∷ none ∷ none ∷ short ∷ []) taken in
       let rules = no-first (causeAt 13 (badRule n unread 0 l)) (none ∷ none ∷ none ∷ none ∷ none ∷ short ∷ []) (numbers .1) in
       let range = in-range n 0 (cause-none (outOfRange n 0) 14 0 (numbers .0)) in

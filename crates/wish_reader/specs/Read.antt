@@ -1,22 +1,15 @@
 -- The call that reads a wish file (document 01, "The wish file").
 use mathlib.Core.List.{List}
-use mathlib.Core.Option.{Option}
 use Prim.Native.Nat.{ℕ}
-use lib.Dec.{ltb}
 use lib.ListN.{length}
-use Rattle.refusal.specs.declared.Refusal.{Refusal}
-use Rattle.refusal.specs.Reply.{Reply, cause, refusing, answering, unless, filled}
+use Rattle.refusal.specs.Reply.{Reply, refusing, answering, unless, tooShort, filled}
 use Rattle.wish_file.specs.Format.{Reading, refuses, gives, reading}
 use Rattle.wish_reader.specs.declared.scan.FileScan as S
 use Rattle.wish_reader.specs.declared.scan.FileScan.{FileScan}
 use Rattle.wish_reader.specs.declared.ReadWishes.{ReadWishes}
 use Rattle.wish_reader.specs.declared.ReadWishes.the-variants.{Refused, Read}
 
--- "lent output too short", after every cause of the file ("Last 15"): the row needs n bytes
-abbrev pub tooShort : ℕ → ℕ → Option Refusal
-tooShort n room = cause (ltb room n) 15 n
-
--- the reply to what a file reads as: n, the number of wishes and the limit
+-- The reply to what a file reads as: n, the number of wishes and the limit. After every cause of the file comes 15 ("Last 15"): the row needs n bytes.
 abbrev pub replying : Reading → ℕ → Reply
 replying (refuses r) room = refusing r
 replying (gives n m d row) room = unless (tooShort n room) (answering 1 n m d)

@@ -14,7 +14,7 @@ use borrow.Author.Tests.{lt-ltb, le-ltb, ltb-false, eqb-true, not-false}
 use Rattle.distance.specs.Distance.{wishes}
 use Rattle.refusal.specs.declared.Refusal.{Refusal}
 use Rattle.refusal.specs.Laws.{cause-none, no-first}
-use Rattle.refusal.specs.Reply.{Reply, refusal, first, cause, causeAt, refusing, answering}
+use Rattle.refusal.specs.Reply.{Reply, refusal, first, cause, causeAt, tooShort, refusing, answering}
 use Rattle.lent.specs.Laws.{in-range}
 use Rattle.lent.specs.Lent.{refusalOf, outOfRange, oversized}
 use Rattle.lent.specs.Limits.{maxWishVariables, maxWishClauses, maxWishLiterals, maxLimit}
@@ -33,7 +33,7 @@ use Rattle.wish_writer.specs.declared.WishScan.the-variants.{Refused, So
 -- the causes after those of the numbers and the row
 abbrev pub laterCauses : ℕ → ℕ → ℕ → ℕ → List (Option Refusal)
 laterCauses n size wishes room =
-    cause (not (eqb size n)) 11 0 ∷ cause (oversized n 0 0) 12 0 ∷ cause (ltb room (fileSize wishes)) 15 (fileSize wishes) ∷ []
+    cause (not (eqb size n)) 11 0 ∷ cause (oversized n 0 0) 12 0 ∷ tooShort (fileSize wishes) room ∷ []
 
 -- these causes, in their order
 module _ (n size m room : ℕ) where
@@ -152,9 +152,9 @@ pub writable : (n : ℕ) (row : List ℕ) (d room : ℕ) → refusalOf (lentToWr
 writable n row d room e =
     let range = no-first (cause (outOfRange n d) 14 0) (causeAt 13 (badWish 0 0 row) ∷ laterCauses n (length row) (wishes row) room) e in
     let sound = no-first (causeAt 13 (badWish 0 0 row)) (laterCauses n (length row) (wishes row) room) (range .1) in
-    let same = no-first (cause (not (eqb (length row) n)) 11 0) (cause (oversized n 0 0) 12 0 ∷ cause (ltb room (fileSize (wishes row))) 15 (fileSize (wishes row)) ∷ []) (sound .1) in
-    let small = no-first (cause (oversized n 0 0) 12 0) (cause (ltb room (fileSize (wishes row))) 15 (fileSize (wishes row)) ∷ []) (same .1) in
-    let last = no-first (cause (ltb room (fileSize (wishes row))) 15 (fileSize (wishes row))) [] (small .1) in
+    let same = no-first (cause (not (eqb (length row) n)) 11 0) (cause (oversized n 0 0) 12 0 ∷ tooShort (fileSize (wishes row)) room ∷ []) (sound .1) in
+    let small = no-first (cause (oversized n 0 0) 12 0) (tooShort (fileSize (wishes row)) room ∷ []) (same .1) in
+    let last = no-first (tooShort (fileSize (wishes row)) room) [] (small .1) in
     record {
       most = ltb-false maxWishVariables n (few (ltb maxWishVariables n) (cause-none (oversized n 0 0) 12 0 (small .0)));
       size = eqb-true (length row) n (not-false (eqb (length row) n) (cause-none (not (eqb (length row) n)) 11 0 (same .0)));
