@@ -14,7 +14,7 @@ use Rattle.lent.specs.Lent.{refusalOf, outOfRange}
 use Rattle.lent.specs.Sound.{badWish}
 use Rattle.wish_file.specs.Format.{written, gives, reading}
 use Rattle.wish_file.specs.RoundTrip.{read-written}
-use Rattle.wish_writer.specs.Laws.{laterCauses, Writable, writable}
+use Rattle.wish_writer.specs.Laws.{laterCauses, by-wishes, Writable, writable}
 use Rattle.wish_writer.specs.Write.{lentToWrite, writeOutput}
 use Rattle.wish_reader.specs.Read.{readReply, readOutput}
 
@@ -33,7 +33,7 @@ module _ (n : ℕ) (row : List ℕ) (d : ℕ) (file : List ℕ) (taken : refusal
   pub read-back : reading part ≡ gives n (wishes row) d row
   read-back =
       let later = laterCauses n (length row) (wishes row) (length file) in
-      let numbers = no-first (cause (outOfRange n d) 14 0) (causeAt 13 (badWish 0 0 row) ∷ later) taken in
+      let numbers = no-first (cause (outOfRange n d) 14 0) (causeAt 13 (badWish 0 0 row) ∷ later) (sym (by-wishes n row d (length file)) ∙ taken) in
       let sound = no-first (causeAt 13 (badWish 0 0 row)) later (numbers .1) in
       let range = in-range n d (cause-none (outOfRange n d) 14 0 (numbers .0)) in
       ap reading is-file ∙ read-written n row d (range .0) (fits .most) (fits .size) (causeAt-none 13 (badWish 0 0 row) (sound .0)) (fits .limit)
