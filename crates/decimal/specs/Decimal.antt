@@ -11,7 +11,7 @@ unfoldable pub digits : ℕ → ℕ → List ℕ
 digits zero v = []
 digits (suc k) v = elim (ltb v 10) [ true ↦ (48 + v) ∷ [] | false ↦ digits k (v / 10) ++ ((48 + v % 10) ∷ []) ]
 
--- the digits of a number: it has no more of them than it counts, but for 0, which has one
+-- the digits of a number: v has at most v + 1 of them, so that many steps are enough
 unfoldable pub decimal : ℕ → List ℕ
 decimal v = digits (suc v) v
 

@@ -10,7 +10,7 @@ use lib.Dec.{eqb, leb, ltb}
 use lib.ListN.{length, take, drop, set, length-append}
 use lib.Seq.{drop-cons, lt-length-set, getD-set-same, drop-set-lt, take-set-le, set-split, sets, sets-eq}
 use borrow.Author.Tests.{lt-ltb, le-ltb, le-leb, lt-leb, ltb-true, ltb-false, leb-true, eqb-true, eqb-false}
-use Rattle.decimal.specs.Decimal.{digits, decimal, isDigit, onlyDigits, valueFrom, number}
+use Rattle.decimal.specs.Decimal.{digits, decimal, isDigit, onlyDigits, valueFrom, isNumber, number}
 
 -- a number below 10 is one digit, and any other is the digits of its tenth and one more
 digits-one : (k v : ℕ) → v < 10 → digits (suc k) v ≡ (48 + v) ∷ []
@@ -246,6 +246,30 @@ only-digits (suc k) v h = go (ltb v 10) refl (only-digits k (v / 10))
 
 pub decimal-digits : (v : ℕ) → onlyDigits (decimal v) ≡ true
 decimal-digits v = only-digits (suc v) v (omega arith)
+
+-- Written digits have the value that they were written from, however many they are: if they read as a number at all, it is that one.
+value-snoc : (w : List ℕ) (v d : ℕ) → valueFrom v (w ++ ((48 + d) ∷ [])) ≡ valueFrom v w * 10 + d
+value-snoc [] v d = omega arith
+value-snoc (b ∷ w) v d = value-snoc w (v * 10 + (b - 48)) d
+
+value-decimal : (k v : ℕ) → v < k → valueFrom 0 (decimal v) ≡ v
+value-decimal zero v h = absurd (not-suc-le-zero h)
+value-decimal (suc k) v h = go (ltb v 10) refl (value-decimal k (v / 10))
+  where
+    go : (t : Bool) → ltb v 10 ≡ t → (v / 10 < k → valueFrom 0 (decimal (v / 10)) ≡ v / 10) → valueFrom 0 (decimal v) ≡ v
+    go true e ih = let back : 0 * 10 + (48 + v - 48) ≡ v = omega arith in rw (decimal-one v (ltb-true v 10 e)) back
+    go false e ih =
+        let big : 10 ≤ v = ltb-false v 10 e in
+        let tenth : valueFrom 0 (decimal (v / 10)) ≡ v / 10 = ih (omega arith) in
+        let whole : v / 10 * 10 + v % 10 ≡ v = omega arith in
+        rw (decimal-more v big, value-snoc (decimal (v / 10)) 0 (v % 10), tenth) whole
+
+pub decimal-read : (v x : ℕ) → number (decimal v) ≡ some x → x ≡ v
+decimal-read v x e = go (isNumber (decimal v)) e
+  where
+    go : (t : Bool) → cond t (some (valueFrom 0 (decimal v))) none ≡ some x → x ≡ v
+    go true f = sym (Option·some-injective (valueFrom 0 (decimal v)) x f) ∙ value-decimal (suc v) v (omega arith)
+    go false f = absurd (Option·none-ne-some x f)
 
 -- the number of digits: one, or one more than a tenth has
 pub count-one : (v : ℕ) → v < 10 → length (decimal v) ≡ 1

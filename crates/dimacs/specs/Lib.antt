@@ -1,3 +1,4 @@
+pub mod Accepted
 pub mod Class
 pub mod Format
 pub mod Laws

@@ -1,5 +1,5 @@
--- "Every sound list, written and read, is that list again; a file in the writer's form, read and written, is that file." (document 01, "The rule file")
-use mathlib.Core.Path.{_≡_, refl, sym, ap, _∙_}
+-- "Every sound list, written and read, is that list again" (document 01, "The rule file").
+use mathlib.Core.Path.{_≡_, refl, ap, _∙_}
 use mathlib.Core.Bool.{Bool, true, false, cond, _&&_, and-eq-true-iff}
 use mathlib.Core.List.{List, [], _∷_, _++_, map, append-assoc}
 use mathlib.Core.Option.{none, some, Option·some-ne-none}
@@ -19,7 +19,7 @@ use Rattle.lent.specs.Sound.{Scan, unread, mayJoin, stands, after, unclosed, ba
 use Rattle.decimal.specs.Decimal.{decimal, number, onlyDigits, isDigit}
 use Rattle.decimal.specs.Laws.{decimal-digits, decimal-some, number-decimal}
 use Rattle.dimacs.specs.Class.{classOf}
-use Rattle.dimacs.specs.Format.{header, numbered, outside, preamble, inToken, Word, words, signed, element, badToken, badTokens, gives, reading, readFrom}
+use Rattle.dimacs.specs.Format.{header, numbered, outside, preamble, inToken, Word, words, positive, signed, element, badToken, badTokens, gives, reading, readFrom}
 use Rattle.dimacs.specs.Laws.{digit-class, digit-in-token, all-digits, before-digits, beyond-digits, words-token}
 use Rattle.dimacs.specs.Sizes.{sound-step, zeros-some, sound-clauses}
 use Rattle.dimacs.specs.Written.{numeral, separator, body, heading, written}
@@ -34,13 +34,13 @@ unfolding classOf
 numeral-token (pos v) = all-digits inToken digit-in-token (decimal v) (decimal-digits v)
 numeral-token (negsuc k) = all-digits inToken digit-in-token (decimal (suc k)) (decimal-digits (suc k))
 
-unsigned : (w : List ℕ) (v : ℕ) → 0 < length w → onlyDigits w ≡ true → number w ≡ some v → signed w ≡ some (pos v)
-unsigned [] v l h e = absurd (not-suc-le-zero l)
-unsigned (b ∷ w) v l h e = rw (digit-class b (and-eq-true-iff (isDigit b) (onlyDigits w) .0 h .0), e)
+pub unsigned : (w : List ℕ) → 0 < length w → onlyDigits w ≡ true → signed w ≡ positive (number w)
+unsigned [] l h = absurd (not-suc-le-zero l)
+unsigned (b ∷ w) l h = rw (digit-class b (and-eq-true-iff (isDigit b) (onlyDigits w) .0 h .0))
 
 signed-numeral : (x : ℤ) → variable x < 100000 → signed (numeral x) ≡ some x
 unfolding classOf
-signed-numeral (pos v) h = unsigned (decimal v) v (decimal-some v) (decimal-digits v) (number-decimal v h)
+signed-numeral (pos v) h = unsigned (decimal v) (decimal-some v) (decimal-digits v) ∙ ap positive (number-decimal v h)
 signed-numeral (negsuc k) h = rw (number-decimal (suc k) h)
 
 separator-blank : (x : ℤ) → inToken (separator x) ≡ false
@@ -52,7 +52,7 @@ separator-blank x = go (closes x)
     go false = refl
 
 -- the tokens of a written list
-abbrev tokensOf : ℕ → List ℤ → List Word
+abbrev pub tokensOf : ℕ → List ℤ → List Word
 tokensOf at [] = []
 tokensOf at (x ∷ l) = record { place = at; bytes = numeral x } ∷ tokensOf (suc (at + length (numeral x))) l
 
@@ -125,7 +125,7 @@ good-tokens (x ∷ l) n c size s i at h e f =
         }
 
 -- the written header reads as N and C
-header-fields : (w v r : List ℕ) → onlyDigits w ≡ true → onlyDigits v ≡ true
+pub header-fields : (w v r : List ℕ) → onlyDigits w ≡ true → onlyDigits v ≡ true
     → header (preamble ++ (w ++ 32 ∷ (v ++ 10 ∷ r))) ≡ numbered (number w) (number v) (6 + (suc (length w) + suc (length v)))
 header-fields w v r h k =
     rw (
@@ -135,7 +135,7 @@ header-fields w v r h k =
       lt-ltb (length v) (length (v ++ 10 ∷ r)) (omega (arith, length-append v (10 ∷ r))),
     )
 
-heading-joined : (n c : ℕ) (r : List ℕ) → heading n c ++ r ≡ preamble ++ (decimal n ++ 32 ∷ (decimal c ++ 10 ∷ r))
+pub heading-joined : (n c : ℕ) (r : List ℕ) → heading n c ++ r ≡ preamble ++ (decimal n ++ 32 ∷ (decimal c ++ 10 ∷ r))
 heading-joined n c r =
     ap (λ (t : List ℕ). preamble ++ t)
     (append-assoc (decimal n) (32 ∷ (decimal c ++ 10 ∷ [])) r ∙ ap (λ (t : List ℕ). decimal n ++ 32 ∷ t) (append-assoc (decimal c) (10 ∷ []) r))
@@ -155,7 +155,7 @@ inside : (n c : ℕ) → 1 ≤ n → n ≤ maxVariables → c ≤ maxClauses →
 inside n c h k f = rw (ne-eqb n 0 (omega arith), le-ltb maxVariables n k, le-ltb maxClauses c f)
 
 -- past the heading come the tokens of the list
-words-written : (n : ℕ) (l : List ℤ) (at : ℕ) → at ≡ length (heading n (length (clauses l))) → words false at (drop at (written n l)) ≡ tokensOf at l
+pub words-written : (n : ℕ) (l : List ℤ) (at : ℕ) → at ≡ length (heading n (length (clauses l))) → words false at (drop at (written n l)) ≡ tokensOf at l
 words-written n l at e =
     ap (λ (s : List ℕ). words false at s) (ap (λ (k : ℕ). drop k (written n l)) e ∙ drop-append-seam (heading n (length (clauses l))) (body l))
     ∙ words-body l at
@@ -179,12 +179,3 @@ read-written n l h k e =
 
     good : Good n c (length (written n l)) unread (0 + length (heading n c)) l
     good = good-tokens l n c (length (written n l)) unread 0 (0 + length (heading n c)) (omega arith) e (omega (arith, closed))
-
--- a file in the writer's form, read and written, is that file
-pub written-read : (n : ℕ) (l : List ℤ) → 1 ≤ n → n ≤ maxVariables → badRule n unread 0 l ≡ none
-    → (file : List ℕ) → file ≡ written n l → (n′ c′ : ℕ) (l′ : List ℤ) → reading file ≡ gives n′ c′ l′ → written n′ l′ ≡ file
-written-read n l h k e file f n′ c′ l′ g =
-    let same : gives n (length (clauses l)) l ≡ gives n′ c′ l′ = sym (read-written n l h k e) ∙ ap reading (sym f) ∙ g in
-    let same-n : n′ ≡ n = cc in
-    let same-l : l′ ≡ l = cc in
-    rw (same-n, same-l) (sym f)

@@ -8,11 +8,11 @@ use lib.IntN.{ℤ}
 use lib.ListN.{length}
 use Rattle.formula.specs.Formula.{clauses, literals}
 use Rattle.refusal.specs.declared.Refusal.{Refusal}
-use Rattle.refusal.specs.Reply.{first, cause, causeAt}
+use Rattle.refusal.specs.Reply.{first, cause, causeAt, tooShort}
 use Rattle.lent.specs.Limits.{maxVariables, maxLimit, maxWishVariables, maxWishClauses, maxWishLiterals}
 use Rattle.lent.specs.Sound.{unread, badRule, badWish, badChoice}
 
--- The values lent to a call, as far as it takes any (a file's reader has its own causes, and then only `needed` and `room`): n, the limit d (0 in a call that takes none), the rule list (empty in a call that takes none), the wish row and the given choice if it takes them, and how many elements its output needs and was lent (0 and 0 in a call that has none).
+-- The values lent to a call, as far as it takes any (a file's reader takes none: it has the causes of its file, and then `tooShort`): n, the limit d (0 in a call that takes none), the rule list (empty in a call that takes none), the wish row and the given choice if it takes them, and how many elements its output needs and was lent (0 and 0 in a call that has none).
 pub record Lent : Type 0 where
   pub n : ℕ
   pub d : ℕ
@@ -50,5 +50,5 @@ refusalOf s =
     ∷ ofPart (s .row) (λ (row : List ℕ). cause (wrongLength (s .n) row) 11 0)
     ∷ ofPart (s .choice) (λ (choice : List ℕ). cause (wrongLength (s .n) choice) 11 0)
     ∷ ofPart (s .row) (λ (row : List ℕ). cause (oversized (s .n) (length (clauses (s .rules))) (literals (clauses (s .rules)))) 12 0)
-    ∷ cause (ltb (s .room) (s .needed)) 15 (s .needed)
+    ∷ tooShort (s .needed) (s .room)
     ∷ [])

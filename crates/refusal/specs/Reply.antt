@@ -3,6 +3,7 @@ use mathlib.Core.Bool.{Bool, cond}
 use mathlib.Core.List.{List, [], _∷_, _++_}
 use mathlib.Core.Option.{Option, none, some}
 use Prim.Native.Nat.{ℕ}
+use lib.Dec.{ltb}
 use lib.ListN.{length, drop}
 use Rattle.refusal.specs.declared.Refusal.{Refusal}
 use Rattle.refusal.specs.declared.Verdict.{Verdict}
@@ -31,6 +32,10 @@ cause applies number place = cond applies (some (refusal number place)) none
 abbrev pub causeAt : ℕ → Option ℕ → Option Refusal
 causeAt number none = none
 causeAt number (some place) = some (refusal number place)
+
+-- 15, the last of a call's causes: "lent output too short", with the "length needed" as its place; the output needs so many elements, and was lent room for so many
+abbrev pub tooShort : ℕ → ℕ → Option Refusal
+tooShort needed room = cause (ltb room needed) 15 needed
 
 -- The reply of any call: a refusal, or an answer as numbers. The first number of an answer is 1 for found or met, 0 for none or not met, and 1 in a call that has no such answer; then come up to three values.
 pub data Reply : Type 0 where

@@ -17,14 +17,17 @@ const MAX_VARIABLES: usize = 640;
 
 const MAX_CLAUSES: usize = 9000;
 
-// Refused, or N, C and the length of the list.
+// What a file holds: N, C and the length of its list.
+pub struct RuleCounts {
+    pub variables: usize,
+    pub clauses: usize,
+    pub length: usize,
+}
+
+// Refused, or what the file holds.
 pub enum ReadRules {
     Refused(Refusal),
-    Read {
-        variables: usize,
-        clauses: usize,
-        length: usize,
-    },
+    Read(RuleCounts),
 }
 
 // Reads a rule file into a list.
@@ -77,11 +80,11 @@ fn read_tokens(file: &[u8], from: usize, n: usize, count: usize, rules: &mut [i3
                 });
             }
             fill::fill_rules(file, from, rules);
-            ReadRules::Read {
+            ReadRules::Read(RuleCounts {
                 variables: n,
                 clauses: count,
                 length: needed,
-            }
+            })
         }
     }
 }

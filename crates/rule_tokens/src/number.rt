@@ -1,7 +1,7 @@
 // Numbers in a rule file.
+use literal::Variable;
 ghost use mathlib.Core.Path.{_≡_};
-ghost use Prim.Native.Nat.{_-_, _≤_, _<_};
-ghost use lib.IntN.{pos, negℤ};
+ghost use Prim.Native.Nat.{_-_, _≤_};
 ghost use Rattle.decimal.specs.Decimal.{number};
 ghost use Rattle.dimacs.specs.Format.{signed, negative};
 ghost use Rattle.rule_tokens.specs.Token.{numberAs, numeralAs};
@@ -62,7 +62,7 @@ pub fn numeral_of(word: &[u8]) -> Numeral
     let Number::Value(v) = number_of(word) else {
         return Numeral::Malformed;
     };
-    Numeral::Value(positive_of(v))
+    Numeral::Value(literal::literal_of(Variable(v), true))
 }
 
 fn behind_minus(digits: &[u8]) -> Numeral
@@ -74,7 +74,7 @@ fn behind_minus(digits: &[u8]) -> Numeral
     if v == 0 {
         return Numeral::Malformed;
     }
-    Numeral::Value(negative_of(v))
+    Numeral::Value(literal::literal_of(Variable(v), false))
 }
 
 // The value of a digit's byte.
@@ -83,19 +83,4 @@ fn digit_value(b: u8) -> usize
     ensures { λ r. ⌜ r ≡ b - 48 ⌝ }
 {
     (b - 48) as usize
-}
-
-// A number of the list, and the same behind a minus.
-fn positive_of(v: usize) -> i32
-    requires { ⌜ v < 100000 ⌝ }
-    ensures { λ r. ⌜ r ≡ pos v ⌝ }
-{
-    v as i32
-}
-
-fn negative_of(v: usize) -> i32
-    requires { ⌜ v < 100000 ⌝ }
-    ensures { λ r. ⌜ r ≡ negℤ (pos v) ⌝ }
-{
-    -(v as i32)
 }

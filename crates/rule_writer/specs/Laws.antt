@@ -7,7 +7,7 @@ use Prim.Native.Nat.{ℕ, suc, _+_, _^_, _≤_, _<_}
 use native.Mathlib.Nat.{zero-add}
 use native.Mathlib.Numerals.{add-one}
 use native.Mathlib.Omega.{arith}
-use lib.Dec.{eqb, ltb}
+use lib.Dec.{eqb}
 use lib.IntN.{ℤ, pos, negsuc}
 use lib.Signed.{mag}
 use lib.ListN.{length, getD, drop, set, length-append, drop-of-length-le}
@@ -17,7 +17,7 @@ use Rattle.formula.specs.Formula.{clauses}
 use borrow.Author.Tests.{lt-ltb, le-ltb}
 use Rattle.refusal.specs.Laws.{first-last}
 use Rattle.refusal.specs.declared.Refusal.{Refusal}
-use Rattle.refusal.specs.Reply.{Reply, refusal, cause, refusing, answering, unless, filled}
+use Rattle.refusal.specs.Reply.{Reply, refusal, cause, refusing, answering, unless, tooShort, filled}
 use Rattle.lent.specs.Lent.{refusalOf, outOfRange}
 use Rattle.lent.specs.Sound.{unread, badRule}
 use Rattle.decimal.specs.Decimal.{decimal}
@@ -93,7 +93,7 @@ heading-parts n c out next e =
 
 -- the last cause, of an output that has no room
 abbrev pub short : List ℕ → List ℕ → Option Refusal
-short w out = cause (ltb (length out) (length w)) 15 (length w)
+short w out = tooShort (length w) (length out)
 
 -- the header and the lines are the file
 pub written-whole : (n c : ℕ) (l : List ℤ) (out : List ℕ) → c ≡ length (clauses l) → length (written n l) ≤ length out

@@ -9,14 +9,17 @@ ghost use mathlib.Core.Path.{_≡_};
 ghost use lib.ListN.{length};
 ghost use Rattle.wish_reader.specs.Read.{readReply, readOutput, replyOf};
 
+// What a file holds beside its row: the numbers of its line one.
+pub struct WishHeader {
+    pub variables: usize,
+    pub wishes: usize,
+    pub limit: usize,
+}
+
 // Refused, or what the file holds beside its row.
 pub enum ReadWishes {
     Refused(Refusal),
-    Read {
-        variables: usize,
-        wishes: usize,
-        limit: usize,
-    },
+    Read(WishHeader),
 }
 
 // Reads a wish file into a row.
@@ -39,11 +42,11 @@ pub fn read_wishes(file: &[u8], row: &mut [u8]) -> ReadWishes
             }
             fill::free_row(variables, row);
             fill::mark_row(file, wishes, row);
-            ReadWishes::Read {
+            ReadWishes::Read(WishHeader {
                 variables,
                 wishes,
                 limit,
-            }
+            })
         }
     }
 }

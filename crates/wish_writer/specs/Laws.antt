@@ -14,7 +14,7 @@ use borrow.Author.Tests.{lt-ltb, le-ltb, ltb-false, eqb-true, not-false}
 use Rattle.distance.specs.Distance.{wishes}
 use Rattle.refusal.specs.declared.Refusal.{Refusal}
 use Rattle.refusal.specs.Laws.{cause-none, no-first}
-use Rattle.refusal.specs.Reply.{Reply, refusal, first, cause, causeAt, refusing, answering}
+use Rattle.refusal.specs.Reply.{Reply, refusal, first, cause, causeAt, tooShort, refusing, answering}
 use Rattle.lent.specs.Laws.{in-range}
 use Rattle.lent.specs.Lent.{refusalOf, outOfRange, oversized}
 use Rattle.lent.specs.Limits.{maxWishVariables, maxWishClauses, maxWishLiterals, maxLimit}
@@ -33,7 +33,30 @@ use Rattle.wish_writer.specs.declared.WishScan.the-variants.{Refused, So
 -- the causes after those of the numbers and the row
 abbrev pub laterCauses : ℕ → ℕ → ℕ → ℕ → List (Option Refusal)
 laterCauses n size wishes room =
-    cause (not (eqb size n)) 11 0 ∷ cause (oversized n 0 0) 12 0 ∷ cause (ltb room (fileSize wishes)) 15 (fileSize wishes) ∷ []
+    cause (not (eqb size n)) 11 0 ∷ cause (oversized n 0 0) 12 0 ∷ tooShort (fileSize wishes) room ∷ []
+
+-- without rules, only the variables can be too many
+few : (t : Bool) → t || (ltb maxWishClauses 0 || ltb maxWishLiterals 0) ≡ false → t ≡ false
+few true f = absurd (true≢false f)
+few false f = refl
+
+-- The file's length is told by the number of wishes, where no cause comes before that of the room.
+pub by-wishes : (n : ℕ) (row : List ℕ) (d room : ℕ)
+    → refusalOf (lentToWrite n row d room) ≡ first (cause (outOfRange n d) 14 0 ∷ causeAt 13 (badWish 0 0 row) ∷ laterCauses n (length row) (wishes row) room)
+by-wishes n row d room = go (outOfRange n d) refl (causeAt 13 (badWish 0 0 row)) (not (eqb (length row) n)) refl (oversized n 0 0) refl
+  where
+    causes : Bool → Option Refusal → Bool → Bool → ℕ → List (Option Refusal)
+    causes a o b t needed = cause a 14 0 ∷ o ∷ cause b 11 0 ∷ cause t 12 0 ∷ tooShort needed room ∷ []
+
+    go : (a : Bool) → outOfRange n d ≡ a → (o : Option Refusal) (b : Bool) → not (eqb (length row) n) ≡ b → (t : Bool) → oversized n 0 0 ≡ t
+        → first (causes a o b t (length (written n row d))) ≡ first (causes a o b t (fileSize (wishes row)))
+    go true e o b f t g = refl
+    go false e (some r) b f t g = refl
+    go false e none true f t g = refl
+    go false e none false f true g = refl
+    go false e none false f false g =
+        ap (λ (k : ℕ). first (tooShort k room ∷ []))
+        (written-length n row d (ltb-false maxWishVariables n (few (ltb maxWishVariables n) g)) (eqb-true (length row) n (not-false (eqb (length row) n) f)) (in-range n d e .2))
 
 -- these causes, in their order
 module _ (n size m room : ℕ) where
@@ -67,7 +90,7 @@ module _ (n : ℕ) (row : List ℕ) (d room : ℕ) where
 
     module _ (sound : badWish 0 0 row ≡ none) (m : ℕ) (count : m ≡ wishes row) where
       whole : cause-of ≡ first (laterCauses n (length row) m room)
-      whole = rw (range, sound, count)
+      whole = by-wishes n row d room ∙ rw (range, sound, count)
 
       pub by-later : (r : Refusal) → first (laterCauses n (length row) m room) ≡ some r → Refused r ≡ wishScan cause-of row
       by-later r e = rw (whole, e)
@@ -150,21 +173,17 @@ pub record Writable (n : ℕ) (row : List ℕ) (d room : ℕ) : Type 0 where
 
 pub writable : (n : ℕ) (row : List ℕ) (d room : ℕ) → refusalOf (lentToWrite n row d room) ≡ none → Writable n row d room
 writable n row d room e =
-    let range = no-first (cause (outOfRange n d) 14 0) (causeAt 13 (badWish 0 0 row) ∷ laterCauses n (length row) (wishes row) room) e in
+    let range = no-first (cause (outOfRange n d) 14 0) (causeAt 13 (badWish 0 0 row) ∷ laterCauses n (length row) (wishes row) room) (sym (by-wishes n row d room) ∙ e) in
     let sound = no-first (causeAt 13 (badWish 0 0 row)) (laterCauses n (length row) (wishes row) room) (range .1) in
-    let same = no-first (cause (not (eqb (length row) n)) 11 0) (cause (oversized n 0 0) 12 0 ∷ cause (ltb room (fileSize (wishes row))) 15 (fileSize (wishes row)) ∷ []) (sound .1) in
-    let small = no-first (cause (oversized n 0 0) 12 0) (cause (ltb room (fileSize (wishes row))) 15 (fileSize (wishes row)) ∷ []) (same .1) in
-    let last = no-first (cause (ltb room (fileSize (wishes row))) 15 (fileSize (wishes row))) [] (small .1) in
+    let same = no-first (cause (not (eqb (length row) n)) 11 0) (cause (oversized n 0 0) 12 0 ∷ tooShort (fileSize (wishes row)) room ∷ []) (sound .1) in
+    let small = no-first (cause (oversized n 0 0) 12 0) (tooShort (fileSize (wishes row)) room ∷ []) (same .1) in
+    let last = no-first (tooShort (fileSize (wishes row)) room) [] (small .1) in
     record {
       most = ltb-false maxWishVariables n (few (ltb maxWishVariables n) (cause-none (oversized n 0 0) 12 0 (small .0)));
       size = eqb-true (length row) n (not-false (eqb (length row) n) (cause-none (not (eqb (length row) n)) 11 0 (same .0)));
       limit = in-range n d (cause-none (outOfRange n d) 14 0 (range .0)) .2;
       space = ltb-false room (fileSize (wishes row)) (cause-none (ltb room (fileSize (wishes row))) 15 (fileSize (wishes row)) (last .0));
     }
-  where
-    few : (t : Bool) → t || (ltb maxWishClauses 0 || ltb maxWishLiterals 0) ≡ false → t ≡ false
-    few true f = absurd (true≢false f)
-    few false f = refl
 
 -- the file in its two parts, and with what stays behind it
 module _ (n : ℕ) (row : List ℕ) (d room : ℕ) (w : Writable n row d room) (m : ℕ) (count : m ≡ wishes row) where

@@ -7,7 +7,7 @@ use Rattle.distance.specs.Distance.{wishes}
 use Rattle.refusal.specs.declared.Refusal.{Refusal}
 use Rattle.refusal.specs.Reply.{Reply, refusing, answering, unless, filled}
 use Rattle.lent.specs.Lent.{Lent, refusalOf}
-use Rattle.wish_file.specs.Format.{written, fileSize}
+use Rattle.wish_file.specs.Format.{written}
 use Rattle.wish_writer.specs.declared.WishScan as S
 use Rattle.wish_writer.specs.declared.WishScan.{WishScan}
 use Rattle.wish_writer.specs.declared.WrittenWishes.{WrittenWishes}
@@ -16,7 +16,7 @@ use Rattle.wish_writer.specs.declared.WrittenWishes.the-variants.{Refuse
 -- what is lent to the call: n, the wish row, the limit d, and room for so many bytes
 abbrev pub lentToWrite : ℕ → List ℕ → ℕ → ℕ → Lent
 lentToWrite n row d room =
-    record { n = n; d = d; rules = []; row = some row; choice = none; needed = fileSize (wishes row); room = room }
+    record { n = n; d = d; rules = []; row = some row; choice = none; needed = length (written n row d); room = room }
 
 -- the reply of the call: the file's length
 abbrev pub writeReply : ℕ → List ℕ → ℕ → ℕ → Reply

@@ -2,6 +2,7 @@
 use mathlib.Core.Path.{_≡_, sym, ap, _∙_}
 use mathlib.Core.Option.{Option, some}
 use Prim.Native.Nat.{ℕ}
+use native.Mathlib.Omega.{arith}
 use lib.IntN.{ℤ, pos, negℤ}
 use Rattle.decimal.specs.Decimal.{number}
 use Rattle.decimal.specs.Laws.{number-small}
@@ -36,14 +37,14 @@ returns-2 : tie.Need-returns-2
 returns-2 c =
     sym (ap (λ (o : Option ℕ). numeralAs (negative o)) (read (c .before)) ∙ ap numeralAs (negative-zero (c .before .before .v .given .0 .0) (c .if1 .taken)))
 
-negative-of-requires : tie.Need-negative-of-requires
-negative-of-requires c κs = number-small (c .before .before .before .before .before .before .args .digits .now) (c .before .before .v .given .0 .0) (read (c .before))
+literal-of-requires : tie.Need-literal-of-requires
+literal-of-requires c κs = omega (arith, number-small (c .before .before .before .before .before .before .args .digits .now) (c .before .before .v .given .0 .0) (read (c .before)))
 
 returns-3 : tie.Need-returns-3
 returns-3 c =
     let v = c .before .before .before .v .given .0 .0 in
     let small = number-small (c .before .before .before .before .before .before .before .args .digits .now) v (read (c .before .before)) in
-    ap (λ (z : ℤ). L.the-variants.Value z) (held (c .negative-of .result) (negℤ (pos v)) (c .negative-of .ensures) (negative-fits v small))
+    ap (λ (z : ℤ). L.the-variants.Value z) (held (c .literal-of .result) (negℤ (pos v)) (c .literal-of .ensures) (negative-fits v small))
     ∙ sym (ap (λ (o : Option ℕ). numeralAs (negative o)) (read (c .before .before)) ∙ ap numeralAs (negative-some v (c .before .if1 .left)))
 
 pub behind-minus-spec : {M : Type 1} → statement M
@@ -55,5 +56,5 @@ behind-minus-spec =
     enum-told
     returns
     returns-2
-    negative-of-requires
+    literal-of-requires
     returns-3)

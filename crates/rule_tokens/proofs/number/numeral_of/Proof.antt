@@ -64,14 +64,14 @@ returns-3 c =
     (ap numeralAs (plain (c .before .before .before))
     ∙ ap (λ (o : Option ℕ). numeralAs (positive o)) (number-none (number w) (sym (c .before .before .number-of .ensures) ∙ c .enum-told .given .1)))
 
-positive-of-requires : tie.Need-positive-of-requires
-positive-of-requires c κs = number-small (c .before .before .before .before .before .before .before .before .before .args .word .now) (c .before .v .given .0 .0) (read c)
+literal-of-requires : tie.Need-literal-of-requires
+literal-of-requires c κs = omega (arith, number-small (c .before .before .before .before .before .before .before .before .before .args .word .now) (c .before .v .given .0 .0) (read c))
 
 returns-4 : tie.Need-returns-4
 returns-4 c =
     let v = c .before .before .v .given .0 .0 in
     let small = number-small (c .before .before .before .before .before .before .before .before .before .before .args .word .now) v (read (c .before)) in
-    ap (λ (z : ℤ). L.the-variants.Value z) (held (c .positive-of .result) (pos v) (c .positive-of .ensures) (positive-fits v small))
+    ap (λ (z : ℤ). L.the-variants.Value z) (held (c .literal-of .result) (pos v) (c .literal-of .ensures) (positive-fits v small))
     ∙ sym (ap numeralAs (plain (c .before .before .before .before .before)) ∙ ap (λ (o : Option ℕ). numeralAs (positive o)) (read (c .before)))
 
 pub numeral-of-spec : {M : Type 1} → statement M
@@ -90,5 +90,5 @@ numeral-of-spec =
     enum-known-v
     enum-told
     returns-3
-    positive-of-requires
+    literal-of-requires
     returns-4)

@@ -1,0 +1,258 @@
+-- What is known of a file that reading accepts, and of one in the writer's form: "a file in the writer's form, read and written, is that file" (document 01, "The rule file").
+use mathlib.Core.Path.{_≡_, refl, sym, ap, _∙_}
+use mathlib.Core.Bool.{Bool, true, false, cond, not, _&&_, _||_, true≢false}
+use mathlib.Core.List.{List, [], _∷_, map}
+use mathlib.Core.Option.{Option, none, some, Option·getD, Option·some-ne-none, Option·none-ne-some, Option·some-injective}
+use Prim.Native.Nat.{ℕ, zero, suc, _+_, _≤_, _<_}
+use native.Mathlib.Nat.{zero-add}
+use native.Mathlib.Omega.{arith}
+use lib.Dec.{eqb, ltb, leb}
+use lib.IntN.{ℤ, pos, negsuc}
+use lib.ListN.{length, drop}
+use borrow.Author.Tests.{lt-ltb, le-leb, leb-false, ltb-false, eqb-false, not-false}
+use Rattle.literal.specs.Literal.{variable}
+use Rattle.formula.specs.Formula.{closes, clauses}
+use Rattle.refusal.specs.declared.Refusal.{Refusal}
+use Rattle.refusal.specs.Laws.{first-last, cause-none, no-first}
+use Rattle.refusal.specs.Reply.{refusal, first, cause}
+use Rattle.lent.specs.Limits.{maxVariables, maxClauses, maxLiterals}
+use Rattle.lent.specs.Laws.{zeros, zeros-clauses}
+use Rattle.lent.specs.Sound.{Scan, unread, mayJoin, stands, after, unclosed, badRule}
+use Rattle.decimal.specs.Decimal.{decimal, number}
+use Rattle.decimal.specs.Laws.{decimal-digits, decimal-some, decimal-read}
+use Rattle.dimacs.specs.Class.{classOf}
+use Rattle.dimacs.specs.Format.{pastComments, Header, header, numbered, outside, Word, words, positive, negative, signed, element, badToken, badTokens, refuses, gives, reading, readTokens, readFrom}
+use Rattle.dimacs.specs.RoundTrip.{unsigned, tokensOf, words-written, header-fields, heading-joined, heading-length}
+use Rattle.dimacs.specs.Written.{numeral, body, heading, written}
+
+or-false : (a b : Bool) → a || b ≡ false → (a ≡ false) × (b ≡ false)
+or-false true b e = absurd (true≢false e)
+or-false false b e = (refl, e)
+
+-- a token that is not refused is a number that may come next, in a file with clauses to come
+good-next : (n c : ℕ) (s : Scan) (at : ℕ) (x : ℤ) → c ≤ maxClauses → badToken n c s at (some x) ≡ none → (s .clauses < c) × (stands n s x ≡ true)
+good-next n c s at x h e = go (closes x) refl
+  where
+    six : Option Refusal
+    six = cause (leb c (s .clauses)) 6 at
+
+    seven : Option Refusal
+    seven = cause (not (closes x) && leb maxLiterals (s .literals)) 7 at
+
+    four : Option Refusal
+    four = cause (ltb n (variable x)) 4 at
+
+    five : Option Refusal
+    five = cause (not (closes x) && not (mayJoin (s .clause) x)) 5 at
+
+    p : (six ≡ none) × (first (seven ∷ four ∷ five ∷ []) ≡ none)
+    p = no-first six (seven ∷ four ∷ five ∷ []) e
+
+    q : (seven ≡ none) × (first (four ∷ five ∷ []) ≡ none)
+    q = no-first seven (four ∷ five ∷ []) (p .1)
+
+    r : (four ≡ none) × (first (five ∷ []) ≡ none)
+    r = no-first four (five ∷ []) (q .1)
+
+    below : s .clauses < c
+    below = leb-false c (s .clauses) (cause-none (leb c (s .clauses)) 6 at (p .0))
+
+    few : not (closes x) && leb maxLiterals (s .literals) ≡ false
+    few = cause-none (not (closes x) && leb maxLiterals (s .literals)) 7 at (q .0)
+
+    inside : variable x ≤ n
+    inside = ltb-false n (variable x) (cause-none (ltb n (variable x)) 4 at (r .0))
+
+    once : not (closes x) && not (mayJoin (s .clause) x) ≡ false
+    once = cause-none (not (closes x) && not (mayJoin (s .clause) x)) 5 at (sym (first-last five) ∙ r .1)
+
+    go : (b : Bool) → closes x ≡ b → (s .clauses < c) × (stands n s x ≡ true)
+    go true f = (below, rw (f, lt-ltb (s .clauses) maxClauses (omega (arith, below))))
+    go false f =
+        let literal : leb maxLiterals (s .literals) ≡ false = rw (f) at few in
+        let new : not (mayJoin (s .clause) x) ≡ false = rw (f) at once in (
+          below,
+          rw (
+            f,
+            le-leb (variable x) n inside,
+            lt-ltb (s .literals) maxLiterals (leb-false maxLiterals (s .literals) literal),
+            not-false (mayJoin (s .clause) x) new,
+          ),
+        )
+
+-- good tokens give a sound list, of as many clauses as were announced
+sound-words : (ws : List Word) (n c size : ℕ) (s : Scan) (i : ℕ) → c ≤ maxClauses → s .clauses ≤ c → badTokens n c size s ws ≡ none
+    → (badRule n s i (map element ws) ≡ none) × (c ≡ s .clauses + zeros (map element ws))
+sound-words [] n c size s i h k e =
+    let parts = or-false (ltb (s .clauses) c) (unclosed (s .clause)) (cause-none (ltb (s .clauses) c || unclosed (s .clause)) 6 size e) in
+    (rw (parts .1), omega (arith, ltb-false (s .clauses) c (parts .0)))
+sound-words (w ∷ ws) n c size s i h k e =
+    token (signed (w .bytes)) refl (parts .0) (λ m. sound-words ws n c size (after s (element w)) (suc i) h m (sym (first-last later) ∙ parts .1))
+  where
+    later : Option Refusal
+    later = badTokens n c size (after s (element w)) ws
+
+    parts : (badToken n c s (w .place) (signed (w .bytes)) ≡ none) × (first (later ∷ []) ≡ none)
+    parts = no-first (badToken n c s (w .place) (signed (w .bytes))) (later ∷ []) e
+
+    l : List ℤ
+    l = map element ws
+
+    counted : (x : ℤ) → s .clauses < c → (after s x .clauses ≤ c) × (c ≡ after s x .clauses + zeros l → c ≡ s .clauses + zeros (x ∷ l))
+    counted x m = go (closes x) refl
+      where
+        go : (b : Bool) → closes x ≡ b → (after s x .clauses ≤ c) × (c ≡ after s x .clauses + zeros l → c ≡ s .clauses + zeros (x ∷ l))
+        go true f = rw (f) (omega arith, λ t. omega arith)
+        go false f = rw (f) (omega arith, λ t. omega arith)
+
+    token : (o : Option ℤ) → signed (w .bytes) ≡ o → badToken n c s (w .place) o ≡ none
+        → (after s (Option·getD o (pos 0)) .clauses ≤ c → (badRule n (after s (Option·getD o (pos 0))) (suc i) l ≡ none) × (c ≡ after s (Option·getD o (pos 0)) .clauses + zeros l))
+        → (badRule n s i (Option·getD o (pos 0) ∷ l) ≡ none) × (c ≡ s .clauses + zeros (Option·getD o (pos 0) ∷ l))
+    token none f g rest = absurd (Option·some-ne-none (refusal 3 (w .place)) g)
+    token (some x) f g rest =
+        let next : (s .clauses < c) × (stands n s x ≡ true) = good-next n c s (w .place) x h g in
+        let count = counted x (next .0) in
+        let more = rest (count .0) in
+        (rw (next .1) (more .0), count .1 (more .1))
+
+-- what is known of a file that reading accepts
+pub record Accepted (n c : ℕ) (l : List ℤ) : Type 0 where
+  pub least : 1 ≤ n
+  pub most : n ≤ maxVariables
+  pub few : c ≤ maxClauses
+  pub sound : badRule n unread 0 l ≡ none
+  pub count : c ≡ length (clauses l)
+
+ranges : (n c : ℕ) → outside n c ≡ false → (1 ≤ n) × (n ≤ maxVariables) × (c ≤ maxClauses)
+ranges n c e =
+    let p = or-false (eqb n 0) (ltb maxVariables n || ltb maxClauses c) e in
+    let q = or-false (ltb maxVariables n) (ltb maxClauses c) (p .1) in
+    (above n (eqb-false n 0 (p .0)), ltb-false maxVariables n (q .0), ltb-false maxClauses c (q .1))
+  where
+    above : (n : ℕ) → (n ≡ 0 → ⊥) → 1 ≤ n
+    above n z = omega arith
+
+-- the tokens past a header of so many bytes
+abbrev tokens : List ℕ → ℕ → List Word
+tokens file size =
+    let next : ℕ = pastComments false 0 file + size in
+    words false next (drop next file)
+
+-- its header and its tokens
+record Parts (file : List ℕ) (n c : ℕ) (l : List ℤ) : Type 0 where
+  size : ℕ
+  head : header (drop (pastComments false 0 file) file) ≡ some (record { variables = n; clauses = c; size = size })
+  range : outside n c ≡ false
+  good : badTokens n c (length file) unread (tokens file size) ≡ none
+  gave : l ≡ map element (tokens file size)
+
+accepted-parts : (file : List ℕ) (n c : ℕ) (l : List ℤ) → reading file ≡ gives n c l → Parts file n c l
+accepted-parts file n c l e = found (header (drop at file)) refl e
+  where
+    at : ℕ
+    at = pastComments false 0 file
+
+    never : (r : Refusal) → refuses r ≡ gives n c l → _≡_ {A = ℕ} 0 1
+    never r f = cc
+
+    found : (o : Option Header) → header (drop at file) ≡ o → readFrom file at o ≡ gives n c l → Parts file n c l
+    found none f g = absurd (omega (arith, never (refusal 1 at) g))
+    found (some h) f g = ranged (outside (h .variables) (h .clauses)) refl g
+      where
+        ws : List Word
+        ws = tokens file (h .size)
+
+        passed : (p : Option Refusal) → badTokens (h .variables) (h .clauses) (length file) unread ws ≡ p → outside (h .variables) (h .clauses) ≡ false
+            → readTokens (h .variables) (h .clauses) ws p ≡ gives n c l → Parts file n c l
+        passed (some r) k j i = absurd (omega (arith, never r i))
+        passed none k j i =
+            let same-n : n ≡ h .variables = cc in
+            let same-c : c ≡ h .clauses = cc in
+            let same-l : l ≡ map element ws = cc in
+            rw (same-n, same-c, same-l) (record { size = h .size; head = f; range = j; good = k; gave = refl })
+
+        ranged : (t : Bool) → outside (h .variables) (h .clauses) ≡ t
+            → cond t (refuses (refusal 2 at)) (readTokens (h .variables) (h .clauses) ws (badTokens (h .variables) (h .clauses) (length file) unread ws)) ≡ gives n c l
+            → Parts file n c l
+        ranged true j i = absurd (omega (arith, never (refusal 2 at) i))
+        ranged false j i = passed (badTokens (h .variables) (h .clauses) (length file) unread ws) refl j i
+
+-- A file that reading accepts gives N and C in range and a sound list of C clauses.
+pub accepted : (file : List ℕ) (n c : ℕ) (l : List ℤ) → reading file ≡ gives n c l → Accepted n c l
+accepted file n c l e =
+    let p : Parts file n c l = accepted-parts file n c l e in
+    let r = ranges n c (p .range) in
+    let words-sound = sound-words (tokens file (p .size)) n c (length file) unread 0 (r .2) (omega arith) (p .good) in
+    let sound : badRule n unread 0 l ≡ none = ap (badRule n unread 0) (p .gave) ∙ words-sound .0 in
+    let closed : c ≡ 0 + zeros l = words-sound .1 ∙ ap (λ (m : List ℤ). 0 + zeros m) (sym (p .gave)) in
+    record { least = r .0; most = r .1; few = r .2; sound = sound; count = omega (arith, closed, zeros-clauses n unread 0 l sound .0) }
+
+-- a written number that reads as one reads as itself
+positive-back : (o : Option ℕ) (v : ℕ) (y : ℤ) → ((u : ℕ) → o ≡ some u → u ≡ v) → positive o ≡ some y → y ≡ pos v
+positive-back none v y f e = absurd (Option·none-ne-some y e)
+positive-back (some u) v y f e = sym (Option·some-injective (pos u) y e) ∙ ap (λ (k : ℕ). pos k) (f u refl)
+
+negative-back : (o : Option ℕ) (k : ℕ) (y : ℤ) → ((u : ℕ) → o ≡ some u → u ≡ suc k) → negative o ≡ some y → y ≡ negsuc k
+negative-back none k y f e = absurd (Option·none-ne-some y e)
+negative-back (some zero) k y f e = absurd (Option·none-ne-some y e)
+negative-back (some (suc u)) k y f e =
+    let same : u ≡ k = omega (arith, f (suc u) refl) in
+    sym (Option·some-injective (negsuc u) y e) ∙ ap (λ (j : ℕ). negsuc j) same
+
+signed-back : (x y : ℤ) → signed (numeral x) ≡ some y → y ≡ x
+unfolding classOf
+signed-back (pos v) y e = positive-back (number (decimal v)) v y (decimal-read v) (sym (unsigned (decimal v) (decimal-some v) (decimal-digits v)) ∙ e)
+signed-back (negsuc k) y e = negative-back (number (decimal (suc k))) k y (decimal-read (suc k)) e
+
+tokens-back : (l : List ℤ) (n c size : ℕ) (s : Scan) (at : ℕ) → badTokens n c size s (tokensOf at l) ≡ none → map element (tokensOf at l) ≡ l
+tokens-back [] n c size s at e = refl
+tokens-back (x ∷ l) n c size s at e = token (signed (numeral x)) refl (parts .0) (tokens-back l n c size (after s y) next (sym (first-last later) ∙ parts .1))
+  where
+    y : ℤ
+    y = element (record { place = at; bytes = numeral x })
+
+    next : ℕ
+    next = suc (at + length (numeral x))
+
+    later : Option Refusal
+    later = badTokens n c size (after s y) (tokensOf next l)
+
+    parts : (badToken n c s at (signed (numeral x)) ≡ none) × (first (later ∷ []) ≡ none)
+    parts = no-first (badToken n c s at (signed (numeral x))) (later ∷ []) e
+
+    token : (o : Option ℤ) → signed (numeral x) ≡ o → badToken n c s at o ≡ none → map element (tokensOf next l) ≡ l
+        → Option·getD o (pos 0) ∷ map element (tokensOf next l) ≡ x ∷ l
+    token none f g same = absurd (Option·some-ne-none (refusal 3 at) g)
+    token (some z) f g same = rw (signed-back x z f, same)
+
+-- a header with both of its numbers
+numbered-parts : (o p : Option ℕ) (size n c k : ℕ) → numbered o p size ≡ some (record { variables = n; clauses = c; size = k }) → (o ≡ some n) × (size ≡ k)
+numbered-parts none p size n c k e = absurd (Option·none-ne-some (record { variables = n; clauses = c; size = k }) e)
+numbered-parts (some m) none size n c k e = absurd (Option·none-ne-some (record { variables = n; clauses = c; size = k }) e)
+numbered-parts (some m) (some d) size n c k e =
+    let same = Option·some-injective (record { variables = m; clauses = d; size = size }) (record { variables = n; clauses = c; size = k }) e in
+    (ap (λ (h : Header). some (h .variables)) same, ap (λ (h : Header). h .size) same)
+
+-- What the writer's form reads as, if reading accepts it, is what it was written from, whatever that was.
+pub written-back : (n : ℕ) (l : List ℤ) (n′ c′ : ℕ) (l′ : List ℤ) → reading (written n l) ≡ gives n′ c′ l′ → (n′ ≡ n) × (l′ ≡ l)
+unfolding classOf
+written-back n l n′ c′ l′ e =
+    let p : Parts (written n l) n′ c′ l′ = accepted-parts (written n l) n′ c′ l′ e in
+    let c : ℕ = length (clauses l) in
+    let size : ℕ = 6 + (suc (length (decimal n)) + suc (length (decimal c))) in
+    let head : numbered (number (decimal n)) (number (decimal c)) size ≡ some (record { variables = n′; clauses = c′; size = p .size }) =
+    sym (ap header (heading-joined n c (body l)) ∙ header-fields (decimal n) (decimal c) (body l) (decimal-digits n) (decimal-digits c)) ∙ p .head in
+    let parts = numbered-parts (number (decimal n)) (number (decimal c)) size n′ c′ (p .size) head in
+    let place : 0 + p .size ≡ length (heading n c) = zero-add (p .size) ∙ sym (parts .1) ∙ heading-length n c in
+    let same : words false (0 + p .size) (drop (0 + p .size) (written n l)) ≡ tokensOf (0 + p .size) l = words-written n l (0 + p .size) place in (
+      decimal-read n n′ (parts .0),
+      p .gave ∙ ap (map element) same
+          ∙ tokens-back l n′ c′ (length (written n l)) unread (0 + p .size) (ap (badTokens n′ c′ (length (written n l)) unread) (sym same) ∙ p .good),
+    )
+
+-- a file in the writer's form, read and written, is that file
+pub written-read : (n : ℕ) (l : List ℤ) (file : List ℕ) → file ≡ written n l → (n′ c′ : ℕ) (l′ : List ℤ) → reading file ≡ gives n′ c′ l′
+    → written n′ l′ ≡ file
+written-read n l file f n′ c′ l′ g =
+    let same = written-back n l n′ c′ l′ (ap reading (sym f) ∙ g) in
+    rw (same .0, same .1) (sym f)

@@ -1,0 +1,45 @@
+-- The rule file's two calls, one after the other (document 01, "The rule file"): "Every sound list, written and read, is that list again".
+use mathlib.Core.Path.{_≡_, ap, _∙_}
+use mathlib.Core.List.{List, [], _∷_, _++_}
+use mathlib.Core.Option.{none}
+use Prim.Native.Nat.{ℕ, _≤_}
+use lib.IntN.{ℤ}
+use lib.ListN.{length, take, drop}
+use lib.Seq.{take-append-seam}
+use borrow.Author.Tests.{le-ltb}
+use Rattle.formula.specs.Formula.{clauses}
+use Rattle.refusal.specs.Laws.{cause-none, causeAt-none, no-first}
+use Rattle.refusal.specs.Reply.{cause, causeAt, answering, tooShort}
+use Rattle.lent.specs.Laws.{in-range}
+use Rattle.lent.specs.Lent.{refusalOf, outOfRange}
+use Rattle.lent.specs.Sound.{unread, badRule}
+use Rattle.dimacs.specs.Format.{gives, reading}
+use Rattle.dimacs.specs.RoundTrip.{read-written}
+use Rattle.dimacs.specs.Written.{written}
+use Rattle.rule_writer.specs.Write.{lentToWrite, writeOutput}
+use Rattle.rule_reader.specs.Read.{readReply, readOutput}
+
+module _ (n : ℕ) (l : List ℤ) (file : List ℕ) (taken : refusalOf (lentToWrite n l (length file)) ≡ none) where
+  -- the part of the lent bytes that the writer filled
+  abbrev pub part : List ℕ
+  part = take (length (written n l)) (writeOutput n l file)
+
+  is-file : part ≡ written n l
+  is-file = rw (taken) (take-append-seam (written n l) (drop (length (written n l)) file))
+
+  -- what the writer wrote reads as what it was given
+  pub read-back : reading part ≡ gives n (length (clauses l)) l
+  read-back =
+      let short = tooShort (length (written n l)) (length file) in
+      let numbers = no-first (cause (outOfRange n 0) 14 0) (causeAt 13 (badRule n unread 0 l) ∷ none ∷ none ∷ none ∷ none ∷ none ∷ short ∷ []) taken in
+      let rules = no-first (causeAt 13 (badRule n unread 0 l)) (none ∷ none ∷ none ∷ none ∷ none ∷ short ∷ []) (numbers .1) in
+      let range = in-range n 0 (cause-none (outOfRange n 0) 14 0 (numbers .0)) in
+      ap reading is-file ∙ read-written n l (range .0) (range .1) (causeAt-none 13 (badRule n unread 0 l) (rules .0))
+
+  -- so the reader answers with these numbers, and leaves that list, where it was lent the room
+  module _ (out : List ℤ) (room : length l ≤ length out) where
+    pub reply-back : readReply (reading part) out ≡ answering 1 n (length (clauses l)) (length l)
+    reply-back = rw (read-back, le-ltb (length out) (length l) room)
+
+    pub output-back : readOutput (reading part) out ≡ l ++ drop (length l) out
+    output-back = rw (read-back, le-ltb (length out) (length l) room)
