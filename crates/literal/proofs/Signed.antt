@@ -1,15 +1,16 @@
 -- What the machine's signed operations make of an i32, in the integers' own terms.
 use mathlib.Core.Path.{_≡_, refl}
-use mathlib.Core.Bool.{true, false, true≢false}
+use mathlib.Core.Bool.{Bool, true, false, true≢false}
+use Prim.Native.Nat.{ℕ, zero, suc, _≤_}
 use native.Mathlib.Nat.{zero-add, not-suc-le-zero}
 use native.Mathlib.Omega.{arith}
 use borrow.Author.Tests.{ltb-true}
-use lib.IntN.{ℤ, pos, negsuc, natAbs, _-ℤ_}
+use lib.IntN.{ℤ, pos, negsuc, natAbs, negℤ, _-ℤ_, +ℤ-idl}
 use lib.Signed.{ltZ}
 use mir.Syntax.{w32, w64}
 use mir.Val.{Fits, SFits, toZ, ofZ}
 use mir.ValLaws.{toZ-ofZ}
-use Rattle.literal.specs.Literal.{wanted}
+use Rattle.literal.specs.Literal.{wanted, literal}
 
 pub widens : (x : ℤ) → SFits w32 x → SFits w64 x
 widens x f = record { sfits = omega (arith, f .sfits) }
@@ -53,3 +54,15 @@ wanted-negative (negsuc n) e = refl
 pub wanted-positive : (x : ℤ) → ltZ x (pos 0) ≡ false → wanted x ≡ 1
 wanted-positive (pos n) e = refl
 wanted-positive (negsuc n) e = absurd (true≢false e)
+
+-- the magnitude of a variable's number, as it lies in an i32, and its negation
+pub number-is : (v : ℕ) → v ≤ 2147483647 → toZ w32 v ≡ pos v
+number-is v h = toZ-ofZ w32 (pos v) (record { sfits = omega arith })
+
+pub negation-is : (v : ℕ) → v ≤ 2147483647 → pos 0 -ℤ toZ w32 v ≡ literal v false
+negation-is v h = rw (number-is v h) (+ℤ-idl (negℤ (pos v)))
+
+pub literal-fits : (v : ℕ) (positive : Bool) → v ≤ 2147483647 → SFits w32 (literal v positive)
+literal-fits v true h = record { sfits = omega arith }
+literal-fits zero false h = record { sfits = omega arith }
+literal-fits (suc k) false h = record { sfits = omega arith }

@@ -1,11 +1,11 @@
 -- Literals (document 01: entries) and assignments.
 -- A literal is a signed number: v asks variable v (document 01: setting v) to be on, -v asks it to be off. 0 is no literal.
 -- An assignment is a list of bytes, that of variable 1 first: 0 off, 1 on, 2 unassigned. Document 01's choice is one with no 2 in it, and its wish row one in which 2 is free.
-use mathlib.Core.Bool.{Bool}
+use mathlib.Core.Bool.{Bool, true, false}
 use mathlib.Core.List.{List}
 use Prim.Native.Nat.{ℕ, zero, suc}
 use lib.Dec.{eqb}
-use lib.IntN.{ℤ, pos, negsuc, natAbs}
+use lib.IntN.{ℤ, pos, negsuc, natAbs, negℤ}
 use lib.ListN.{getD}
 
 -- the variable that a literal speaks of
@@ -16,6 +16,11 @@ variable x = natAbs x
 abbrev pub wanted : ℤ → ℕ
 wanted (pos k) = 1
 wanted (negsuc k) = 0
+
+-- the literal that asks a variable to be on (true) or off (false)
+abbrev pub literal : ℕ → Bool → ℤ
+literal v true = pos v
+literal v false = negℤ (pos v)
 
 -- a variable's value in an assignment; what has no byte there is unassigned
 abbrev pub value : List ℕ → ℕ → ℕ

@@ -1,7 +1,8 @@
 // Variables, clauses and literals: the one place with signed arithmetic. Everything above works on
 // the numbers and booleans that these functions give.
 ghost use mathlib.Core.Path.{_≡_};
-ghost use Rattle.literal.specs.Literal.{variable, wanted, value, holds};
+ghost use Prim.Native.Nat.{_≤_};
+ghost use Rattle.literal.specs.Literal.{variable, wanted, literal, value, holds};
 
 // A variable's number, from 1 (document 01: a setting).
 pub struct Variable(pub usize);
@@ -26,6 +27,15 @@ pub fn wanted_by(x: i32) -> u8
     ensures { λ r. ⌜ r ≡ wanted x ⌝ }
 {
     if x < 0 { 0 } else { 1 }
+}
+
+// The literal by which a variable is asked to be on, or off. The bound is the greatest i32.
+pub fn literal_of(v: Variable, positive: bool) -> i32
+    requires { ⌜ v .0 ≤ 2147483647 ⌝ }
+    ensures { λ r. ⌜ r ≡ literal (v .0) positive ⌝ }
+{
+    let x = v.0 as i32;
+    if positive { x } else { -x }
 }
 
 // A variable's value in an assignment, 2 where it has none.
