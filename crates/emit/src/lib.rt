@@ -1,6 +1,7 @@
 // Numbers written one after the other into a list that has room for them.
 ghost use mathlib.Core.List.{[], _∷_};
 ghost use Prim.Native.Nat.{_+_, _<_, _≤_};
+ghost use lib.IntN.{pos};
 ghost use lib.ListN.{length, replicate};
 ghost use Rattle.emit.specs.Wrote.{Wrote};
 
@@ -11,6 +12,16 @@ pub fn put(x: i32, out: &mut [i32], at: usize) -> usize
 {
     out[at] = x;
     at + 1
+}
+
+// Writes a clause's last literal and its closing zero.
+pub fn put_closed(x: i32, out: &mut [i32], at: usize) -> usize
+    requires { ⌜ at + 2 ≤ length (now out) ⌝ }
+    ensures { λ r. ⌜ Wrote (x ∷ pos 0 ∷ []) (now (out .entry)) at (now (out .exit)) r ⌝ }
+{
+    out[at] = x;
+    out[at + 1] = 0;
+    at + 2
 }
 
 // Writes a number so many times.
