@@ -1,12 +1,13 @@
 -- What writing into a lent list does, and how two writings follow one another.
 use mathlib.Core.Path.{_≡_, refl, sym, ap, ap₂, _∙_}
 use mathlib.Core.List.{List, [], _∷_, _++_}
-use Prim.Native.Nat.{ℕ, suc, _+_, _<_}
+use Prim.Native.Nat.{ℕ, suc, _+_, _≤_, _<_}
+use native.Mathlib.Nat.{zero-add}
 use native.Mathlib.Numerals.{add-one}
 use native.Mathlib.Omega.{arith}
 use lib.IntN.{ℤ, pos}
-use lib.ListN.{length, getD, take, set, replicate, length-append, replicate-append-replicate}
-use lib.Seq.{sets, length-sets, take-suc}
+use lib.ListN.{length, getD, take, drop, set, replicate, length-append, replicate-append-replicate}
+use lib.Seq.{sets, length-sets, sets-eq, take-suc, take-at}
 
 -- the elements w were written over a list from place at on, and next is the place past them
 pub record Wrote (w before : List ℤ) (at : ℕ) (after : List ℤ) (next : ℕ) : Type 0 where
@@ -51,3 +52,11 @@ pub wrote-next : {l : List ℤ} {at : ℕ} {m : List ℤ} {i : ℕ} {k : List �
     → Wrote (take n list) l at m i → Wrote (getD list n (pos 0) ∷ []) m i k j → Wrote (take (n + 1) list) l at k j
 wrote-next list n h a b =
     wrote-as (sym (take-suc list n (pos 0) h) ∙ ap (λ (c : ℕ). take c list) (sym (add-one n))) (wrote-more a b)
+
+-- what was written from the start on: the list is that and its own rest
+pub wrote-whole : {w l m : List ℤ} {i : ℕ} → Wrote w l 0 m i → length w ≤ length l → m ≡ w ++ drop (length w) l
+wrote-whole {w} {l} a h =
+    a .list ∙ sets-eq w l 0 (omega arith) ∙ ap (λ (k : ℕ). w ++ drop k l) (zero-add (length w))
+
+pub wrote-front : {w l m : List ℤ} {i : ℕ} → Wrote w l 0 m i → length w ≤ length l → take i m ≡ w
+wrote-front {w} {l} {m} {i} a h = ap (take i) (wrote-whole a h) ∙ take-at w (drop (length w) l) i (omega (arith, a .place))
