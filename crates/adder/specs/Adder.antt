@@ -4,7 +4,7 @@ use Prim.Native.Nat.{ℕ, suc, _+_, _≤_}
 use lib.IntN.{ℤ, pos}
 use Rattle.literal.specs.Literal.{variable}
 use Rattle.lent.specs.Limits.{maxVariables}
-use Rattle.totalizer.specs.Totalizer.{up, down, below}
+use Rattle.totalizer.specs.Totalizer.{up, down, below, adder}
 use Rattle.adder.specs.declared.clauses.Adder.{Adder}
 use Rattle.adder.specs.declared.outputs.Outputs.{Outputs}
 use Rattle.adder.specs.declared.outputs.Outputs.the-variants.{Leaf, Counters}
@@ -25,7 +25,7 @@ pub record Small (g : Adder) : Type 0 where
   pub right : reach (g .right) (g .q) ≤ maxVariables
   pub own : g .base + (g .p + g .q) ≤ maxVariables
 
--- the clause up and the clause down for i and j, both, those for one i, and all
+-- the clause up and the clause down for i and j, both, and those for one i
 abbrev pub upClauses : Adder → ℕ → ℕ → List (List ℤ)
 upClauses g i j = up (outputs (g .left)) (outputs (g .right)) (outputs (Counters (g .base))) i j
 
@@ -38,5 +38,6 @@ pair g i j = upClauses g i j ++ downClauses g i j
 abbrev pub row : Adder → ℕ → List (List ℤ)
 row g i = below (suc (g .q)) (pair g i)
 
+-- all clauses of the group
 abbrev pub clauses : Adder → List (List ℤ)
-clauses g = below (suc (g .p)) (row g)
+clauses g = adder (outputs (g .left)) (g .p) (outputs (g .right)) (g .q) (outputs (Counters (g .base)))

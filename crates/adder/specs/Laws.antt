@@ -77,16 +77,24 @@ module _ {c d : List ℤ} {x : ℤ} {w l : List ℤ} {from : ℕ} (due : Due c d
     wrote-closed same last =
         wrote-as (ap (λ (z : ℤ). c ++ d ++ z ∷ pos 0 ∷ []) same ∙ due .whole) (wrote-more (wrote-more left right) last)
 
+-- two numbers that are not both what they are tested for
+apart : (i p j q : ℕ) → (i ≡ p → j ≡ q → ⊥) → false ≡ eqb i p && eqb j q
+apart i p j q h = go (eqb i p) refl
+  where
+    go : (s : Bool) → eqb i p ≡ s → false ≡ s && eqb j q
+    go true e = sym (ne-eqb j q (h (eqb-true i p e)))
+    go false e = refl
+
+-- the clause up and the clause down, each written or left out
 module _ (a b r : ℕ → ℤ) (p q i j : ℕ) where
   pub up-none : i + j ≡ 0 → [] ≡ flat (up a b r i j)
   up-none e = rw (eq-eqb i 0 (omega arith), eq-eqb j 0 (omega arith))
 
   pub up-one : (i + j ≡ 0 → ⊥) → closed (lower a i) (lower b j) (r (i + j)) ≡ flat (up a b r i j)
-  up-one h = flat-closed (lower a i) (lower b j) (r (i + j)) ∙ ap (λ (t : Bool). flat (cond t [] ((lower a i ++ lower b j ++ r (i + j) ∷ []) ∷ []))) (sym (go (eqb i 0) refl))
-    where
-      go : (s : Bool) → eqb i 0 ≡ s → s && eqb j 0 ≡ false
-      go true e = ne-eqb j 0 (λ (f : j ≡ 0). h (omega (arith, eqb-true i 0 e)))
-      go false e = refl
+  up-one h =
+      flat-closed (lower a i) (lower b j) (r (i + j))
+      ∙ ap (λ (t : Bool). flat (cond t [] ((lower a i ++ lower b j ++ r (i + j) ∷ []) ∷ [])))
+      (apart i 0 j 0 (λ (e : i ≡ 0) (f : j ≡ 0). h (omega arith)))
 
   module _ (hi : i ≤ p) (hj : j ≤ q) where
     pub down-none : i + j ≡ p + q → [] ≡ flat (down a p b q r i j)
@@ -95,11 +103,8 @@ module _ (a b r : ℕ → ℤ) (p q i j : ℕ) where
     pub down-one : (i + j ≡ p + q → ⊥) → closed (upper a p i) (upper b q j) (negℤ (r (suc (i + j)))) ≡ flat (down a p b q r i j)
     down-one h =
         flat-closed (upper a p i) (upper b q j) (negℤ (r (suc (i + j))))
-        ∙ ap (λ (t : Bool). flat (cond t [] ((upper a p i ++ upper b q j ++ negℤ (r (suc (i + j))) ∷ []) ∷ []))) (sym (go (eqb i p) refl))
-      where
-        go : (s : Bool) → eqb i p ≡ s → s && eqb j q ≡ false
-        go true e = ne-eqb j q (λ (f : j ≡ q). h (omega (arith, eqb-true i p e)))
-        go false e = refl
+        ∙ ap (λ (t : Bool). flat (cond t [] ((upper a p i ++ upper b q j ++ negℤ (r (suc (i + j))) ∷ []) ∷ [])))
+        (apart i p j q (λ (e : i ≡ p) (f : j ≡ q). h (omega arith)))
 
 -- clauses written after others
 pub room-first : (f g : List (List ℤ)) (l : List ℤ) (at : ℕ) → at + length (flat (f ++ g)) ≤ length l → at + length (flat f) ≤ length l

@@ -14,13 +14,11 @@ pub record Wrote (w before : List ℤ) (at : ℕ) (after : List ℤ) (next : ℕ
   pub place : next ≡ at + length w
   pub list : after ≡ sets before at w
 
--- nothing, and one element
+-- nothing
 pub wrote-none : (l : List ℤ) (at : ℕ) → Wrote [] l at l at
 wrote-none l at = record { place = omega arith; list = refl }
 
-pub wrote-one : (x : ℤ) (l : List ℤ) (at : ℕ) → Wrote (x ∷ []) l at (set l at x) (at + 1)
-wrote-one x l at = record { place = refl; list = refl }
-
+-- what follows other elements is written after them
 sets-append : (l : List ℤ) (at : ℕ) (w v : List ℤ) → sets l at (w ++ v) ≡ sets (sets l at w) (at + length w) v
 sets-append l at [] v = let same : at + 0 ≡ at = omega arith in rw (same)
 sets-append l at (x ∷ w) v =

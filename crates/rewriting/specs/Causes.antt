@@ -120,7 +120,7 @@ module _ (n : ℕ) (rules : List ℤ) (row : List ℕ) (d : ℕ) (out : List ℤ
       first-skip early (row-length ∷ none ∷ size ∷ room ∷ []) ∙ first-skip (early ++ (row-length ∷ [])) (size ∷ room ∷ [])
 
   -- the reply and the lent list, for a cause or without one
-  abbrev pub Answers : Reply → List ℤ → Option Refusal → Type 0
+  abbrev Answers : Reply → List ℤ → Option Refusal → Type 0
   Answers reply result o =
       (reply ≡ unless o (answering 1 (rewrittenVariables n row) needed 0)) × (result ≡ filled o (rewritten n rules row d) out)
 
