@@ -1,12 +1,20 @@
 // Answers, a line each.
 use libc::STDOUT_FILENO;
 
+// A label, as it was read.
+pub fn label(line: &[u8]) {
+    io::write_all(STDOUT_FILENO, line);
+    io::write_all(STDOUT_FILENO, b"\n");
+}
+
+// A refusal: its number and its place.
 pub fn refused(number: usize, place: usize) {
     io::write_all(STDOUT_FILENO, b"refused ");
     io::print_decimal(STDOUT_FILENO, number as u64);
     answer(b" at ", place);
 }
 
+// An answer with a number.
 pub fn answer(word: &[u8], value: usize) {
     io::write_all(STDOUT_FILENO, word);
     io::print_decimal(STDOUT_FILENO, value as u64);
@@ -16,4 +24,9 @@ pub fn answer(word: &[u8], value: usize) {
 // The answer to a line that is no case.
 pub fn malformed() {
     io::write_all(STDOUT_FILENO, b"bad case\n");
+}
+
+// The answer to an input that is cut.
+pub fn too_long() {
+    io::write_all(STDOUT_FILENO, b"the input is too long\n");
 }

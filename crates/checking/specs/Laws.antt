@@ -3,25 +3,27 @@ use mathlib.Core.Path.{_≡_, refl, sym, ap, ap₂, _∙_}
 use mathlib.Core.Bool.{true, false}
 use mathlib.Core.List.{List, [], _∷_, _++_}
 use mathlib.Core.Option.{Option, none, some}
-use Prim.Native.Nat.{ℕ}
+use Prim.Native.Nat.{ℕ, zero, suc}
 use lib.IntN.{ℤ}
 use lib.ListN.{length}
 use Rattle.formula.specs.Formula.{clauses, literals, models}
 use Rattle.distance.specs.Distance.{disagreement}
 use Rattle.refusal.specs.declared.Refusal.{Refusal}
 use Rattle.refusal.specs.Laws.{first-early, first-late, first-last}
-use Rattle.refusal.specs.Reply.{first, cause, causeAt, refusing, answering, unless}
+use Rattle.refusal.specs.Reply.{Reply, first, cause, causeAt, refusing, answering, unless}
 use Rattle.lent.specs.Lent.{refusalOf, outOfRange, wrongLength, oversized}
 use Rattle.lent.specs.Scans.{unsound}
 use Rattle.lent.specs.Sound.{unread, badRule, badWish, badChoice}
-use Rattle.checking.specs.Check.{lentToCheck, judged, checkReply}
+use Rattle.checking.specs.declared.Checked.{Checked}
+use Rattle.checking.specs.declared.Checked.the-variants.{Refused, Met, Unmet}
+use Rattle.checking.specs.Check.{lentToCheck, judged, checkReply, replyOf}
 
 abbrev pub laterCauses : ℕ → List ℕ → List ℕ → ℕ → ℕ → List (Option Refusal)
-laterCauses n row choice clauses literals =
+laterCauses n row choice k m =
     causeAt 13 (badChoice 0 choice)
     ∷ cause (wrongLength n row) 11 0
     ∷ cause (wrongLength n choice) 11 0
-    ∷ cause (oversized n clauses literals) 12 0
+    ∷ cause (oversized n k m) 12 0
     ∷ []
 
 module _ (n : ℕ) (rules : List ℤ) (row choice : List ℕ) where
@@ -54,7 +56,7 @@ module _ (n : ℕ) (rules : List ℤ) (row choice : List ℕ) where
         sym (ap (λ (o : Option Refusal). unless o (judged rules row choice))
         (in-two ∙ first-late early (late ++ (none ∷ [])) sound ∙ first-late late (none ∷ []) (sym rest ∙ e)))
 
--- the two verdicts
+-- the two answers
 pub judged-met : (rules : List ℤ) (row choice : List ℕ) (k : ℕ) → models choice (clauses rules) ≡ true → k ≡ disagreement row choice → answering 1 k 0 0 ≡ judged rules row choice
 judged-met rules row choice k e d = rw (e, d)
 
@@ -80,3 +82,14 @@ module _ (n : ℕ) (row choice : List ℕ) (k m : ℕ) where
 
   pub by-size : bad ≡ none → short row ≡ none → short choice ≡ none → cause (oversized n k m) 12 0 ≡ first (laterCauses n row choice k m)
   by-size b w e = rw (b, w, e) (sym (first-last (cause (oversized n k m) 12 0)))
+
+-- The numbers of an answer give the answer back: no two answers of the call have the same reply.
+abbrev pub fromReply : Reply → Checked
+fromReply (refusing r) = Refused r
+fromReply (answering zero k i j) = Unmet k
+fromReply (answering (suc v) k i j) = Met k
+
+pub reply-exact : (a : Checked) → fromReply (replyOf a) ≡ a
+reply-exact (Refused r) = refl
+reply-exact (Met k) = refl
+reply-exact (Unmet k) = refl

@@ -1,5 +1,5 @@
 -- DISTANCE-SAT: how far an assignment is from what was wished, and the nearest of all that satisfy a formula.
--- A wish row (document 01: "A wish row has n bytes: 0 off, 1 on, 2 free") is the reference assignment of document 000.
+-- A wish row (document 01: "A wish row has n bytes: 0 off, 1 on, 2 free") is the partial interpretation of document 000.
 use mathlib.Core.Bool.{Bool, cond}
 use mathlib.Core.List.{List, [], _∷_, _++_, map}
 use mathlib.Core.Option.{Option, none, some}
@@ -8,7 +8,7 @@ use lib.Dec.{eqb, ltb, leb}
 use lib.IntN.{ℤ}
 use Rattle.formula.specs.Formula.{clauses, models}
 
--- how much a byte of the wish row counts: 1 for a wish, 0 where the variable is free
+-- How much a byte of the wish row counts (not to be taken for the weight of a clause in the search): 1 for a wish, 0 where the variable is free
 abbrev pub weight : ℕ → ℕ
 weight w = cond (ltb w 2) 1 0
 

@@ -66,7 +66,7 @@ clauses-step l i e h q =
     clauses-split (drop i l) (omega (arith, length-drop i l))
     ∙ ap₂ (λ (k : ℕ) (r : List ℤ). take k (drop i l) ∷ clauses r) back (drop-drop (suc n) i l ∙ ap (λ (k : ℕ). drop k l) next)
 
--- and it is satisfied where r, the clause's own verdict, and the rest are
+-- and it is satisfied where the clause is, which r says, and the rest is
 pub models-step : (a : List ℕ) (l : List ℤ) (i e : ℕ) (r : Bool) → i < length l → e ≡ i + clauseLength (drop i l)
     → r ≡ satisfied a (take (e - i) (drop i l)) → models a (clauses (drop i l)) ≡ r && models a (clauses (drop (e + 1) l))
 models-step a l i e r h q s =

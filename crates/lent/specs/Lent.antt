@@ -12,7 +12,7 @@ use Rattle.refusal.specs.Reply.{first, cause, causeAt}
 use Rattle.lent.specs.Limits.{maxVariables, maxLimit, maxWishVariables, maxWishClauses, maxWishLiterals}
 use Rattle.lent.specs.Sound.{unread, badRule, badWish, badChoice}
 
--- The values lent to a call: n, the limit d (0 in a call that takes none), the rule list (empty in a call that takes none), the wish row and the given choice if it takes them, and how many elements its output needs and was lent (0 and 0 in a call that has none).
+-- The values lent to a call, as far as it takes any (a file's reader has its own causes, and then only `needed` and `room`): n, the limit d (0 in a call that takes none), the rule list (empty in a call that takes none), the wish row and the given choice if it takes them, and how many elements its output needs and was lent (0 and 0 in a call that has none).
 pub record Lent : Type 0 where
   pub n : ℕ
   pub d : ℕ
@@ -35,9 +35,9 @@ outOfRange n d = eqb n 0 || (ltb maxVariables n || ltb maxLimit d)
 abbrev pub wrongLength : ℕ → List ℕ → Bool
 wrongLength n part = not (eqb (length part) n)
 
--- 12: "a call that takes a wish row, even one all free, with n above 256, over 4,096 rules or 16,384 entries"
+-- 12, for k clauses and m literals: "a call that takes a wish row, even one all free, with n above 256, over 4,096 rules or 16,384 entries"
 abbrev pub oversized : ℕ → ℕ → ℕ → Bool
-oversized n clauses literals = ltb maxWishVariables n || (ltb maxWishClauses clauses || ltb maxWishLiterals literals)
+oversized n k m = ltb maxWishVariables n || (ltb maxWishClauses k || ltb maxWishLiterals m)
 
 -- the refusal that a call gives for what it was lent, if any
 abbrev pub refusalOf : Lent → Option Refusal

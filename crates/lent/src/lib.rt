@@ -1,4 +1,4 @@
-// The checks of what a call is lent: each cause of document 01's table 11 to 14, in a function.
+// The checks of what a call is lent: the causes 11 to 14 of document 01's table, a function for each.
 mod choice;
 mod problem;
 mod range;

@@ -1,8 +1,11 @@
 // The soundness of a rule list.
+use literal::Clause;
+use literal::Variable;
 ghost use mathlib.Core.Path.{_≡_};
-ghost use Prim.Native.Nat.{ℕ, _≤_};
-ghost use lib.ListN.{length, getD};
-ghost use Rattle.lent.specs.Limits.{maxVariables};
+ghost use Prim.Native.Nat.{ℕ, _+_, _≤_};
+ghost use lib.Dec.{eqb};
+ghost use lib.ListN.{length, getD, set};
+ghost use Rattle.lent.specs.Limits.{maxVariables, maxClauses};
 ghost use Rattle.lent.specs.Sound.{unread, badRule};
 ghost use Rattle.lent.specs.Scans.{ruleScan};
 
@@ -23,6 +26,30 @@ pub fn no_stamps() -> [u16; 641]
     [0; 641]
 }
 
+// Whether a variable was last seen in a clause.
+fn is_stamped(stamps: &[u16; 641], v: Variable, clause: Clause) -> bool
+    requires { ⌜ v .0 ≤ maxVariables ⌝ }
+    ensures { λ r. ⌜ r ≡ eqb (getD (now (stamps .entry)) (v .0) 0) (clause .0) ⌝ }
+{
+    let at = v.0;
+    wide(stamps[at]) == clause.0
+}
+
+fn wide(stamp: u16) -> usize
+    ensures { λ r. ⌜ r ≡ stamp ⌝ }
+{
+    stamp as usize
+}
+
+// A variable is seen in a clause.
+fn stamp(stamps: &mut [u16; 641], v: Variable, clause: Clause)
+    requires { ⌜ (v .0 ≤ maxVariables) × (clause .0 ≤ maxClauses + 1) ⌝ }
+    ensures { λ _. ⌜ now (stamps .exit) ≡ set (now (stamps .entry)) (v .0) (clause .0) ⌝ }
+{
+    let at = v.0;
+    stamps[at] = clause.0 as u16;
+}
+
 // Scans a rule list once. A stamp for each variable, the number of the clause in which it was last
 // seen, tells at once whether the open clause has it.
 pub fn scan_rules(n: usize, rules: &[i32]) -> RuleScan
@@ -36,25 +63,26 @@ pub fn scan_rules(n: usize, rules: &[i32]) -> RuleScan
     let mut i = 0;
     while i < rules.len() {
         let next = i + 1;
-        let v = literal::variable_of(rules[i]).0;
-        if v == 0 {
+        let v = literal::variable_of(rules[i]);
+        let number = v.0;
+        if number == 0 {
             if clauses == MAX_CLAUSES {
                 return RuleScan::Unsound(i);
             }
             clauses += 1;
             is_open = false;
         } else {
-            if n < v {
+            if n < number {
                 return RuleScan::Unsound(i);
             }
             if literals == MAX_LITERALS {
                 return RuleScan::Unsound(i);
             }
-            let stamp = (clauses + 1) as u16;
-            if stamps[v] == stamp {
+            let clause = Clause(clauses + 1);
+            if is_stamped(&stamps, v, clause) {
                 return RuleScan::Unsound(i);
             }
-            stamps[v] = stamp;
+            stamp(&mut stamps, v, clause);
             literals += 1;
             is_open = true;
         }

@@ -13,10 +13,10 @@ const MAX_WISH_CLAUSES: usize = 4096;
 const MAX_WISH_LITERALS: usize = 16384;
 
 // Whether a row or a choice has a byte for each of n variables.
-pub fn check_length(n: usize, length: usize) -> Verdict
-    ensures { λ r. ⌜ refused r ≡ cause (not (eqb length n)) 11 0 ⌝ }
+pub fn check_length(n: usize, given: usize) -> Verdict
+    ensures { λ r. ⌜ refused r ≡ cause (not (eqb given n)) 11 0 ⌝ }
 {
-    if length == n {
+    if given == n {
         return Verdict::Pass;
     }
     refusal::refuse(11, 0)

@@ -1,8 +1,9 @@
 -- Refusals (document 01, "Refusals"), and the reply of a call as numbers.
 use mathlib.Core.Bool.{Bool, cond}
-use mathlib.Core.List.{List, [], _∷_}
+use mathlib.Core.List.{List, [], _∷_, _++_}
 use mathlib.Core.Option.{Option, none, some}
 use Prim.Native.Nat.{ℕ}
+use lib.ListN.{length, drop}
 use Rattle.refusal.specs.declared.Refusal.{Refusal}
 use Rattle.refusal.specs.declared.Verdict.{Verdict}
 use Rattle.refusal.specs.declared.Verdict.the-variants.{Pass, Refuse}
@@ -31,22 +32,17 @@ abbrev pub causeAt : ℕ → Option ℕ → Option Refusal
 causeAt number none = none
 causeAt number (some place) = some (refusal number place)
 
--- The reply of any call, as numbers: the refusal's number and place, 0 and 0 without one; the verdict, 1 for found or met and 0 for none or not met, and 1 for a call that has no such answer; and up to three values. A refusal has 0 in the verdict and the values.
-pub record Reply : Type 0 where
-  pub number : ℕ
-  pub place : ℕ
-  pub verdict : ℕ
-  pub value₁ : ℕ
-  pub value₂ : ℕ
-  pub value₃ : ℕ
-
-abbrev pub refusing : Refusal → Reply
-refusing r = record { number = r .number; place = r .place; verdict = 0; value₁ = 0; value₂ = 0; value₃ = 0 }
-
-abbrev pub answering : ℕ → ℕ → ℕ → ℕ → Reply
-answering verdict value₁ value₂ value₃ = record { number = 0; place = 0; verdict = verdict; value₁ = value₁; value₂ = value₂; value₃ = value₃ }
+-- The reply of any call: a refusal, or an answer as numbers. The first number of an answer is 1 for found or met, 0 for none or not met, and 1 in a call that has no such answer; then come up to three values.
+pub data Reply : Type 0 where
+  refusing : Refusal → Reply
+  answering : ℕ → ℕ → ℕ → ℕ → Reply
 
 -- the answer, unless there is a refusal
 abbrev pub unless : Option Refusal → Reply → Reply
 unless none answer = answer
 unless (some r) answer = refusing r
+
+-- What a call leaves in the output that it was lent: a refusal leaves it as it was, and "On success bytes past the needed length stay" (document 01, "Refusals").
+abbrev pub filled {ℓ} : {A : Type ℓ} → Option Refusal → List A → List A → List A
+filled none result out = result ++ drop (length result) out
+filled (some r) result out = out

@@ -1,4 +1,4 @@
--- The cases that document 01 marks with a star ("Examples"), in one list that one theorem covers.
+-- The cases that document 01 marks with a star ("Examples"), in one list that one theorem covers: so far those of nearest and the limit, to which the files' cases come.
 use mathlib.Core.Path.{_≡_, refl}
 use mathlib.Core.List.{List, [], _∷_, map}
 use mathlib.Core.Option.{Option, none, some}

@@ -6,27 +6,39 @@ use mathlib.Core.Option.{none, some}
 use Prim.Native.Nat.{ℕ, zero, suc, _≤_, _<_}
 use native.Mathlib.Omega.{arith}
 use native.Mathlib.Nat.{not-suc-le-zero, le-of-suc-le-suc}
-use lib.Dec.{eqb, ltb}
+use lib.Dec.{eqb, ltb, lit<}
 use lib.IntN.{ℤ, pos, negsuc}
 use lib.ListN.{length, getD, take, length-take}
 use lib.Seq.{getD-take}
-use borrow.Author.Tests.{ltb-true}
+use borrow.Author.Tests.{ltb-true, lt-ltb}
 use Rattle.literal.specs.Literal.{variable, value, wanted, holds}
+use Rattle.literal.specs.Laws.{getD-inside}
 use Rattle.formula.specs.Formula.{all}
 use Rattle.lent.specs.Sound.{badChoice}
 use Rattle.soundness.specs.Laws.{and-left, and-right, and-both}
-use Rattle.totalizer.specs.Totalizer.{Choice}
+use Rattle.choices.specs.Choices.{Choice}
 use Rattle.totalizer.specs.Meaning.{Opposite}
 
-byte-at : (a : List ℕ) → all (λ (b : ℕ). ltb b 2) a ≡ true → (i : ℕ) → i < length a → getD a i 2 < 2
-byte-at [] e i h = absurd (not-suc-le-zero h)
-byte-at (b ∷ a) e zero h = ltb-true b 2 (and-left (ltb b 2) (all (λ (c : ℕ). ltb c 2) a) e)
-byte-at (b ∷ a) e (suc i) h = byte-at a (and-right (ltb b 2) (all (λ (c : ℕ). ltb c 2) a) e) i (le-of-suc-le-suc h)
+-- a choice by one test of its bytes
+pub binary : {n : ℕ} {a : List ℕ} → Choice n a → all (λ (b : ℕ). ltb b 2) a ≡ true
+binary {n} {a} c = go a (c .bytes)
+  where
+    go : (l : List ℕ) → ((i : ℕ) → getD l i 0 < 2) → all (λ (b : ℕ). ltb b 2) l ≡ true
+    go [] h = refl
+    go (b ∷ l) h = and-both (ltb b 2) (all (λ (x : ℕ). ltb x 2) l) (lt-ltb b 2 (h zero)) (go l (λ i. h (suc i)))
+
+pub choice-of : (n : ℕ) (a : List ℕ) → length a ≡ n → all (λ (b : ℕ). ltb b 2) a ≡ true → Choice n a
+choice-of n a l e = record { size = l; bytes = go a e }
+  where
+    go : (l : List ℕ) → all (λ (b : ℕ). ltb b 2) l ≡ true → (i : ℕ) → getD l i 0 < 2
+    go [] h i = lit< tt
+    go (b ∷ l) h zero = ltb-true b 2 (and-left (ltb b 2) (all (λ (x : ℕ). ltb x 2) l) h)
+    go (b ∷ l) h (suc i) = go l (and-right (ltb b 2) (all (λ (x : ℕ). ltb x 2) l) h) i
 
 -- the byte of every variable of a choice is 0 or 1
 pub choice-value : (n : ℕ) (a : List ℕ) → Choice n a → (v : ℕ) → 0 < v → v ≤ n → value a v < 2
 choice-value n a c zero z h = absurd (not-suc-le-zero z)
-choice-value n a c (suc k) z h = byte-at a (c .binary) k (omega arith)
+choice-value n a c (suc k) z h = rw (getD-inside a k 2 0 (omega (arith, c .size))) (c .bytes k)
 
 bit : (w : ℕ) → w < 2 → (eqb w 0 ≡ not (eqb w 1)) × (eqb w 1 ≡ not (eqb w 0))
 bit zero h = (refl, refl)
@@ -57,11 +69,11 @@ take-binary (suc n) (b ∷ a) e =
 
 -- and are a choice themselves
 pub choice-take : (n m : ℕ) (a : List ℕ) → Choice m a → n ≤ m → Choice n (take n a)
-choice-take n m a c h = record { size = omega (arith, length-take n a); binary = take-binary n a (c .binary) }
+choice-take n m a c h = choice-of n (take n a) (omega (arith, length-take n a, c .size)) (take-binary n a (binary c))
 
 -- a given choice that passes the test of lent values is one
 pub sound-choice : (a : List ℕ) (i : ℕ) → badChoice i a ≡ none → Choice (length a) a
-sound-choice a i e = record { size = refl; binary = go a i e }
+sound-choice a i e = choice-of (length a) a refl (go a i e)
   where
     go : (b : List ℕ) (j : ℕ) → badChoice j b ≡ none → all (λ (c : ℕ). ltb c 2) b ≡ true
     go [] j e = refl

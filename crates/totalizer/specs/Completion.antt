@@ -11,7 +11,9 @@ use lib.Seq.{take-all, take-at, drop-at}
 use Rattle.literal.specs.Literal.{variable, holds}
 use Rattle.formula.specs.Formula.{all}
 use Rattle.soundness.specs.Laws.{and-both, all-append}
-use Rattle.totalizer.specs.Totalizer.{Tree, leaf, node, tree, size, added, leaves, rewrittenVariables, count, tally, counters, completion, Over, Choice}
+use Rattle.choices.specs.Choices.{Choice}
+use Rattle.totalizer.specs.Choice.{binary, choice-of}
+use Rattle.totalizer.specs.Totalizer.{Tree, leaf, node, tree, size, added, leaves, rewrittenVariables, count, tally, counters, completion, Over}
 use Rattle.totalizer.specs.Trees.{held, Within, tree-over}
 use Rattle.totalizer.specs.Counters.{segment, length-counters}
 use Rattle.totalizer.specs.Choice.{holds-take}
@@ -64,12 +66,10 @@ counters-binary h (node s t) =
 pub completion-choice : (n : ℕ) (row a : List ℕ) → Choice n a → Choice (rewrittenVariables n row) (completion row a)
 completion-choice n row a c =
     let own : List ℕ = counters (holds a) (tree (leaves row)) in
-    record {
-      size = omega (arith, length-append a own, length-counters (holds a) (tree (leaves row)), c .size);
-      binary =
-          all-append (λ (b : ℕ). ltb b 2) a own
-          ∙ and-both (all (λ (b : ℕ). ltb b 2) a) (all (λ (b : ℕ). ltb b 2) own) (c .binary) (counters-binary (holds a) (tree (leaves row)));
-    }
+    choice-of (rewrittenVariables n row) (completion row a)
+    (omega (arith, length-append a own, length-counters (holds a) (tree (leaves row)), c .size))
+    (all-append (λ (b : ℕ). ltb b 2) a own
+    ∙ and-both (all (λ (b : ℕ). ltb b 2) a) (all (λ (b : ℕ). ltb b 2) own) (binary c) (counters-binary (holds a) (tree (leaves row))))
 
 -- and it keeps the choice
 pub completion-take : (n : ℕ) (row a : List ℕ) → Choice n a → take n (completion row a) ≡ a

@@ -13,7 +13,8 @@ use borrow.Author.Tests.{ltb-true, ltb-false, le-ltb, eqb-true, eqb-false, not-t
 use Rattle.literal.specs.Literal.{value, holds}
 use Rattle.formula.specs.Formula.{satisfied, models}
 use Rattle.soundness.specs.Laws.{and-left, and-right, and-both, all-append}
-use Rattle.totalizer.specs.Totalizer.{Tree, leaf, node, tree, size, added, output, totalizer, limit, atMost, count, tally, counters, Over, Counts, Right, Choice}
+use Rattle.choices.specs.Choices.{Choice}
+use Rattle.totalizer.specs.Totalizer.{Tree, leaf, node, tree, size, added, output, totalizer, limit, atMost, count, tally, counters, Over, Counts, Right}
 use Rattle.totalizer.specs.Meaning.{count-most, right-counts, signed, totalizer-right, right-totalizer}
 use Rattle.totalizer.specs.Trees.{held, Within, tree-size, tree-count, tree-over}
 use Rattle.totalizer.specs.Choice.{choice-value, choice-opposite}

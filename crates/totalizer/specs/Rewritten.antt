@@ -14,7 +14,8 @@ use Rattle.lent.specs.Sound.{unread, badRule}
 use Rattle.soundness.specs.Flat.{wellFormed}
 use Rattle.soundness.specs.Laws.{and-left, and-right, and-both, all-append, models-by-values}
 use Rattle.soundness.specs.Soundness.{sound, clauses-behind}
-use Rattle.totalizer.specs.Totalizer.{leaves, atMost, rewrittenVariables, rewritten, completion, Choice}
+use Rattle.choices.specs.Choices.{Choice}
+use Rattle.totalizer.specs.Totalizer.{leaves, atMost, rewrittenVariables, rewritten, completion}
 use Rattle.totalizer.specs.Trees.{held, Within}
 use Rattle.totalizer.specs.Rows.{Rising, leaves-rising, leaves-within, held-leaves}
 use Rattle.totalizer.specs.Choice.{holds-take, value-take}

@@ -16,7 +16,8 @@ use Rattle.lent.specs.Sound.{unread, badRule, badWish}
 use Rattle.soundness.specs.Flat.{joining, wellFormed}
 use Rattle.soundness.specs.Laws.{and-both, all-append, literals-append, wellFormed-more}
 use Rattle.soundness.specs.Soundness.{sound, flat-sound, behind}
-use Rattle.totalizer.specs.Totalizer.{Tree, on, leaves, tree, added, totalizer, atMost, rewrittenVariables, rewritten, completion, Over, Right, Choice}
+use Rattle.choices.specs.Choices.{Choice}
+use Rattle.totalizer.specs.Totalizer.{Tree, on, leaves, tree, added, totalizer, atMost, rewrittenVariables, rewritten, completion, Over, Right}
 use Rattle.totalizer.specs.Meaning.{on-opposite, totalizer-right, right-totalizer}
 use Rattle.totalizer.specs.Rows.{leaves-length, sound-wishes}
 use Rattle.totalizer.specs.Choice.{choice-take}

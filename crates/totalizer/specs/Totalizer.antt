@@ -105,11 +105,6 @@ rewrittenVariables n row = n + added (tree (leaves row))
 abbrev pub rewritten : ℕ → List ℤ → List ℕ → ℕ → List ℤ
 rewritten n list row d = list ++ flat (atMost n (leaves row) d)
 
--- "A choice has n bytes, 0 or 1."
-pub record Choice (n : ℕ) (a : List ℕ) : Type 0 where
-  pub size : length a ≡ n
-  pub binary : all (λ (b : ℕ). ltb b 2) a ≡ true
-
 -- the truth of a literal, from that of the variables
 abbrev pub on : (ℕ → Bool) → ℤ → Bool
 on σ (pos v) = σ v

@@ -1,10 +1,13 @@
 -- `lent::rules::scan_rules` meets its contract: each turn is one of the laws of `Scanning`.
-use mathlib.Core.Path.{_≡_, ap, _∙_}
-use Prim.Native.Nat.{_-_}
+use mathlib.Core.Path.{_≡_, sym, ap, subst, _∙_}
+use mathlib.Core.Bool.{true}
+use mathlib.Core.List.{List}
+use Prim.Native.Nat.{ℕ, _+_, _-_}
 use native.Mathlib.Omega.{arith}
 use lib.IntN.{pos}
 use lib.ListN.{length, getD}
 use borrow.Author.Needs.{needs}
+use borrow.Author.Tests.{eqb-true, eqb-false}
 use Rattle.literal.specs.Laws.{as-read}
 use Rattle.literal.specs.Literal.{variable}
 use Rattle.lent.proofs.Scanning.{Scanning, start, clauses-over, closed, outside, literals-over, twice, joined, left-open, complete}
@@ -54,29 +57,21 @@ returns-2 c = outside (c .before .before .before .before .before .before .before
 returns-3 : tie.Need-returns-3 Inv-loop μ-loop
 returns-3 c = literals-over (c .before .before .before .before .before .before .before .before .args .n) (c .before .before .before .before .before .before .before .before .args .rules .now) (c .before .before .before .before .before .before .loop .stamps) (c .before .before .before .before .before .before .loop .clauses) (c .before .before .before .before .before .before .loop .literals) (c .before .before .before .before .before .before .loop .is-open) (c .before .before .before .before .before .before .loop .i) (c .before .before .before .before .before .before .loop .inv) (c .before .before .before .before .before .loop-test .taken) (c .before .before .before .variable-of .result .0) (handed (c .before .before .before)) (c .before .before .if1 .left) (c .before .if3 .left) (c .if4 .taken)
 
-add-stamp : tie.Need-add-stamp Inv-loop μ-loop
-add-stamp c = omega (arith, c .before .before .before .before .before .before .loop .inv .few)
+add-t19 : tie.Need-add-t19 Inv-loop μ-loop
+add-t19 c = search needs
 
-cast-stamp : tie.Need-cast-stamp Inv-loop μ-loop
-cast-stamp c = omega (arith, c .before .before .before .before .before .before .loop .inv .few)
-
-mul-if5 : tie.Need-mul-if5 Inv-loop μ-loop
-mul-if5 c = omega (arith, c .before .before .before .before .before .before .before .before .pre)
-
-array-read-if5 : tie.Need-array-read-if5 Inv-loop μ-loop
-array-read-if5 c = omega (arith, c .before .before .before .before .before .before .before .before .pre)
+is-stamped-requires : tie.Need-is-stamped-requires Inv-loop μ-loop
+is-stamped-requires c κs = omega (arith, c .before .before .before .before .before .before .before .before .before .pre)
 
 returns-4 : tie.Need-returns-4 Inv-loop μ-loop
-returns-4 c = twice (c .before .before .before .before .before .before .before .before .before .args .n) (c .before .before .before .before .before .before .before .before .before .args .rules .now) (c .before .before .before .before .before .before .before .loop .stamps) (c .before .before .before .before .before .before .before .loop .clauses) (c .before .before .before .before .before .before .before .loop .literals) (c .before .before .before .before .before .before .before .loop .is-open) (c .before .before .before .before .before .before .before .loop .i) (c .before .before .before .before .before .before .before .loop .inv) (c .before .before .before .before .before .before .loop-test .taken) (c .before .before .before .before .variable-of .result .0) (handed (c .before .before .before .before)) (c .before .before .before .if1 .left) (c .before .before .if3 .left) (c .before .if4 .left) (c .if5 .taken)
+returns-4 c = twice (c .before .before .before .before .before .before .before .before .before .before .before .args .n) (c .before .before .before .before .before .before .before .before .before .before .before .args .rules .now) (c .before .before .before .before .before .before .before .before .before .loop .stamps) (c .before .before .before .before .before .before .before .before .before .loop .clauses) (c .before .before .before .before .before .before .before .before .before .loop .literals) (c .before .before .before .before .before .before .before .before .before .loop .is-open) (c .before .before .before .before .before .before .before .before .before .loop .i) (c .before .before .before .before .before .before .before .before .before .loop .inv) (c .before .before .before .before .before .before .before .before .loop-test .taken) (c .before .before .before .before .before .before .variable-of .result .0) (handed (c .before .before .before .before .before .before)) (c .before .before .before .before .before .if1 .left) (c .before .before .before .before .if3 .left) (c .before .before .before .if4 .left)
+    (eqb-true (getD (c .before .before .before .before .before .before .before .before .before .loop .stamps) (c .before .before .before .before .before .before .variable-of .result .0) 0) (c .before .before .before .before .before .before .before .before .before .loop .clauses + 1) (sym (c .before .is-stamped .ensures) ∙ c .if5 .taken))
 
-mul-stamps : tie.Need-mul-stamps Inv-loop μ-loop
-mul-stamps c = omega (arith, c .before .before .before .before .before .before .before .before .before .pre)
-
-array-write-stamps : tie.Need-array-write-stamps Inv-loop μ-loop
-array-write-stamps c = omega (arith, c .before .before .before .before .before .before .before .before .before .pre)
+stamp-requires : tie.Need-stamp-requires Inv-loop μ-loop
+stamp-requires c κs = (omega (arith, c .before .before .before .before .before .before .before .before .before .before .before .before .pre), omega (arith, c .before .before .before .before .before .before .before .before .before .before .loop .inv .few))
 
 add-literals : tie.Need-add-literals Inv-loop μ-loop
-add-literals c = omega (arith, c .before .before .before .before .before .before .before .loop .inv .many)
+add-literals c = omega (arith, c .before .before .before .before .before .before .before .before .before .before .before .loop .inv .many)
 
 loop-less : tie.Need-loop-less Inv-loop μ-loop
 loop-less c = search needs
@@ -89,7 +84,9 @@ loop-less-2 c = search needs
 
 loop-again-2 : tie.Need-loop-again-2 Inv-loop μ-loop
 loop-again-2 c =
-    joined (c .before .before .before .before .before .before .before .before .before .args .n) (c .before .before .before .before .before .before .before .before .before .args .rules .now) (c .before .before .before .before .before .before .before .loop .stamps) (c .before .before .before .before .before .before .before .loop .clauses) (c .before .before .before .before .before .before .before .loop .literals) (c .before .before .before .before .before .before .before .loop .is-open) (c .before .before .before .before .before .before .before .loop .i) (c .before .before .before .before .before .before .before .loop .inv) (c .before .before .before .before .before .before .loop-test .taken) (c .before .before .before .before .variable-of .result .0) (handed (c .before .before .before .before)) (c .before .before .before .if1 .left) (c .before .before .if3 .left) (c .before .if4 .left) (c .before .before .before .before .before .before .before .before .before .pre) (c .if5 .left)
+    subst (λ (l : List ℕ). Scanning (c .before .before .before .before .before .before .before .before .before .before .before .before .before .args .n) (c .before .before .before .before .before .before .before .before .before .before .before .before .before .args .rules .now) l (c .before .before .before .before .before .before .before .before .before .before .before .loop .clauses) (c .before .before .before .before .before .before .before .before .before .before .before .loop .literals + 1) true (c .before .before .before .before .before .before .before .before .before .before .before .loop .i + 1)) (sym (c .stamp .ensures))
+    (joined (c .before .before .before .before .before .before .before .before .before .before .before .before .before .args .n) (c .before .before .before .before .before .before .before .before .before .before .before .before .before .args .rules .now) (c .before .before .before .before .before .before .before .before .before .before .before .loop .stamps) (c .before .before .before .before .before .before .before .before .before .before .before .loop .clauses) (c .before .before .before .before .before .before .before .before .before .before .before .loop .literals) (c .before .before .before .before .before .before .before .before .before .before .before .loop .is-open) (c .before .before .before .before .before .before .before .before .before .before .before .loop .i) (c .before .before .before .before .before .before .before .before .before .before .before .loop .inv) (c .before .before .before .before .before .before .before .before .before .before .loop-test .taken) (c .before .before .before .before .before .before .before .before .variable-of .result .0) (handed (c .before .before .before .before .before .before .before .before)) (c .before .before .before .before .before .before .before .if1 .left) (c .before .before .before .before .before .before .if3 .left) (c .before .before .before .before .before .if4 .left) (c .before .before .before .before .before .before .before .before .before .before .before .before .before .pre)
+    (eqb-false (getD (c .before .before .before .before .before .before .before .before .before .before .before .loop .stamps) (c .before .before .before .before .before .before .before .before .variable-of .result .0) 0) (c .before .before .before .before .before .before .before .before .before .before .before .loop .clauses + 1) (sym (c .before .before .before .is-stamped .ensures) ∙ c .before .before .if5 .left)))
 
 returns-5 : tie.Need-returns-5 Inv-loop μ-loop
 returns-5 c = left-open (c .before .before .before .before .args .n) (c .before .before .before .before .args .rules .now) (c .before .before .loop .stamps) (c .before .before .loop .clauses) (c .before .before .loop .literals) (c .before .before .loop .is-open) (c .before .before .loop .i) (c .before .before .loop .inv) (c .before .loop-test .left) (c .if6 .taken)
@@ -113,13 +110,10 @@ scan-rules-spec =
     add-clauses
     returns-2
     returns-3
-    add-stamp
-    cast-stamp
-    mul-if5
-    array-read-if5
+    add-t19
+    is-stamped-requires
     returns-4
-    mul-stamps
-    array-write-stamps
+    stamp-requires
     add-literals
     loop-less
     loop-again

@@ -1,0 +1,15 @@
+// The text of the test cases: lines of single-spaced values, and the lists among them.
+mod arrays;
+mod list;
+mod text;
+
+pub use arrays::bytes;
+pub use arrays::numbers;
+pub use list::Filled;
+pub use list::read_bytes;
+pub use list::read_numbers;
+pub use text::Number;
+pub use text::line_end;
+pub use text::past_byte;
+pub use text::past_word;
+pub use text::read_number;

@@ -1,0 +1,153 @@
+-- The rule file (document 01, "The rule file"), a narrowed DIMACS CNF, and the causes to refuse one ("Refusals", 1 to 7).
+use mathlib.Core.Bool.{Bool, true, false, cond, not, _&&_, _||_}
+use mathlib.Core.List.{List, [], _∷_, map}
+use mathlib.Core.Option.{Option, none, some, Option·getD}
+use Prim.Native.Nat.{ℕ, zero, suc, _+_}
+use lib.Dec.{eqb, leb, ltb}
+use lib.IntN.{ℤ, pos, negsuc}
+use lib.ListN.{length, drop}
+use Rattle.literal.specs.Literal.{variable}
+use Rattle.formula.specs.Formula.{closes}
+use Rattle.refusal.specs.declared.Refusal.{Refusal}
+use Rattle.refusal.specs.Reply.{refusal, first, cause}
+use Rattle.lent.specs.Limits.{maxVariables, maxClauses, maxLiterals}
+use Rattle.lent.specs.Sound.{Scan, unread, mayJoin, after, unclosed}
+use Rattle.decimal.specs.Decimal.{number}
+use Rattle.dimacs.specs.Class.{blank, minus, letterC, classOf}
+
+-- the bytes that pass a test, up to the first that does not
+abbrev pub leading : (ℕ → Bool) → List ℕ → List ℕ
+leading p [] = []
+leading p (b ∷ s) = cond (p b) (b ∷ leading p s) []
+
+-- The place of the first line that is no comment: "Lines beginning with `c` may precede the header and run to a line feed or the end of the file." The flag says whether the bytes begin inside such a line.
+abbrev pub pastComments : Bool → ℕ → List ℕ → ℕ
+pastComments inside at [] = at
+pastComments false at (b ∷ s) = cond (eqb (classOf b) letterC) (pastComments true (suc at) s) at
+pastComments true at (b ∷ s) = pastComments (not (eqb b 10)) (suc at) s
+
+-- `p cnf `
+abbrev pub preamble : List ℕ
+preamble = 112 ∷ 32 ∷ 99 ∷ 110 ∷ 102 ∷ 32 ∷ []
+
+-- some bytes begin with others
+abbrev pub startsWith : List ℕ → List ℕ → Bool
+startsWith [] s = true
+startsWith (p ∷ ps) [] = false
+startsWith (p ∷ ps) (b ∷ s) = eqb p b && startsWith ps s
+
+-- a header's N and C, and how many bytes it has with its line feed
+pub record Header : Type 0 where
+  pub variables : ℕ
+  pub clauses : ℕ
+  pub size : ℕ
+
+-- a header needs both of its numbers
+abbrev pub numbered : Option ℕ → Option ℕ → ℕ → Option Header
+numbered none c size = none
+numbered (some n) none size = none
+numbered (some n) (some c) size = some (record { variables = n; clauses = c; size = size })
+
+-- the bytes before the first that is stop, and those after it
+abbrev pub before : ℕ → List ℕ → List ℕ
+before stop s = leading (λ (b : ℕ). not (eqb b stop)) s
+
+abbrev pub beyond : ℕ → List ℕ → List ℕ
+beyond stop s = drop (suc (length (before stop s))) s
+
+-- "The header is `p cnf N C`, single spaces, then a line feed.": what some bytes begin with, if it is one
+abbrev pub header : List ℕ → Option Header
+header s =
+    let n : List ℕ = before 32 (drop 6 s) in
+    let rest : List ℕ = beyond 32 (drop 6 s) in
+    let c : List ℕ = before 10 rest in
+    cond (startsWith preamble s && ltb (length c) (length rest)) (numbered (number n) (number c) (6 + (suc (length n) + suc (length c)))) none
+
+-- "N is 1 to 640, C 0 to 9,000"
+abbrev pub outside : ℕ → ℕ → Bool
+outside n c = eqb n 0 || (ltb maxVariables n || ltb maxClauses c)
+
+-- "tokens (runs of bytes that are not blank ..)": a token's bytes, and the place of the first
+pub record Word : Type 0 where
+  pub place : ℕ
+  pub bytes : List ℕ
+
+-- a blank between tokens, and a byte of one
+abbrev pub isGap : ℕ → Bool
+isGap b = eqb (classOf b) blank
+
+abbrev pub inToken : ℕ → Bool
+inToken b = not (isGap b)
+
+-- a token in front of others, where one starts
+abbrev pub starting : Bool → Word → List Word → List Word
+starting true w ws = w ∷ ws
+starting false w ws = ws
+
+-- The tokens of some bytes that stand at a place, in order: one starts at each byte that is not blank and does not go on with another. The flag says whether the bytes begin inside a token.
+abbrev pub words : Bool → ℕ → List ℕ → List Word
+words inside at [] = []
+words inside at (b ∷ s) =
+    starting (not inside && inToken b) (record { place = at; bytes = b ∷ leading inToken s }) (words (inToken b) (suc at) s)
+
+-- a number as it stands, and behind a minus, where 0 is none
+abbrev pub positive : Option ℕ → Option ℤ
+positive none = none
+positive (some v) = some (pos v)
+
+abbrev pub negative : Option ℕ → Option ℤ
+negative none = none
+negative (some zero) = none
+negative (some (suc k)) = some (negsuc k)
+
+-- "A token is a number, or a minus and a number other than 0."
+abbrev pub signed : List ℕ → Option ℤ
+signed [] = none
+signed (b ∷ w) = cond (eqb (classOf b) minus) (negative (number w)) (positive (number (b ∷ w)))
+
+-- the list's element that a token gives
+abbrev pub element : Word → ℤ
+element w = Option·getD (signed (w .bytes)) (pos 0)
+
+-- the cause to refuse a token at a place, after what s says was read: "at one token 3, 6, 7, 4, 5"
+abbrev pub badToken : ℕ → ℕ → Scan → ℕ → Option ℤ → Option Refusal
+badToken n c s place none = some (refusal 3 place)
+badToken n c s place (some x) =
+    first
+    (cause (leb c (s .clauses)) 6 place
+    ∷ cause (not (closes x) && leb maxLiterals (s .literals)) 7 place
+    ∷ cause (ltb n (variable x)) 4 place
+    ∷ cause (not (closes x) && not (mayJoin (s .clause) x)) 5 place
+    ∷ [])
+
+-- the first cause from a token on, in a file of n variables, c clauses and so many bytes
+abbrev pub badTokens : ℕ → ℕ → ℕ → Scan → List Word → Option Refusal
+badTokens n c size s [] = cause (ltb (s .clauses) c || unclosed (s .clause)) 6 size
+badTokens n c size s (w ∷ ws) =
+    first (badToken n c s (w .place) (signed (w .bytes)) ∷ badTokens n c size (after s (element w)) ws ∷ [])
+
+-- what reading a file gives: a refusal, or N, C and the rule list
+pub data Reading : Type 0 where
+  refuses : Refusal → Reading
+  gives : ℕ → ℕ → List ℤ → Reading
+
+-- the reading of good tokens is the list of their numbers
+abbrev pub readTokens : ℕ → ℕ → List Word → Option Refusal → Reading
+readTokens n c ws none = gives n c (map element ws)
+readTokens n c ws (some r) = refuses r
+
+-- the reading of a file whose first line that is no comment stands at a place
+abbrev pub readFrom : List ℕ → ℕ → Option Header → Reading
+readFrom file at none = refuses (refusal 1 at)
+readFrom file at (some h) =
+    let next : ℕ = at + h .size in
+    let ws : List Word = words false next (drop next file) in
+    cond (outside (h .variables) (h .clauses))
+    (refuses (refusal 2 at))
+    (readTokens (h .variables) (h .clauses) ws (badTokens (h .variables) (h .clauses) (length file) unread ws))
+
+-- the reading of a file
+abbrev pub reading : List ℕ → Reading
+reading file =
+    let at : ℕ = pastComments false 0 file in
+    readFrom file at (header (drop at file))

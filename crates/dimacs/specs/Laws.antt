@@ -1,0 +1,161 @@
+-- The equations by which proofs go through the bytes of a file.
+use mathlib.Core.Path.{_≡_, refl, ap, _∙_}
+use mathlib.Core.Bool.{Bool, true, false, cond, not, and-eq-true-iff}
+use mathlib.Core.List.{List, [], _∷_, _++_}
+use Prim.Native.Nat.{ℕ, suc, _+_, _≤_, _<_, zero-le, suc-le-suc}
+use native.Mathlib.Nat.{not-suc-le-zero, le-of-suc-le-suc}
+use native.Mathlib.Numerals.{add-one}
+use native.Mathlib.Omega.{arith}
+use lib.Dec.{eqb}
+use lib.ListN.{length, getD, take, drop, drop-of-length-le}
+use lib.Seq.{drop-cons, drop-append-add, drop-append-seam}
+use borrow.Author.Tests.{eq-eqb, ne-eqb}
+use Rattle.formula.specs.Formula.{all}
+use Rattle.decimal.specs.Decimal.{isDigit, onlyDigits}
+use Rattle.decimal.specs.Laws.{digit-low}
+use Rattle.dimacs.specs.Class.{blank, digit, minus, letterC, other, isBlank, classOf}
+use Rattle.dimacs.specs.Format.{leading, before, beyond, isGap, inToken, Word, words}
+
+-- a digit is in the class of digits
+pub digit-class : (b : ℕ) → isDigit b ≡ true → classOf b ≡ digit
+unfolding classOf
+digit-class b e =
+    rw (ne-eqb b 9 (omega (arith, digit-low b e)), ne-eqb b 10 (omega (arith, digit-low b e)), ne-eqb b 13 (omega (arith, digit-low b e)), ne-eqb b 32 (omega (arith, digit-low b e)), e)
+
+pub class-digit : (b : ℕ) → classOf b ≡ digit → isDigit b ≡ true
+unfolding classOf
+class-digit b e = go (isBlank b) (isDigit b) refl e
+  where
+    below : (t u : Bool) → cond t minus (cond u letterC other) ≡ digit → ⊥
+    below true u f = omega arith
+    below false true f = omega arith
+    below false false f = omega arith
+
+    go : (t u : Bool) → isDigit b ≡ u → cond t blank (cond u digit (cond (eqb b 45) minus (cond (eqb b 99) letterC other))) ≡ digit → isDigit b ≡ true
+    go true u g f = absurd (omega arith)
+    go false true g f = g
+    go false false g f = absurd (below (eqb b 45) (eqb b 99) f)
+
+pub class-other : (b : ℕ) → (classOf b ≡ digit → ⊥) → isDigit b ≡ false
+class-other b h = go (isDigit b) refl
+  where
+    go : (t : Bool) → isDigit b ≡ t → isDigit b ≡ false
+    go true e = absurd (h (digit-class b e))
+    go false e = e
+
+pub digit-in-token : (b : ℕ) → isDigit b ≡ true → inToken b ≡ true
+digit-in-token b e = rw (digit-class b e)
+
+-- a run of bytes that pass a test is what leads up to the first that does not
+pub leading-seam : (p : ℕ → Bool) (w : List ℕ) (b : ℕ) (r : List ℕ) → all p w ≡ true → p b ≡ false → leading p (w ++ b ∷ r) ≡ w
+leading-seam p [] b r h e = rw (e)
+leading-seam p (x ∷ w) b r h e =
+    let parts = and-eq-true-iff (p x) (all p w) .0 h in
+    rw (parts .0) (ap (λ (l : List ℕ). x ∷ l) (leading-seam p w b r (parts .1) e))
+
+pub all-digits : (p : ℕ → Bool) → ((b : ℕ) → isDigit b ≡ true → p b ≡ true) → (w : List ℕ) → onlyDigits w ≡ true → all p w ≡ true
+all-digits p f [] h = refl
+all-digits p f (b ∷ w) h =
+    let parts = and-eq-true-iff (isDigit b) (onlyDigits w) .0 h in
+    rw (f b (parts .0)) (all-digits p f w (parts .1))
+
+-- digits before a byte that is none
+pub before-digits : (w : List ℕ) (stop : ℕ) (r : List ℕ) → stop < 48 → onlyDigits w ≡ true → before stop (w ++ stop ∷ r) ≡ w
+before-digits w stop r h e =
+    leading-seam (λ (b : ℕ). not (eqb b stop)) w stop r
+    (all-digits (λ (b : ℕ). not (eqb b stop)) (λ b f. rw (ne-eqb b stop (omega (arith, digit-low b f)))) w e)
+    (rw (eq-eqb stop stop refl))
+
+pub beyond-digits : (w : List ℕ) (stop : ℕ) (r : List ℕ) → stop < 48 → onlyDigits w ≡ true → beyond stop (w ++ stop ∷ r) ≡ r
+beyond-digits w stop r h e =
+    let next : suc (length w) ≡ length w + 1 = omega arith in
+    rw (before-digits w stop r h e, next) (drop-append-add w (stop ∷ r) 1)
+
+-- how far a run goes from an index on: a byte that passes, one that does not, the end
+pub run-more : (p : ℕ → Bool) (s : List ℕ) (i : ℕ) → i < length s → p (getD s i 0) ≡ true
+    → length (leading p (drop i s)) ≡ suc (length (leading p (drop (i + 1) s)))
+run-more p s i h e = rw (drop-cons s i 0 h, e, add-one i)
+
+pub run-stop : (p : ℕ → Bool) (s : List ℕ) (i : ℕ) → i < length s → p (getD s i 0) ≡ false → length (leading p (drop i s)) ≡ 0
+run-stop p s i h e = rw (drop-cons s i 0 h, e)
+
+pub run-past : (p : ℕ → Bool) (s : List ℕ) (i : ℕ) → length s ≤ i → length (leading p (drop i s)) ≡ 0
+run-past p s i h = rw (drop-of-length-le s h)
+
+pub run-inside : (p : ℕ → Bool) (s : List ℕ) → length (leading p s) ≤ length s
+run-inside p [] = zero-le
+run-inside p (b ∷ s) = go (p b) (run-inside p s)
+  where
+    go : (t : Bool) → length (leading p s) ≤ length s → length (cond t (b ∷ leading p s) []) ≤ suc (length s)
+    go true h = suc-le-suc h
+    go false h = zero-le
+
+-- what ends a run does not pass
+pub run-ends : (p : ℕ → Bool) (s : List ℕ) → length (leading p s) < length s → p (getD s (length (leading p s)) 0) ≡ false
+run-ends p [] h = absurd (not-suc-le-zero h)
+run-ends p (b ∷ s) h = go (p b) refl (run-ends p s) h
+  where
+    go : (t : Bool) → p b ≡ t → (length (leading p s) < length s → p (getD s (length (leading p s)) 0) ≡ false)
+        → length (cond t (b ∷ leading p s) []) < suc (length s) → p (getD (b ∷ s) (length (cond t (b ∷ leading p s) [])) 0) ≡ false
+    go true e ih k = ih (le-of-suc-le-suc k)
+    go false e ih k = e
+
+-- the run itself
+pub run-take : (p : ℕ → Bool) (s : List ℕ) → take (length (leading p s)) s ≡ leading p s
+run-take p [] = refl
+run-take p (b ∷ s) = go (p b) (run-take p s)
+  where
+    go : (t : Bool) → take (length (leading p s)) s ≡ leading p s → take (length (cond t (b ∷ leading p s) [])) (b ∷ s) ≡ cond t (b ∷ leading p s) []
+    go true e = ap (λ (l : List ℕ). b ∷ l) e
+    go false e = refl
+
+-- A run of bytes that leave the flag as it is, up to one at which a token may start: the tokens are those past the run.
+words-past : (inside : Bool) (p : ℕ → Bool)
+    → ((b at : ℕ) (s : List ℕ) → p b ≡ true → words inside at (b ∷ s) ≡ words inside (suc at) s)
+    → ((b at : ℕ) (s : List ℕ) → p b ≡ false → words inside at (b ∷ s) ≡ words false at (b ∷ s))
+    → (s : List ℕ) (at : ℕ) → words inside at s ≡ words false (at + length (leading p s)) (drop (length (leading p s)) s)
+words-past inside p more stop [] at = refl
+words-past inside p more stop (b ∷ s) at = go (p b) refl (words-past inside p more stop s (suc at))
+  where
+    go : (t : Bool) → p b ≡ t → words inside (suc at) s ≡ words false (suc at + length (leading p s)) (drop (length (leading p s)) s)
+        → words inside at (b ∷ s) ≡ words false (at + length (leading p (b ∷ s))) (drop (length (leading p (b ∷ s))) (b ∷ s))
+    go true e ih =
+        let same : suc at + length (leading p s) ≡ at + suc (length (leading p s)) = omega arith in
+        let run : suc (length (leading p s)) ≡ length (leading p (b ∷ s)) = rw (e) in
+        more b at s e ∙ ih
+        ∙ ap (λ (k : ℕ). words false k (drop (length (leading p s)) s)) same
+        ∙ ap (λ (k : ℕ). words false (at + k) (drop k (b ∷ s))) run
+    go false e ih =
+        let same : at ≡ at + 0 = omega arith in
+        let none : 0 ≡ length (leading p (b ∷ s)) = rw (e) in
+        stop b at s e ∙ ap (λ (k : ℕ). words false k (b ∷ s)) same ∙ ap (λ (k : ℕ). words false (at + k) (drop k (b ∷ s))) none
+
+-- blanks before the tokens
+pub words-gap : (s : List ℕ) (at : ℕ) → words false at s ≡ words false (at + length (leading isGap s)) (drop (length (leading isGap s)) s)
+words-gap = words-past false isGap (λ b at s e. rw e) (λ b at s e. refl)
+
+-- the rest of a token that was begun
+words-rest : (s : List ℕ) (at : ℕ) → words true at s ≡ words false (at + length (leading inToken s)) (drop (length (leading inToken s)) s)
+words-rest = words-past true inToken (λ b at s e. rw e) (λ b at s e. rw e)
+
+-- the first token of bytes that begin with one, and what follows it
+pub words-first : (s : List ℕ) (at : ℕ) → 0 < length s → inToken (getD s 0 0) ≡ true
+    → words false at s
+    ≡ record { place = at; bytes = leading inToken s } ∷ words false (at + length (leading inToken s)) (drop (length (leading inToken s)) s)
+words-first [] at h e = absurd (not-suc-le-zero h)
+words-first (b ∷ s) at h e =
+    let same : suc at + length (leading inToken s) ≡ at + suc (length (leading inToken s)) = omega arith in
+    rw (e)
+    (ap (λ (ws : List Word). record { place = at; bytes = b ∷ leading inToken s } ∷ ws)
+    (words-rest s (suc at) ∙ ap (λ (k : ℕ). words false k (drop (length (leading inToken s)) s)) same))
+
+-- a token and the blank that ends it, in front of more
+pub words-token : (w : List ℕ) (b : ℕ) (r : List ℕ) (at : ℕ) → 0 < length w → all inToken w ≡ true → inToken b ≡ false
+    → words false at (w ++ b ∷ r) ≡ record { place = at; bytes = w } ∷ words false (suc (at + length w)) r
+words-token [] b r at l h e = absurd (not-suc-le-zero l)
+words-token (x ∷ w) b r at l h e =
+    let run : leading inToken ((x ∷ w) ++ b ∷ r) ≡ x ∷ w = leading-seam inToken (x ∷ w) b r h e in
+    words-first ((x ∷ w) ++ b ∷ r) at (omega arith) (and-eq-true-iff (inToken x) (all inToken w) .0 h .0)
+    ∙ ap (λ (v : List ℕ). record { place = at; bytes = v } ∷ words false (at + length v) (drop (length v) ((x ∷ w) ++ b ∷ r))) run
+    ∙ ap (λ (t : List ℕ). record { place = at; bytes = x ∷ w } ∷ words false (at + length (x ∷ w)) t) (drop-append-seam (x ∷ w) (b ∷ r))
+    ∙ rw (e)

@@ -1,0 +1,190 @@
+-- "Every sound list, written and read, is that list again; a file in the writer's form, read and written, is that file." (document 01, "The rule file")
+use mathlib.Core.Path.{_≡_, refl, sym, ap, _∙_}
+use mathlib.Core.Bool.{Bool, true, false, cond, _&&_, and-eq-true-iff}
+use mathlib.Core.List.{List, [], _∷_, _++_, map, append-assoc}
+use mathlib.Core.Option.{none, some, Option·some-ne-none}
+use Prim.Native.Nat.{ℕ, suc, _+_, _≤_, _<_}
+use native.Mathlib.Nat.{zero-add, not-suc-le-zero}
+use native.Mathlib.Omega.{arith}
+use lib.Dec.{ltb, leb}
+use lib.IntN.{ℤ, pos, negsuc}
+use lib.ListN.{length, drop, length-append}
+use lib.Seq.{drop-append-seam}
+use borrow.Author.Tests.{ne-eqb, le-ltb, lt-ltb, lt-leb, leb-true, ltb-true, eqb-true}
+use Rattle.literal.specs.Literal.{variable}
+use Rattle.formula.specs.Formula.{all, closes, clauses}
+use Rattle.lent.specs.Limits.{maxVariables, maxClauses, maxLiterals}
+use Rattle.lent.specs.Laws.{zeros, zeros-clauses}
+use Rattle.lent.specs.Sound.{Scan, unread, mayJoin, stands, after, unclosed, badRule}
+use Rattle.decimal.specs.Decimal.{decimal, number, onlyDigits, isDigit}
+use Rattle.decimal.specs.Laws.{decimal-digits, decimal-some, number-decimal}
+use Rattle.dimacs.specs.Class.{classOf}
+use Rattle.dimacs.specs.Format.{header, numbered, outside, preamble, inToken, Word, words, signed, element, badToken, badTokens, gives, reading, readFrom}
+use Rattle.dimacs.specs.Laws.{digit-class, digit-in-token, all-digits, before-digits, beyond-digits, words-token}
+use Rattle.dimacs.specs.Sizes.{sound-step, zeros-some, sound-clauses}
+use Rattle.dimacs.specs.Written.{numeral, separator, body, heading, written}
+
+-- a written number is one token, and reads as that number
+numeral-some : (x : ℤ) → 0 < length (numeral x)
+numeral-some (pos v) = decimal-some v
+numeral-some (negsuc k) = omega arith
+
+numeral-token : (x : ℤ) → all inToken (numeral x) ≡ true
+unfolding classOf
+numeral-token (pos v) = all-digits inToken digit-in-token (decimal v) (decimal-digits v)
+numeral-token (negsuc k) = all-digits inToken digit-in-token (decimal (suc k)) (decimal-digits (suc k))
+
+unsigned : (w : List ℕ) (v : ℕ) → 0 < length w → onlyDigits w ≡ true → number w ≡ some v → signed w ≡ some (pos v)
+unsigned [] v l h e = absurd (not-suc-le-zero l)
+unsigned (b ∷ w) v l h e = rw (digit-class b (and-eq-true-iff (isDigit b) (onlyDigits w) .0 h .0), e)
+
+signed-numeral : (x : ℤ) → variable x < 100000 → signed (numeral x) ≡ some x
+unfolding classOf
+signed-numeral (pos v) h = unsigned (decimal v) v (decimal-some v) (decimal-digits v) (number-decimal v h)
+signed-numeral (negsuc k) h = rw (number-decimal (suc k) h)
+
+separator-blank : (x : ℤ) → inToken (separator x) ≡ false
+unfolding classOf
+separator-blank x = go (closes x)
+  where
+    go : (b : Bool) → inToken (cond b 10 32) ≡ false
+    go true = refl
+    go false = refl
+
+-- the tokens of a written list
+abbrev tokensOf : ℕ → List ℤ → List Word
+tokensOf at [] = []
+tokensOf at (x ∷ l) = record { place = at; bytes = numeral x } ∷ tokensOf (suc (at + length (numeral x))) l
+
+words-body : (l : List ℤ) (at : ℕ) → words false at (body l) ≡ tokensOf at l
+words-body [] at = refl
+words-body (x ∷ l) at =
+    words-token (numeral x) (separator x) (body l) at (numeral-some x) (numeral-token x) (separator-blank x)
+    ∙ ap (λ (ws : List Word). record { place = at; bytes = numeral x } ∷ ws) (words-body l (suc (at + length (numeral x))))
+
+-- an element that stands, in a file with clauses to come, is no bad token
+good-token : (n c : ℕ) (s : Scan) (at : ℕ) (x : ℤ) → s .clauses < c → stands n s x ≡ true → badToken n c s at (some x) ≡ none
+good-token n c s at x h e = go (closes x) refl
+  where
+    go : (b : Bool) → closes x ≡ b → badToken n c s at (some x) ≡ none
+    go true f =
+        rw (lt-leb c (s .clauses) h, f, le-ltb n (variable x) (omega (arith, eqb-true (variable x) 0 f)))
+    go false f =
+        let parts = and-eq-true-iff (leb (variable x) n) (ltb (s .literals) maxLiterals && mayJoin (s .clause) x) .0 (rw (f) at e) in
+        let rest = and-eq-true-iff (ltb (s .literals) maxLiterals) (mayJoin (s .clause) x) .0 (parts .1) in
+        rw (
+          lt-leb c (s .clauses) h,
+          f,
+          lt-leb maxLiterals (s .literals) (ltb-true (s .literals) maxLiterals (rest .0)),
+          le-ltb n (variable x) (leb-true (variable x) n (parts .0)),
+          rest .1,
+        )
+
+-- a variable that stands is one of the n
+stands-inside : (n : ℕ) (s : Scan) (x : ℤ) → stands n s x ≡ true → variable x ≤ n
+stands-inside n s x e = go (closes x) refl
+  where
+    go : (b : Bool) → closes x ≡ b → variable x ≤ n
+    go true f = omega (arith, eqb-true (variable x) 0 f)
+    go false f = leb-true (variable x) n (and-eq-true-iff (leb (variable x) n) (ltb (s .literals) maxLiterals && mayJoin (s .clause) x) .0 (rw (f) at e) .0)
+
+-- the tokens of a sound list are good, and their elements are the list
+record Good (n c size : ℕ) (s : Scan) (at : ℕ) (l : List ℤ) : Type 0 where
+  passed : badTokens n c size s (tokensOf at l) ≡ none
+  same : map element (tokensOf at l) ≡ l
+
+good-tokens : (l : List ℤ) (n c size : ℕ) (s : Scan) (i at : ℕ) → n < 100000 → badRule n s i l ≡ none → c ≡ s .clauses + zeros l
+    → Good n c size s at l
+good-tokens [] n c size s i at h e f =
+    record { passed = rw (le-ltb (s .clauses) c (omega arith), closed (unclosed (s .clause)) e); same = refl }
+  where
+    closed : (t : Bool) → cond t (some i) none ≡ none → t ≡ false
+    closed true g = absurd (Option·some-ne-none i g)
+    closed false g = refl
+good-tokens (x ∷ l) n c size s i at h e f =
+    go (good-tokens l n c size (after s x) (suc i) (suc (at + length (numeral x))) h (sound .1) count)
+  where
+    sound : (stands n s x ≡ true) × (badRule n (after s x) (suc i) l ≡ none)
+    sound = sound-step n s i x l e
+
+    count : c ≡ after s x .clauses + zeros l
+    count = counted (closes x) refl
+      where
+        counted : (b : Bool) → closes x ≡ b → c ≡ after s x .clauses + zeros l
+        counted true g = let here : c ≡ s .clauses + suc (zeros l) = rw (g) at f in rw (g) (omega arith)
+        counted false g = rw (g) (rw (g) at f)
+
+    read : signed (numeral x) ≡ some x
+    read = signed-numeral x (omega (arith, stands-inside n s x (sound .0)))
+
+    go : Good n c size (after s x) (suc (at + length (numeral x))) l → Good n c size s at (x ∷ l)
+    go g =
+        record {
+          passed = rw (read, good-token n c s at x (omega (arith, zeros-some n s i x l e)) (sound .0), g .passed);
+          same = rw (read) (ap (λ (r : List ℤ). x ∷ r) (g .same));
+        }
+
+-- the written header reads as N and C
+header-fields : (w v r : List ℕ) → onlyDigits w ≡ true → onlyDigits v ≡ true
+    → header (preamble ++ (w ++ 32 ∷ (v ++ 10 ∷ r))) ≡ numbered (number w) (number v) (6 + (suc (length w) + suc (length v)))
+header-fields w v r h k =
+    rw (
+      beyond-digits w 32 (v ++ 10 ∷ r) (omega arith) h,
+      before-digits w 32 (v ++ 10 ∷ r) (omega arith) h,
+      before-digits v 10 r (omega arith) k,
+      lt-ltb (length v) (length (v ++ 10 ∷ r)) (omega (arith, length-append v (10 ∷ r))),
+    )
+
+heading-joined : (n c : ℕ) (r : List ℕ) → heading n c ++ r ≡ preamble ++ (decimal n ++ 32 ∷ (decimal c ++ 10 ∷ r))
+heading-joined n c r =
+    ap (λ (t : List ℕ). preamble ++ t)
+    (append-assoc (decimal n) (32 ∷ (decimal c ++ 10 ∷ [])) r ∙ ap (λ (t : List ℕ). decimal n ++ 32 ∷ t) (append-assoc (decimal c) (10 ∷ []) r))
+
+pub heading-length : (n c : ℕ) → 6 + (suc (length (decimal n)) + suc (length (decimal c))) ≡ length (heading n c)
+heading-length n c =
+    omega (arith, length-append (decimal n) (32 ∷ (decimal c ++ 10 ∷ [])), length-append (decimal c) (10 ∷ []))
+
+header-written : (n c : ℕ) (r : List ℕ) → n < 100000 → c < 100000
+    → header (heading n c ++ r) ≡ some (record { variables = n; clauses = c; size = length (heading n c) })
+header-written n c r h k =
+    ap header (heading-joined n c r)
+    ∙ header-fields (decimal n) (decimal c) r (decimal-digits n) (decimal-digits c)
+    ∙ rw (number-decimal n h, number-decimal c k) (ap (λ (size : ℕ). some (record { variables = n; clauses = c; size = size })) (heading-length n c))
+
+inside : (n c : ℕ) → 1 ≤ n → n ≤ maxVariables → c ≤ maxClauses → outside n c ≡ false
+inside n c h k f = rw (ne-eqb n 0 (omega arith), le-ltb maxVariables n k, le-ltb maxClauses c f)
+
+-- past the heading come the tokens of the list
+words-written : (n : ℕ) (l : List ℤ) (at : ℕ) → at ≡ length (heading n (length (clauses l))) → words false at (drop at (written n l)) ≡ tokensOf at l
+words-written n l at e =
+    ap (λ (s : List ℕ). words false at s) (ap (λ (k : ℕ). drop k (written n l)) e ∙ drop-append-seam (heading n (length (clauses l))) (body l))
+    ∙ words-body l at
+
+-- every sound list, written and read, is that list again
+pub read-written : (n : ℕ) (l : List ℤ) → 1 ≤ n → n ≤ maxVariables → badRule n unread 0 l ≡ none
+    → reading (written n l) ≡ gives n (length (clauses l)) l
+unfolding classOf
+read-written n l h k e =
+    ap (readFrom (written n l) 0) (header-written n c (body l) (omega arith) (omega (arith, small)))
+    ∙ rw (inside n c h k small, words-written n l (0 + length (heading n c)) (zero-add (length (heading n c))), good .passed) (ap (gives n c) (good .same))
+  where
+    c : ℕ
+    c = length (clauses l)
+
+    closed : zeros l ≡ c
+    closed = zeros-clauses n unread 0 l e .0
+
+    small : c ≤ maxClauses
+    small = sound-clauses n l e
+
+    good : Good n c (length (written n l)) unread (0 + length (heading n c)) l
+    good = good-tokens l n c (length (written n l)) unread 0 (0 + length (heading n c)) (omega arith) e (omega (arith, closed))
+
+-- a file in the writer's form, read and written, is that file
+pub written-read : (n : ℕ) (l : List ℤ) → 1 ≤ n → n ≤ maxVariables → badRule n unread 0 l ≡ none
+    → (file : List ℕ) → file ≡ written n l → (n′ c′ : ℕ) (l′ : List ℤ) → reading file ≡ gives n′ c′ l′ → written n′ l′ ≡ file
+written-read n l h k e file f n′ c′ l′ g =
+    let same : gives n (length (clauses l)) l ≡ gives n′ c′ l′ = sym (read-written n l h k e) ∙ ap reading (sym f) ∙ g in
+    let same-n : n′ ≡ n = cc in
+    let same-l : l′ ≡ l = cc in
+    rw (same-n, same-l) (sym f)

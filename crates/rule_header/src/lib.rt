@@ -1,0 +1,100 @@
+// The header of a rule file, and the comment lines before it.
+use rule_tokens::Number;
+ghost use mathlib.Core.Bool.{false};
+ghost use mathlib.Core.Path.{_≡_};
+ghost use Prim.Native.Nat.{_+_, _≤_};
+ghost use lib.ListN.{length, drop};
+ghost use Rattle.dimacs.specs.Format.{pastComments, preamble, startsWith, before, header};
+ghost use Rattle.rule_header.specs.Heading.{headingAs};
+
+const PREAMBLE: [u8; 6] = [112, 32, 99, 110, 102, 32];
+
+// A header's two numbers and the place past it.
+pub enum Heading {
+    Malformed,
+    Found {
+        variables: usize,
+        clauses: usize,
+        next: usize,
+    },
+}
+
+// The place of the first line that is no comment.
+pub fn past_comments(file: &[u8]) -> usize
+    ensures { λ r. ⌜ (r ≡ pastComments false 0 (now (file .entry))) × (r ≤ length (now (file .entry))) ⌝ }
+{
+    let mut inside = false;
+    let mut i = 0;
+    while i < file.len() {
+        if inside {
+            inside = file[i] != 10;
+        } else {
+            if dimacs::class_of(file[i]) != dimacs::LETTER_C {
+                return i;
+            }
+            inside = true;
+        }
+        i += 1;
+    }
+    i
+}
+
+// Whether `p cnf ` stands at a place.
+fn has_preamble(file: &[u8], at: usize) -> bool
+    requires { ⌜ at ≤ length (now file) ⌝ }
+    ensures { λ r. ⌜ r ≡ startsWith preamble (drop at (now (file .entry))) ⌝ }
+{
+    if file.len() - at < 6 {
+        return false;
+    }
+    let mut i = 0;
+    while i < 6 {
+        if file[at + i] != PREAMBLE[i] {
+            return false;
+        }
+        i += 1;
+    }
+    true
+}
+
+// Where the field that begins at a place ends: at the first byte that is `stop`, or at the file's end.
+fn field_end(file: &[u8], from: usize, stop: u8) -> usize
+    ensures { λ r. ⌜ r ≡ from + length (before stop (drop from (now (file .entry)))) ⌝ }
+{
+    let mut i = from;
+    while i < file.len() {
+        if file[i] == stop {
+            return i;
+        }
+        i += 1;
+    }
+    i
+}
+
+// The header at a place. Each field must end with its own byte: a space after N, a line feed after C.
+pub fn heading_at(file: &[u8], at: usize) -> Heading
+    requires { ⌜ at ≤ length (now file) ⌝ }
+    ensures { λ r. ⌜ r ≡ headingAs at (header (drop at (now (file .entry)))) ⌝ }
+{
+    if !has_preamble(file, at) {
+        return Heading::Malformed;
+    }
+    let n_from = at + 6;
+    let n_end = field_end(file, n_from, 32);
+    let c_from = n_end + 1;
+    let c_end = field_end(file, c_from, 10);
+    if file.len() <= c_end {
+        return Heading::Malformed;
+    }
+    let Number::Value(variables) = rule_tokens::number_of(&file[n_from..n_end]) else {
+        return Heading::Malformed;
+    };
+    let Number::Value(clauses) = rule_tokens::number_of(&file[c_from..c_end]) else {
+        return Heading::Malformed;
+    };
+    Heading::Found {
+        variables,
+        clauses,
+        next: c_end + 1,
+    }
+}

@@ -1,0 +1,87 @@
+// The reader of the rule file: it checks and counts first, then fills, so that a refusal leaves the
+// lent list alone.
+mod fill;
+mod tokens;
+
+use refusal::Refusal;
+use rule_header::Heading;
+use tokens::Check;
+ghost use mathlib.Core.Path.{_≡_};
+ghost use Prim.Native.Nat.{_≤_};
+ghost use Rattle.lent.specs.Limits.{maxVariables, maxClauses};
+ghost use Rattle.dimacs.specs.Format.{reading, outside};
+ghost use Rattle.rule_reader.specs.Answers.{tokensRead};
+ghost use Rattle.rule_reader.specs.Read.{readReply, readOutput, replyOf};
+
+const MAX_VARIABLES: usize = 640;
+
+const MAX_CLAUSES: usize = 9000;
+
+// Refused, or N, C and the length of the list.
+pub enum ReadRules {
+    Refused(Refusal),
+    Read {
+        variables: usize,
+        clauses: usize,
+        length: usize,
+    },
+}
+
+// Reads a rule file into a list.
+pub fn read_rules(file: &[u8], rules: &mut [i32]) -> ReadRules
+    ensures reply { λ r. ⌜ replyOf r ≡ readReply (reading (now (file .entry))) (now (rules .entry)) ⌝ }
+    ensures output { λ r. ⌜ now (rules .exit) ≡ readOutput (reading (now (file .entry))) (now (rules .entry)) ⌝ }
+{
+    let place = rule_header::past_comments(file);
+    match rule_header::heading_at(file, place) {
+        Heading::Malformed => ReadRules::Refused(Refusal { number: 1, place }),
+        Heading::Found {
+            variables,
+            clauses,
+            next,
+        } => {
+            if is_outside(variables, clauses) {
+                return ReadRules::Refused(Refusal { number: 2, place });
+            }
+            read_tokens(file, next, variables, clauses, rules)
+        }
+    }
+}
+
+// Whether a header's numbers are out of range.
+fn is_outside(n: usize, count: usize) -> bool
+    ensures { λ r. ⌜ r ≡ outside n count ⌝ }
+{
+    if n == 0 {
+        return true;
+    }
+    if MAX_VARIABLES < n {
+        return true;
+    }
+    MAX_CLAUSES < count
+}
+
+// Reads the tokens from a place on, if the list has room for their numbers.
+fn read_tokens(file: &[u8], from: usize, n: usize, count: usize, rules: &mut [i32]) -> ReadRules
+    requires { ⌜ (n ≤ maxVariables) × (count ≤ maxClauses) ⌝ }
+    ensures reply { λ r. ⌜ replyOf r ≡ readReply (tokensRead n count (now (file .entry)) from) (now (rules .entry)) ⌝ }
+    ensures output { λ r. ⌜ now (rules .exit) ≡ readOutput (tokensRead n count (now (file .entry)) from) (now (rules .entry)) ⌝ }
+{
+    match tokens::check_tokens(file, from, n, count) {
+        Check::Refused(r) => ReadRules::Refused(r),
+        Check::Good(needed) => {
+            if rules.len() < needed {
+                return ReadRules::Refused(Refusal {
+                    number: 15,
+                    place: needed,
+                });
+            }
+            fill::fill_rules(file, from, rules);
+            ReadRules::Read {
+                variables: n,
+                clauses: count,
+                length: needed,
+            }
+        }
+    }
+}

@@ -1,0 +1,111 @@
+// The first pass over a rule file: whether its tokens are good, and how many there are.
+use literal::Variable;
+use refusal::Refusal;
+use rule_tokens::Token;
+ghost use mathlib.Core.Bool.{false, _||_};
+ghost use mathlib.Core.Path.{_≡_};
+ghost use Prim.Native.Nat.{ℕ, _+_, _≤_};
+ghost use lib.Dec.{ltb};
+ghost use lib.ListN.{length, getD, drop};
+ghost use Rattle.lent.specs.Limits.{maxVariables, maxClauses, maxLiterals};
+ghost use Rattle.refusal.specs.Reply.{cause};
+ghost use Rattle.lent.specs.Sound.{unread};
+ghost use Rattle.dimacs.specs.Format.{words, badTokens};
+ghost use Rattle.rule_reader.specs.Laws.{faultOf, checkAs};
+
+const MAX_LITERALS: usize = 31000;
+
+// Refused, or how many numbers the list has.
+pub enum Check {
+    Refused(Refusal),
+    Good(usize),
+}
+
+// A stamp for each variable, none seen yet.
+fn no_stamps() -> [u16; 641]
+    ensures { λ r. ⌜ (length r ≡ 641) × ((v : ℕ) → getD r v 0 ≡ 0) ⌝ }
+{
+    [0; 641]
+}
+
+// The cause to refuse a number of the list, but for a variable that its clause has already: 6 where
+// every clause is closed, 7 where no more literals may come, 4 above n; 0 without a cause.
+fn fault_of(n: usize, count: usize, clauses: usize, literals: usize, v: Variable) -> usize
+    ensures { λ r. ⌜ r ≡ faultOf n count clauses literals (v .0) ⌝ }
+{
+    if count <= clauses {
+        return 6;
+    }
+    if v.0 == 0 {
+        return 0;
+    }
+    if MAX_LITERALS <= literals {
+        return 7;
+    }
+    if n < v.0 { 4 } else { 0 }
+}
+
+// Checks the tokens from a place on, in a file of n variables and so many clauses. A stamp for each
+// variable, the number of the clause in which it was last seen, tells at once whether the open clause
+// has it.
+pub fn check_tokens(file: &[u8], from: usize, n: usize, count: usize) -> Check
+    requires { ⌜ (n ≤ maxVariables) × (count ≤ maxClauses) ⌝ }
+    ensures { λ r. ⌜ r ≡ checkAs (badTokens n count (length (now (file .entry))) unread (words false from (drop from (now (file .entry))))) (length (words false from (drop from (now (file .entry))))) ⌝ }
+{
+    let mut stamps = no_stamps();
+    let mut clauses: usize = 0;
+    let mut literals: usize = 0;
+    let mut is_open = false;
+    let mut at = from;
+    loop {
+        match rule_tokens::token_at(file, at) {
+            Token::End => {
+                return finish(file.len(), count, clauses, literals, is_open);
+            }
+            Token::Malformed(place) => {
+                return Check::Refused(Refusal { number: 3, place });
+            }
+            Token::Element { place, value, next } => {
+                let v = literal::variable_of(value);
+                let number = fault_of(n, count, clauses, literals, v);
+                if number != 0 {
+                    return Check::Refused(Refusal { number, place });
+                }
+                let index = v.0;
+                if index == 0 {
+                    clauses += 1;
+                    is_open = false;
+                } else {
+                    let stamp = (clauses + 1) as u16;
+                    if stamps[index] == stamp {
+                        return Check::Refused(Refusal { number: 5, place });
+                    }
+                    stamps[index] = stamp;
+                    literals += 1;
+                    is_open = true;
+                }
+                at = next;
+            }
+        }
+    }
+}
+
+// The end of the file: fewer clauses closed than there are to be, or one left open.
+fn finish(size: usize, count: usize, clauses: usize, literals: usize, is_open: bool) -> Check
+    requires { ⌜ (clauses ≤ maxClauses) × (literals ≤ maxLiterals) ⌝ }
+    ensures { λ r. ⌜ r ≡ checkAs (cause (ltb clauses count || is_open) 6 size) (clauses + literals) ⌝ }
+{
+    if clauses < count {
+        return Check::Refused(Refusal {
+            number: 6,
+            place: size,
+        });
+    }
+    if is_open {
+        return Check::Refused(Refusal {
+            number: 6,
+            place: size,
+        });
+    }
+    Check::Good(clauses + literals)
+}

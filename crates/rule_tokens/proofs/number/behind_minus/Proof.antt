@@ -1,0 +1,59 @@
+-- `rule_tokens::number::behind_minus` meets its contract.
+use mathlib.Core.Path.{_≡_, sym, ap, _∙_}
+use mathlib.Core.Option.{Option, some}
+use Prim.Native.Nat.{ℕ}
+use lib.IntN.{ℤ, pos, negℤ}
+use Rattle.decimal.specs.Decimal.{number}
+use Rattle.decimal.specs.Laws.{number-small}
+use Rattle.dimacs.specs.Format.{negative}
+use Rattle.rule_tokens.specs.declared.number.Numeral as L
+use Rattle.rule_tokens.specs.Laws.{number-none, number-some, negative-zero, negative-some, negative-fits, held}
+use Rattle.rule_tokens.specs.Token.{numeralAs}
+use borrow.Author.Needs.{needs}
+use Rattle.rule_tokens.proofs.number.behind_minus.Statement.{statement}
+use Rattle.rule_tokens.proofs.number.behind_minus.Tie as tie
+
+number-of-requires : tie.Need-number-of-requires
+number-of-requires c κs = search needs
+
+enum-known-v : tie.Need-enum-known-v
+enum-known-v c = search needs
+
+enum-told : tie.Need-enum-told
+enum-told c = search needs
+
+-- the number behind the minus
+read : (c : tie.After-known-told) → number (c .before .before .before .before .before .args .digits .now) ≡ some (c .before .v .given .0 .0)
+read c =
+    number-some (number (c .before .before .before .before .before .args .digits .now)) (c .before .v .given .0 .0) (sym (c .before .before .before .number-of .ensures) ∙ c .before .v .given .1)
+
+returns : tie.Need-returns
+returns c =
+    let w = c .before .before .before .before .args .digits .now in
+    sym (ap (λ (o : Option ℕ). numeralAs (negative o)) (number-none (number w) (sym (c .before .before .number-of .ensures) ∙ c .enum-told .given .1)))
+
+returns-2 : tie.Need-returns-2
+returns-2 c =
+    sym (ap (λ (o : Option ℕ). numeralAs (negative o)) (read (c .before)) ∙ ap numeralAs (negative-zero (c .before .before .v .given .0 .0) (c .if1 .taken)))
+
+negative-of-requires : tie.Need-negative-of-requires
+negative-of-requires c κs = number-small (c .before .before .before .before .before .before .args .digits .now) (c .before .before .v .given .0 .0) (read (c .before))
+
+returns-3 : tie.Need-returns-3
+returns-3 c =
+    let v = c .before .before .before .v .given .0 .0 in
+    let small = number-small (c .before .before .before .before .before .before .before .args .digits .now) v (read (c .before .before)) in
+    ap (λ (z : ℤ). L.the-variants.Value z) (held (c .negative-of .result) (negℤ (pos v)) (c .negative-of .ensures) (negative-fits v small))
+    ∙ sym (ap (λ (o : Option ℕ). numeralAs (negative o)) (read (c .before .before)) ∙ ap numeralAs (negative-some v (c .before .if1 .left)))
+
+pub behind-minus-spec : {M : Type 1} → statement M
+behind-minus-spec =
+    tie.close
+    (tie.spec
+    number-of-requires
+    enum-known-v
+    enum-told
+    returns
+    returns-2
+    negative-of-requires
+    returns-3)

@@ -1,0 +1,30 @@
+-- The call that writes a rule file (document 01, "The rule file").
+use mathlib.Core.List.{List}
+use mathlib.Core.Option.{none}
+use Prim.Native.Nat.{ℕ}
+use lib.IntN.{ℤ}
+use lib.ListN.{length}
+use Rattle.refusal.specs.Reply.{Reply, refusing, answering, unless}
+use Rattle.lent.specs.Lent.{Lent, refusalOf}
+use Rattle.dimacs.specs.Output.{filled}
+use Rattle.dimacs.specs.Written.{written}
+use Rattle.rule_writer.specs.declared.WrittenRules.{WrittenRules}
+use Rattle.rule_writer.specs.declared.WrittenRules.the-variants.{Refused, Written}
+
+-- what is lent to the call: n, the rules, and room for so many bytes
+abbrev pub lentToWrite : ℕ → List ℤ → ℕ → Lent
+lentToWrite n rules room =
+    record { n = n; d = 0; rules = rules; row = none; choice = none; needed = length (written n rules); room = room }
+
+-- the reply of the call: the file's length
+abbrev pub writeReply : ℕ → List ℤ → ℕ → Reply
+writeReply n rules room = unless (refusalOf (lentToWrite n rules room)) (answering 1 (length (written n rules)) 0 0)
+
+-- what the lent bytes hold after it: the file
+abbrev pub writeOutput : ℕ → List ℤ → List ℕ → List ℕ
+writeOutput n rules file = filled (refusalOf (lentToWrite n rules (length file))) (written n rules) file
+
+-- the numbers of each answer
+abbrev pub replyOf : WrittenRules → Reply
+replyOf (Refused r) = refusing r
+replyOf (Written length) = answering 1 length 0 0

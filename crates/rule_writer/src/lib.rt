@@ -1,0 +1,56 @@
+// The writer of the rule file: it counts first, then writes, so that a refusal leaves the lent bytes alone.
+mod count;
+mod put;
+
+use lent::RuleScan;
+use refusal::Refusal;
+use refusal::Verdict;
+ghost use mathlib.Core.Path.{_≡_};
+ghost use Prim.Native.Nat.{_≤_};
+ghost use lib.ListN.{length};
+ghost use Rattle.formula.specs.Formula.{clauses};
+ghost use Rattle.refusal.specs.Reply.{answering, unless};
+ghost use Rattle.dimacs.specs.Output.{filled};
+ghost use Rattle.dimacs.specs.Written.{written};
+ghost use Rattle.rule_writer.specs.Laws.{short};
+ghost use Rattle.rule_writer.specs.Write.{writeReply, writeOutput, replyOf};
+
+// Refused, or the file's length.
+pub enum WrittenRules {
+    Refused(Refusal),
+    Written(usize),
+}
+
+// Writes a rule list of n variables as a file.
+pub fn write_rules(n: usize, rules: &[i32], file: &mut [u8]) -> WrittenRules
+    ensures reply { λ r. ⌜ replyOf r ≡ writeReply n (now (rules .entry)) (length (now (file .entry))) ⌝ }
+    ensures output { λ r. ⌜ now (file .exit) ≡ writeOutput n (now (rules .entry)) (now (file .entry)) ⌝ }
+{
+    if let Verdict::Refuse(r) = lent::check_range(n, 0) {
+        return WrittenRules::Refused(r);
+    }
+    match lent::scan_rules(n, rules) {
+        RuleScan::Unsound(place) => WrittenRules::Refused(Refusal { number: 13, place }),
+        RuleScan::Sound {
+            clauses,
+            literals: _,
+        } => write_sound(n, clauses, rules, file),
+    }
+}
+
+// Writes a sound list of so many clauses, if the lent bytes have room for it.
+fn write_sound(n: usize, count: usize, rules: &[i32], file: &mut [u8]) -> WrittenRules
+    requires { ⌜ (count ≡ length (clauses (now rules))) × (length (now rules) ≤ 40000) ⌝ }
+    ensures reply { λ r. ⌜ replyOf r ≡ unless (short (written n (now (rules .entry))) (now (file .entry))) (answering 1 (length (written n (now (rules .entry)))) 0 0) ⌝ }
+    ensures output { λ r. ⌜ now (file .exit) ≡ filled (short (written n (now (rules .entry))) (now (file .entry))) (written n (now (rules .entry))) (now (file .entry)) ⌝ }
+{
+    let needed = count::heading_length(n, count) + count::body_length(rules);
+    if file.len() < needed {
+        return WrittenRules::Refused(Refusal {
+            number: 15,
+            place: needed,
+        });
+    }
+    let at = put::put_heading(n, count, file);
+    WrittenRules::Written(put::put_body(rules, file, at))
+}

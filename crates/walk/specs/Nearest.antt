@@ -1,0 +1,68 @@
+-- Counting the limit up: the first walk that finds something finds the nearest count.
+use mathlib.Core.Path.{_≡_, refl, subst}
+use mathlib.Core.Bool.{Bool, true, false, cond}
+use mathlib.Core.List.{List, [], _∷_}
+use mathlib.Core.Option.{Option, none, some}
+use Prim.Native.Nat.{ℕ, zero, suc, _+_, _-_, _≤_, _<_, zero-le}
+use native.Mathlib.Nat.{le-refl}
+use native.Mathlib.Omega.{arith}
+use lib.Dec.{eqb}
+use lib.IntN.{ℤ}
+use lib.ListN.{replicate}
+use Rattle.distance.specs.Distance.{weight, cost, wishes, disagreement}
+use Rattle.distance.specs.Laws.{cost-free}
+use Rattle.choices.specs.Choices.{Model}
+use Rattle.walk.specs.State.{unassigned, fits}
+use Rattle.walk.specs.Walk.{Answer, walk, firstAnswer, climb, nearestWalk}
+use Rattle.walk.specs.Promises.{Found, Closest}
+use Rattle.walk.specs.Correctness.{start-state, start-extends, Right, walk-right}
+
+-- no choice breaks more wishes than there are
+cost-weight : (w b : ℕ) → cost w b ≤ weight w
+cost-weight w b = go (eqb b (1 - w))
+  where
+    go : (t : Bool) → cond t (weight w) 0 ≤ weight w
+    go true = le-refl (weight w)
+    go false = zero-le
+
+pub disagreement-wishes : (row a : List ℕ) → disagreement row a ≤ wishes row
+disagreement-wishes [] a = zero-le
+disagreement-wishes (w ∷ row) [] = zero-le
+disagreement-wishes (w ∷ row) (b ∷ a) = omega (arith, cost-weight w b, disagreement-wishes row a)
+
+-- a row without wishes has none to break
+pub disagreement-free : (n : ℕ) (a : List ℕ) → disagreement (replicate n 2) a ≡ 0
+disagreement-free zero a = refl
+disagreement-free (suc n) [] = refl
+disagreement-free (suc n) (b ∷ a) = omega (arith, cost-free 2 b (omega arith), disagreement-free n a)
+
+-- what the answer of the walks up to limit m says
+abbrev pub RightUpTo : ℕ → List (List ℤ) → List ℕ → ℕ → Option Answer → Type 0
+RightUpTo n f row m none = (a : List ℕ) → Model n f a → m < disagreement row a
+RightUpTo n f row m (some x) = Closest n f row x
+
+module _ (n : ℕ) (f : List (List ℤ)) (fit : fits n f ≡ true) (row : List ℕ) where
+  -- the walk from the start
+  pub start-right : (d : ℕ) → Right n f row d (replicate n 2) (walk n f row d .answer)
+  start-right d = walk-right n f fit row d (suc (unassigned (replicate n 2))) (replicate n 2) (start-state n) (omega arith)
+
+  -- where every model breaks d wishes or more, what a walk with limit d finds is nearest
+  at-limit : (d : ℕ) → ((a : List ℕ) → Model n f a → d ≤ disagreement row a) → (o : Option Answer) → Right n f row d (replicate n 2) o → RightUpTo n f row d o
+  at-limit d h none p = λ a m. p a m (start-extends n a)
+  at-limit d h (some x) p =
+      let r : Found n f row d x = p in
+      record { model = r .model; counted = r .counted; below = λ a m. omega (arith, h a m, r .limited) }
+
+  climb-right : (k d m : ℕ) → m ≡ d + k → ((a : List ℕ) → Model n f a → d ≤ disagreement row a) → RightUpTo n f row m (climb n f row k d)
+  climb-right zero d m e h =
+      let z : d ≡ m = omega arith in
+      subst (λ (j : ℕ). RightUpTo n f row j (walk n f row d .answer)) z (at-limit d h (walk n f row d .answer) (start-right d))
+  climb-right (suc k) d m e h = go (walk n f row d .answer) (at-limit d h (walk n f row d .answer) (start-right d)) (climb-right k (suc d) m (omega arith))
+    where
+      go : (o : Option Answer) → RightUpTo n f row d o → (((a : List ℕ) → Model n f a → suc d ≤ disagreement row a) → RightUpTo n f row m (climb n f row k (suc d)))
+          → RightUpTo n f row m (firstAnswer o (climb n f row k (suc d)))
+      go none p ih = ih p
+      go (some x) p ih = p
+
+  pub nearest-right : RightUpTo n f row (wishes row) (nearestWalk n f row)
+  nearest-right = climb-right (wishes row) 0 (wishes row) (omega arith) (λ a m. zero-le)

@@ -1,0 +1,85 @@
+-- The theorems of the wish search. Each holds for every n, every formula whose literals have their variables in 1 to n (`fits`), every wish row and every limit.
+use mathlib.Core.Path.{_≡_, refl, sym, subst}
+use mathlib.Core.Logic.{_↔_, Iff·trans, Iff·symm}
+use mathlib.Core.Bool.{true}
+use mathlib.Core.List.{List, [], List·Memᴰ}
+use mathlib.Core.Option.{Option, none, some, Option·map}
+use Prim.Native.Nat.{ℕ, suc, _<_}
+use native.Mathlib.Omega.{arith}
+use lib.IntN.{ℤ}
+use lib.ListN.{replicate}
+use Rattle.formula.specs.Formula.{clauses}
+use Rattle.distance.specs.Distance.{wishes, disagreement, within, nearest}
+use Rattle.choices.specs.Choices.{Model, within-iff, within-none, nearest-none, nearest-some}
+use Rattle.walk.specs.State.{State, unassigned, fits}
+use Rattle.walk.specs.Branching.{branchingVariable}
+use Rattle.walk.specs.Walk.{Answer, walkBy, walk, plainWalk, nearestWalk}
+use Rattle.walk.specs.Promises.{Found, Closest, Undecided, Branches}
+use Rattle.walk.specs.WalkLaws.{walk-enough}
+use Rattle.walk.specs.Induction.{branching}
+use Rattle.walk.specs.Correctness.{start-state, start-unassigned, start-extends, Right}
+use Rattle.walk.specs.Nearest.{RightUpTo, disagreement-wishes, disagreement-free, start-right, nearest-right}
+
+-- Soundness: what the walk finds is a choice that meets all rules, with the count that it breaks, and that is at most d.
+pub walk-sound : (n : ℕ) (f : List (List ℤ)) → fits n f ≡ true → (row : List ℕ) (d : ℕ) (x : Answer) → walk n f row d .answer ≡ some x → Found n f row d x
+walk-sound n f fit row d x e = subst (Right n f row d (replicate n 2)) e (start-right n f fit row d)
+
+-- Completeness: it finds nothing exactly when every choice that meets all rules breaks more than d wishes.
+pub walk-none : (n : ℕ) (f : List (List ℤ)) → fits n f ≡ true → (row : List ℕ) (d : ℕ)
+    → (walk n f row d .answer ≡ none) ↔ ((a : List ℕ) → Model n f a → d < disagreement row a)
+walk-none n f fit row d = (forth, λ g. back g (walk n f row d .answer) (start-right n f fit row d))
+  where
+    forth : walk n f row d .answer ≡ none → (a : List ℕ) → Model n f a → d < disagreement row a
+    forth e a m =
+        let p : Right n f row d (replicate n 2) none = subst (Right n f row d (replicate n 2)) e (start-right n f fit row d) in
+        p a m (start-extends n a)
+
+    back : ((a : List ℕ) → Model n f a → d < disagreement row a) → (o : Option Answer) → Right n f row d (replicate n 2) o → o ≡ none
+    back g none p = refl
+    back g (some x) p =
+        let r : Found n f row d x = p in
+        absurd (omega (arith, g (x .choice) (r .model), r .counted, r .limited))
+
+-- The same of the choices that are listed.
+pub walk-listed : (n : ℕ) (list : List ℤ) → fits n (clauses list) ≡ true → (row : List ℕ) (d : ℕ) (x : Answer)
+    → walk n (clauses list) row d .answer ≡ some x → List·Memᴰ (x .choice) (within n list row d)
+walk-listed n list fit row d x e =
+    let r = walk-sound n (clauses list) fit row d x e in
+    within-iff n list row d (x .choice) .1 (r .model, omega (arith, r .counted, r .limited))
+
+pub walk-within : (n : ℕ) (list : List ℤ) → fits n (clauses list) ≡ true → (row : List ℕ) (d : ℕ)
+    → (walk n (clauses list) row d .answer ≡ none) ↔ (within n list row d ≡ [])
+walk-within n list fit row d = Iff·trans (walk-none n (clauses list) fit row d) (Iff·symm (within-none n list row d))
+
+-- Any depth above the number of variables gives the walk.
+pub walk-depth : (n : ℕ) (f : List (List ℤ)) → fits n f ≡ true → (row : List ℕ) (d k : ℕ) → n < k → walkBy k f row d (replicate n 2) ≡ walk n f row d
+walk-depth n f fit row d k h =
+    walk-enough n f fit row d k (suc (unassigned (replicate n 2))) (replicate n 2) (start-state n) (omega (arith, start-unassigned n)) (omega arith)
+
+-- Plain search finds a model, or nothing exactly when there is none.
+pub plain-sound : (n : ℕ) (f : List (List ℤ)) → fits n f ≡ true → (x : Answer) → plainWalk n f .answer ≡ some x → Model n f (x .choice)
+plain-sound n f fit x e = walk-sound n f fit (replicate n 2) 0 x e .model
+
+pub plain-none : (n : ℕ) (f : List (List ℤ)) → fits n f ≡ true → (plainWalk n f .answer ≡ none) ↔ ((a : List ℕ) → Model n f a → ⊥)
+plain-none n f fit =
+    (λ e a m. omega (arith, walk-none n f fit (replicate n 2) 0 .0 e a m, disagreement-free n a), λ g. walk-none n f fit (replicate n 2) 0 .1 (λ a m. absurd (g a m)))
+
+-- Nearest finds a choice that meets all rules, with the count that it breaks, and no such choice breaks fewer.
+pub nearest-sound : (n : ℕ) (f : List (List ℤ)) → fits n f ≡ true → (row : List ℕ) (x : Answer) → nearestWalk n f row ≡ some x → Closest n f row x
+nearest-sound n f fit row x e = subst (RightUpTo n f row (wishes row)) e (nearest-right n f fit row)
+
+-- Its count is the nearest count: none exactly when the rules can't be met.
+pub nearest-count : (n : ℕ) (list : List ℤ) → fits n (clauses list) ≡ true → (row : List ℕ)
+    → Option·map (λ (x : Answer). x .broken) (nearestWalk n (clauses list) row) ≡ nearest n list row
+nearest-count n list fit row = go (nearestWalk n (clauses list) row) (nearest-right n (clauses list) fit row)
+  where
+    go : (o : Option Answer) → RightUpTo n (clauses list) row (wishes row) o → Option·map (λ (x : Answer). x .broken) o ≡ nearest n list row
+    go none p = sym (nearest-none n list row .1 (λ a m. omega (arith, p a m, disagreement-wishes row a)))
+    go (some x) p =
+        let r : Closest n (clauses list) row x = p in
+        sym (nearest-some n list row (x .broken) .1 (record { attained = (x .choice, r .model, r .counted); below = r .below }))
+
+-- Where steps 1 to 3 decide nothing there is a branching variable; it is unassigned and one of 1 to n.
+pub branching-variable : (n : ℕ) (f : List (List ℤ)) → fits n f ≡ true → (row : List ℕ) (d : ℕ) (a : List ℕ) → State n a → Undecided f row d a
+    → (v : ℕ) × (branchingVariable row a f ≡ some v) × Branches a n v
+branching-variable n f fit row d a h u = branching h f fit row d u

@@ -1,0 +1,26 @@
+-- The wishes of a row, one by one, and the row of some wishes.
+use mathlib.Core.Bool.{cond}
+use mathlib.Core.List.{List, [], _∷_}
+use Prim.Native.Nat.{ℕ, suc, _-_}
+use lib.Dec.{ltb}
+use lib.ListN.{set, replicate}
+
+-- a wish asks a variable "to be on or off": its mark is 1 for on, 0 for off
+pub record Wish : Type 0 where
+  pub variable : ℕ
+  pub mark : ℕ
+
+-- the wishes of a row whose first byte is that of variable v, by rising variable
+abbrev pub wishList : ℕ → List ℕ → List Wish
+wishList v [] = []
+wishList v (w ∷ row) =
+    cond (ltb w 2) (record { variable = v; mark = w } ∷ wishList (suc v) row) (wishList (suc v) row)
+
+-- a row with each wish's mark put at its variable
+abbrev pub marked : List ℕ → List Wish → List ℕ
+marked row [] = row
+marked row (w ∷ ws) = marked (set row (w .variable - 1) (w .mark)) ws
+
+-- the row of n bytes that some wishes give: the other variables are free
+abbrev pub rowOf : ℕ → List Wish → List ℕ
+rowOf n ws = marked (replicate n 2) ws

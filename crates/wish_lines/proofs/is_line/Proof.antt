@@ -1,0 +1,105 @@
+-- `wish_lines::is_line` meets its contract. The loop's invariant: there is a line exactly where the columns to come and a line feed stand.
+use mathlib.Core.Path.{_≡_, sym, ap, _∙_}
+use Prim.Native.Nat.{ℕ, _≤_}
+use native.Mathlib.Omega.{arith}
+use lib.ListN.{length, drop}
+use borrow.Author.Needs.{needs}
+use Rattle.rule_tokens.specs.Laws.{number-none, number-some}
+use Rattle.wish_file.specs.Layout.{columnNumber}
+use Rattle.wish_lines.specs.Laws.{line-cut, line-malformed, line-more, line-ends, line-stops}
+use Rattle.wish_lines.specs.Lines.{isLine}
+use Rattle.wish_lines.proofs.is_line.Statement.{statement}
+use Rattle.wish_lines.proofs.is_line.Tie as tie
+
+abbrev Inv-loop : tie.InvT-loop
+Inv-loop file from columns at₀ left₀ at left = (at ≤ length file) × (isLine columns (drop from file) ≡ isLine left (drop at file))
+
+abbrev μ-loop : tie.MeasureT-loop
+μ-loop file from columns at₀ left₀ at left = left
+
+loop-holds : tie.Need-loop-holds Inv-loop μ-loop
+loop-holds c = search needs
+
+sub-if1 : tie.Need-sub-if1 Inv-loop μ-loop
+sub-if1 c = search needs
+
+returns : tie.Need-returns Inv-loop μ-loop
+returns c =
+    let s = c .before .before .before .before .args .file .now in
+    let loop = c .before .before .loop in
+    sym (loop .inv .1 ∙ line-cut s (loop .at) (loop .left) (c .before .loop-test .taken) (c .if1 .taken))
+
+column-number-requires : tie.Need-column-number-requires Inv-loop μ-loop
+column-number-requires c κs = search needs
+
+enum-told : tie.Need-enum-told Inv-loop μ-loop
+enum-told c = search needs
+
+returns-2 : tie.Need-returns-2 Inv-loop μ-loop
+returns-2 c =
+    let s = c .before .before .before .before .before .before .before .args .file .now in
+    let loop = c .before .before .before .before .before .loop in
+    sym (loop .inv .1
+    ∙ line-malformed s (loop .at) (loop .left) (c .before .before .before .before .loop-test .taken)
+    (number-none (columnNumber (drop (loop .at) s)) (sym (c .before .before .column-number .ensures) ∙ c .enum-told .given .1)))
+
+enum-told-2 : tie.Need-enum-told-2 Inv-loop μ-loop
+enum-told-2 c = search needs
+
+add-at : tie.Need-add-at Inv-loop μ-loop
+add-at c = search needs
+
+sub-left : tie.Need-sub-left Inv-loop μ-loop
+sub-left c = search needs
+
+loop-less : tie.Need-loop-less Inv-loop μ-loop
+loop-less c = search needs
+
+loop-again : tie.Need-loop-again Inv-loop μ-loop
+loop-again c =
+    let s = c .before .before .before .before .before .before .before .args .file .now in
+    let loop = c .before .before .before .before .before .loop in
+    let v = c .enum-told2 .given .0 .0 in (
+      omega arith,
+      loop .inv .1
+          ∙ line-more s (loop .at) (loop .left) (c .before .before .before .before .loop-test .taken) v
+          (number-some (columnNumber (drop (loop .at) s)) v (sym (c .before .before .column-number .ensures) ∙ c .enum-told2 .given .1)),
+    )
+
+returns-3 : tie.Need-returns-3 Inv-loop μ-loop
+returns-3 c =
+    let s = c .before .before .before .before .args .file .now in
+    let loop = c .before .before .loop in
+    let done : loop .left ≡ 0 = omega arith in
+    sym (loop .inv .1 ∙ ap (λ (k : ℕ). isLine k (drop (loop .at) s)) done ∙ line-stops s (loop .at) (c .if2 .taken))
+
+shared-slice-read-result : tie.Need-shared-slice-read-result Inv-loop μ-loop
+shared-slice-read-result c = search needs
+
+returns-4 : tie.Need-returns-4 Inv-loop μ-loop
+returns-4 c =
+    let s = c .before .before .before .before .before .args .file .now in
+    let loop = c .before .before .before .loop in
+    let done : loop .left ≡ 0 = omega arith in
+    sym (loop .inv .1 ∙ ap (λ (k : ℕ). isLine k (drop (loop .at) s)) done ∙ line-ends s (loop .at) (c .before .if2 .left))
+
+pub is-line-spec : {M : Type 1} → statement M
+is-line-spec =
+    tie.close
+    (tie.spec
+    Inv-loop
+    μ-loop
+    loop-holds
+    sub-if1
+    returns
+    column-number-requires
+    enum-told
+    returns-2
+    enum-told-2
+    add-at
+    sub-left
+    loop-less
+    loop-again
+    returns-3
+    shared-slice-read-result
+    returns-4)

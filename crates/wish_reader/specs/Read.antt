@@ -1,0 +1,46 @@
+-- The call that reads a wish file (document 01, "The wish file").
+use mathlib.Core.List.{List}
+use mathlib.Core.Option.{Option}
+use Prim.Native.Nat.{ℕ}
+use lib.Dec.{ltb}
+use lib.ListN.{length}
+use Rattle.refusal.specs.declared.Refusal.{Refusal}
+use Rattle.refusal.specs.Reply.{Reply, cause, refusing, answering, unless}
+use Rattle.dimacs.specs.Output.{filled}
+use Rattle.wish_file.specs.Format.{Reading, refuses, gives, reading}
+use Rattle.wish_reader.specs.declared.scan.FileScan as S
+use Rattle.wish_reader.specs.declared.scan.FileScan.{FileScan}
+use Rattle.wish_reader.specs.declared.ReadWishes.{ReadWishes}
+use Rattle.wish_reader.specs.declared.ReadWishes.the-variants.{Refused, Read}
+
+-- "lent output too short", after every cause of the file ("Last 15"): the row needs n bytes
+abbrev pub tooShort : ℕ → ℕ → Option Refusal
+tooShort n room = cause (ltb room n) 15 n
+
+-- the reply to what a file reads as: n, the number of wishes and the limit
+abbrev pub replying : Reading → ℕ → Reply
+replying (refuses r) room = refusing r
+replying (gives n m d row) room = unless (tooShort n room) (answering 1 n m d)
+
+-- and what the lent row holds then
+abbrev pub leaving : Reading → List ℕ → List ℕ
+leaving (refuses r) out = out
+leaving (gives n m d row) out = filled (tooShort n (length out)) row out
+
+-- the reply of the call
+abbrev pub readReply : List ℕ → ℕ → Reply
+readReply file room = replying (reading file) room
+
+-- what the lent row holds after it
+abbrev pub readOutput : List ℕ → List ℕ → List ℕ
+readOutput file out = leaving (reading file) out
+
+-- the numbers of each answer
+abbrev pub replyOf : ReadWishes → Reply
+replyOf (Refused r) = refusing r
+replyOf (Read variables wishes limit) = answering 1 variables wishes limit
+
+-- what is found before anything is written: the first cause of the file, or the numbers of line one
+abbrev pub fileScan : Reading → FileScan
+fileScan (refuses r) = S.the-variants.Refused r
+fileScan (gives n m d row) = S.the-variants.Sound n m d

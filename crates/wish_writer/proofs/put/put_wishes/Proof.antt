@@ -1,0 +1,81 @@
+-- `wish_writer::put::put_wishes` meets its contract. The loop's invariant: with the lines of the rest of the row written from here, the buffer is what it is to be.
+use mathlib.Core.Path.{_≡_, sym, ap, ap₂, _∙_}
+use mathlib.Core.List.{List}
+use Prim.Native.Nat.{ℕ, _+_, _-_, _≤_}
+use native.Mathlib.Omega.{arith}
+use lib.ListN.{length, drop}
+use borrow.Author.Needs.{needs}
+use lib.Seq.{sets}
+use Rattle.wish_file.specs.Format.{wishLines}
+use Rattle.wish_file.specs.Wishes.{wishList}
+use Rattle.wish_writer.specs.Laws.{rest, lines-length, lines-step, lines-past}
+use Rattle.wish_writer.proofs.put.put_wishes.Statement.{statement}
+use Rattle.wish_writer.proofs.put.put_wishes.Tie as tie
+
+abbrev Inv-loop : tie.InvT-loop
+Inv-loop row out₀ from at₀ i₀ out at i = (i ≤ length row) × (length out ≡ length out₀) × (at + length (wishLines (wishList (i + 1) (drop i row))) ≡ from + length (wishLines (wishList 1 row))) × (sets out at (wishLines (wishList (i + 1) (drop i row))) ≡ sets out₀ from (wishLines (wishList 1 row)))
+
+abbrev μ-loop : tie.MeasureT-loop
+μ-loop row out₀ from at₀ i₀ out at i = length row - i
+
+loop-holds : tie.Need-loop-holds Inv-loop μ-loop
+loop-holds c = search needs
+
+add-t6 : tie.Need-add-t6 Inv-loop μ-loop
+add-t6 c = search needs
+
+shared-slice-read-put-wish : tie.Need-shared-slice-read-put-wish Inv-loop μ-loop
+shared-slice-read-put-wish c = search needs
+
+put-wish-requires : tie.Need-put-wish-requires Inv-loop μ-loop
+put-wish-requires c κs =
+    let row = c .before .before .before .before .before .before .args .row .now in
+    let loop = c .before .before .before .loop in
+    omega (arith, lines-length row (loop .i) (c .before .before .loop-test .taken))
+
+add-i : tie.Need-add-i Inv-loop μ-loop
+add-i c = search needs
+
+loop-less : tie.Need-loop-less Inv-loop μ-loop
+loop-less c = search needs
+
+loop-again : tie.Need-loop-again Inv-loop μ-loop
+loop-again c =
+    let row = c .before .before .before .before .before .before .before .before .before .args .row .now in
+    let loop = c .before .before .before .before .before .before .loop in
+    let inside = c .before .before .before .before .before .loop-test .taken in
+    let call = c .before .before .put-wish in
+    let later : List ℕ = rest row (loop .i) inside in (
+      omega arith,
+      call .kept .1 .1 .0 ∙ loop .inv .1,
+      omega (arith, lines-length row (loop .i) inside, call .ensures .0, loop .inv .2),
+      ap₂ (λ (o : List ℕ) (k : ℕ). sets o k later) (call .ensures .1) (call .ensures .0)
+          ∙ sym (lines-step row (loop .i) inside (loop .out) (loop .at))
+          ∙ loop .inv .3,
+    )
+
+same-length : tie.Need-same-length Inv-loop μ-loop
+same-length c = search needs
+
+returns : tie.Need-returns Inv-loop μ-loop
+returns c =
+    let row = c .before .before .before .before .args .row .now in
+    let loop = c .before .loop in
+    let past = lines-past row (loop .i) (loop .i + 1) (c .loop-test .left) in
+    (omega (arith, ap length past), sym (ap (sets (loop .out) (loop .at)) past) ∙ loop .inv .3)
+
+pub put-wishes-spec : {M : Type 1} → statement M
+put-wishes-spec =
+    tie.close
+    (tie.spec
+    Inv-loop
+    μ-loop
+    loop-holds
+    add-t6
+    shared-slice-read-put-wish
+    put-wish-requires
+    add-i
+    loop-less
+    loop-again
+    same-length
+    returns)
