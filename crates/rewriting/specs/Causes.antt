@@ -15,7 +15,7 @@ use Rattle.refusal.specs.declared.Refusal.{Refusal}
 use Rattle.refusal.specs.declared.Verdict.{Verdict}
 use Rattle.refusal.specs.declared.Verdict.the-variants.{Pass, Refuse}
 use Rattle.refusal.specs.Laws.{first-early, first-late, cause-none, causeAt-none}
-use Rattle.refusal.specs.Reply.{Reply, refusal, refused, first, cause, causeAt, refusing, answering, unless}
+use Rattle.refusal.specs.Reply.{Reply, refusal, refused, first, cause, causeAt, refusing, answering, unless, filled}
 use Rattle.lent.specs.Lent.{refusalOf, outOfRange, oversized}
 use Rattle.lent.specs.Limits.{maxWishVariables, maxWishClauses, maxWishLiterals, maxWishes}
 use Rattle.lent.specs.declared.problem.Problem as P
@@ -25,7 +25,7 @@ use Rattle.lent.specs.Scans.{unsound, problem}
 use Rattle.lent.specs.Sound.{unread, badRule, badWish}
 use Rattle.totalizer.specs.Totalizer.{leaves, rewrittenVariables, rewritten}
 use Rattle.totalizer.specs.Rows.{leaves-length, sound-wishes}
-use Rattle.rewriting.specs.Rewrite.{lentToRewrite, rewriteReply, rewriteOutput, filled, replyOf}
+use Rattle.rewriting.specs.Rewrite.{lentToRewrite, rewriteReply, rewriteOutput, replyOf}
 use Rattle.rewriting.specs.declared.Rewritten.{Rewritten}
 use Rattle.rewriting.specs.declared.Rewritten.the-variants.{Done}
 

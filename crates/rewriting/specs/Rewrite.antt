@@ -1,11 +1,10 @@
 -- The call that rewrites into plain rules (document 01, "Rewriting into plain rules").
-use mathlib.Core.List.{List, _++_}
-use mathlib.Core.Option.{Option, none, some}
+use mathlib.Core.List.{List}
+use mathlib.Core.Option.{none, some}
 use Prim.Native.Nat.{ℕ}
 use lib.IntN.{ℤ}
-use lib.ListN.{length, drop}
-use Rattle.refusal.specs.declared.Refusal.{Refusal}
-use Rattle.refusal.specs.Reply.{Reply, refusing, answering, unless}
+use lib.ListN.{length}
+use Rattle.refusal.specs.Reply.{Reply, refusing, answering, unless, filled}
 use Rattle.lent.specs.Lent.{Lent, refusalOf}
 use Rattle.totalizer.specs.Totalizer.{rewrittenVariables, rewritten}
 use Rattle.rewriting.specs.declared.Rewritten.{Rewritten}
@@ -30,11 +29,6 @@ rewriteReply n rules row d room =
     unless
     (refusalOf (lentToRewrite n rules row d room))
     (answering 1 (rewrittenVariables n row) (length (rewritten n rules row d)) 0)
-
--- What a call leaves in the output that it was lent: a refusal leaves it as it was, and "On success bytes past the needed length stay."
-abbrev pub filled {ℓ} : {A : Type ℓ} → Option Refusal → List A → List A → List A
-filled none result out = result ++ drop (length result) out
-filled (some r) result out = out
 
 -- what the lent list holds after the call
 abbrev pub rewriteOutput : ℕ → List ℤ → List ℕ → ℕ → List ℤ → List ℤ

@@ -7,6 +7,7 @@ use native.Mathlib.Nat.{zero-add}
 use native.Mathlib.Omega.{arith}
 use lib.IntN.{ℤ}
 use lib.ListN.{length, take, length-append}
+use Rattle.refusal.specs.Reply.{filled}
 use Rattle.distance.specs.Distance.{wishes}
 use Rattle.lent.specs.Limits.{maxVariables, maxWishes}
 use Rattle.soundness.specs.Flat.{flat}
@@ -18,7 +19,6 @@ use Rattle.totalizer.specs.Sizes.{added-most}
 use Rattle.groups.specs.Groups.{Within}
 use Rattle.rewriting.specs.declared.Rewritten.the-variants.{Done}
 use Rattle.rewriting.specs.Causes.{Admitted}
-use Rattle.rewriting.specs.Rewrite.{filled}
 
 -- literals of the variables 1 to n are within the limit, if n is
 within : (n : ℕ) (l : List ℤ) → n ≤ maxVariables → trees.Within n l → Within l

@@ -8,10 +8,10 @@ use refusal::Verdict;
 ghost use mathlib.Core.Option.{none};
 ghost use mathlib.Core.Path.{_≡_};
 ghost use lib.ListN.{length};
-ghost use Rattle.refusal.specs.Reply.{refused, first};
+ghost use Rattle.refusal.specs.Reply.{refused, first, filled};
 ghost use Rattle.totalizer.specs.Totalizer.{rewrittenVariables, rewritten};
 ghost use Rattle.rewriting.specs.Causes.{Admitted, laterCauses};
-ghost use Rattle.rewriting.specs.Rewrite.{rewriteReply, rewriteOutput, replyOf, filled};
+ghost use Rattle.rewriting.specs.Rewrite.{rewriteReply, rewriteOutput, replyOf};
 
 // Refused, or the number of variables and the length of the rewritten list.
 pub enum Rewritten {
