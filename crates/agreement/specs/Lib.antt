@@ -1,0 +1,3 @@
+pub mod Causes
+pub mod Claim
+pub mod Routes
