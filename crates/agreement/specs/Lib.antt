@@ -1,3 +1,4 @@
 pub mod Causes
 pub mod Claim
 pub mod Routes
+pub mod Second
