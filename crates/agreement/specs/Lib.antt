@@ -1,4 +1,6 @@
 pub mod Causes
 pub mod Claim
+pub mod Completing
+pub mod Decided
 pub mod Routes
 pub mod Second
