@@ -25,6 +25,11 @@ pub record Admissible (n : ℕ) (rules : List ℤ) (row : List ℕ) : Type 0 whe
   pub room : ℕ
   pub passes : Passes (rewriteReply n rules row d room)
 
+-- The two routes agree: both find, the first with at most d broken wishes (plain search has none to break), or both answer none.
+pub data Agree (d : ℕ) (first second : Reply) : Type 0 where
+  both-find : (broken : ℕ) → broken ≤ d → first ≡ found (some broken) → second ≡ found (some 0) → Agree d first second
+  both-none : first ≡ found none → second ≡ found none → Agree d first second
+
 module _ (n : ℕ) (rules : List ℤ) (row : List ℕ) where
   -- A completion of a choice a that meets every rewritten rule: "A completion of a choice gives every setting of the result a value, and settings 1 to n the values of the choice".
   pub record Completing (d : ℕ) (a e : List ℕ) : Type 0 where
@@ -50,11 +55,6 @@ module _ (n : ℕ) (rules : List ℤ) (row : List ℕ) where
     pub nearest : (choice : List ℕ) → Passes (nearestRoute n rules row choice)
     -- and with room enough no call is refused at all
     pub room : (b : Buffers) × Answered (firstRoute n rules row d (b .choice)) × Answered (secondRoute n rules row d b) × Answered (nearestRoute n rules row (b .choice))
-
-  -- The two routes agree: both find, the first with at most d broken wishes (plain search has none to break), or both answer none.
-  pub data Agree (d : ℕ) (first second : Reply) : Type 0 where
-    both-find : (broken : ℕ) → broken ≤ d → first ≡ found (some broken) → second ≡ found (some 0) → Agree d first second
-    both-none : first ≡ found none → second ≡ found none → Agree d first second
 
   -- "answers are compared where none of the calls that give them is refused": the second route finds at d; it answers none there
   abbrev pub Finds : ℕ → Type 0
