@@ -1,7 +1,7 @@
--- Demand 3, proved.
+-- Demand 3 of document 01, proved as one claim.
 use mathlib.Core.Path.{_≡_, sym, ap, subst, _∙_}
 use mathlib.Core.List.{List}
-use mathlib.Core.Option.{Option, none, some}
+use mathlib.Core.Option.{Option, some}
 use Prim.Native.Nat.{ℕ, _≤_}
 use native.Mathlib.Omega.{arith}
 use lib.IntN.{ℤ}
@@ -16,7 +16,7 @@ use Rattle.totalizer.specs.Totalizer.{rewrittenVariables}
 use Rattle.searches.specs.Admitted.{Admitted, admitted-room}
 use Rattle.searches.specs.Searches.{found, brokenBy}
 use Rattle.agreement.specs.Causes.{short, short-fine, short-none, fine-passes, answered-past, admitted}
-use Rattle.agreement.specs.Claim.{Admissible, Agree, both-find, both-none, Unrefused, Agreement, Demand3}
+use Rattle.agreement.specs.Claim.{Admissible, Agree, both-find, both-none, Unrefused, Agreement}
 use Rattle.agreement.specs.Completing.{all-completions}
 use Rattle.agreement.specs.Decided.{Reached, Decided, yes, no, search-decides}
 use Rattle.agreement.specs.First.{second-decides, nearest-is-first}
@@ -84,5 +84,6 @@ module _ (n : ℕ) (rules : List ℤ) (row : List ℕ) (ok : (d : ℕ) → d ≤
             (search-found n choice (nearest n rules row) (nearestRoute n rules row choice) (nearest-says choice) u);
       }
 
-pub agreement : Demand3
+-- the two routes agree, completions of the added counters are unique, and nearest's count is the first d at which the second route finds: over all admitted input
+pub agreement : (n : ℕ) (rules : List ℤ) (row : List ℕ) → Admissible n rules row → Agreement n rules row
 agreement n rules row a = whole n rules row (admitted n rules row a)

@@ -1,6 +1,6 @@
 -- What a call that is refused with 15 at most tells, and the causes of the calls along the routes.
-use mathlib.Core.Path.{_≡_, refl, sym, ap, _∙_}
-use mathlib.Core.Bool.{Bool, true, false, cond, not}
+use mathlib.Core.Path.{_≡_, refl, ap}
+use mathlib.Core.Bool.{Bool, true, false}
 use mathlib.Core.List.{List, [], _∷_}
 use mathlib.Core.Option.{Option, none, some, Option·some-ne-none}
 use Prim.Native.Nat.{ℕ, _≤_, _<_}
@@ -11,8 +11,8 @@ use lib.ListN.{length}
 use borrow.Author.Tests.{le-ltb, ne-eqb}
 use Rattle.formula.specs.Formula.{clauses, literals}
 use Rattle.refusal.specs.declared.Refusal.{Refusal}
-use Rattle.refusal.specs.Reply.{Reply, refusal, first, cause, causeAt, answering, unless}
-use Rattle.refusal.specs.Laws.{first-last}
+use Rattle.refusal.specs.Reply.{Reply, first, cause, causeAt, answering, unless}
+use Rattle.refusal.specs.Laws.{first-last, causeAt-none}
 use Rattle.lent.specs.Lent.{refusalOf, outOfRange, wrongLength, oversized}
 use Rattle.lent.specs.Limits.{maxVariables, maxLimit}
 use Rattle.lent.specs.ScanLaws.{by-none}
@@ -79,10 +79,6 @@ no-causeAt : (number : ℕ) (o : Option ℕ) → (number ≡ 15 → ⊥) → Fin
 no-causeAt number none k h = refl
 no-causeAt number (some place) k h = absurd (k h)
 
-none-at : (number : ℕ) (o : Option ℕ) → causeAt number o ≡ none → o ≡ none
-none-at number none e = refl
-none-at number (some place) e = absurd (Option·some-ne-none (refusal number place) e)
-
 -- What rewriting admits with one d, every call with wishes admits with every d up to 64.
 module _ (n : ℕ) (rules : List ℤ) (row : List ℕ) where
   admitted-with : (d room : ℕ) → Fine (refusalOf (lentToRewrite n rules row d room)) → Admitted n rules row d
@@ -98,7 +94,7 @@ module _ (n : ℕ) (rules : List ℤ) (row : List ℕ) where
       let four = past c₁₁ (none ∷ c₁₂ ∷ last ∷ []) (no-cause (wrongLength n row) 11 0 (omega arith)) (three .1) in
       let five = past c₁₂ (last ∷ []) (no-cause size 12 0 (omega arith)) (four .1) in
       admitted-of n rules row d (length (rewritten n rules row d)) room
-      (by-none n d rules row (one .0) (none-at 13 (badRule n unread 0 rules) (two .0)) (none-at 13 (badWish 0 0 row) (three .0)))
+      (by-none n d rules row (one .0) (causeAt-none 13 (badRule n unread 0 rules) (two .0)) (causeAt-none 13 (badWish 0 0 row) (three .0)))
       (four .0)
       (five .0)
 

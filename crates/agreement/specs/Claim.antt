@@ -1,4 +1,4 @@
--- Mission demand 3, as document 01 has it: "a single claim about the completions, both whole routes and nearest, over all admitted input and every d". The proof is `agreement` of Agreement.antt.
+-- Demand 3 of document 01 ("Rewriting into plain rules"), "a single claim about the completions, both whole routes and nearest, over all admitted input and every d": `Agreement n rules row` for every n, rules and row that are admitted. Its proof is `agreement` of Agreement.antt.
 use mathlib.Core.Path.{_≡_}
 use mathlib.Core.Logic.{_↔_}
 use mathlib.Core.Bool.{true}
@@ -6,7 +6,7 @@ use mathlib.Core.List.{List}
 use mathlib.Core.Option.{none, some}
 use Prim.Native.Nat.{ℕ, _≤_, _<_}
 use lib.IntN.{ℤ}
-use lib.ListN.{length, take}
+use lib.ListN.{take}
 use Rattle.literal.specs.Literal.{holds}
 use Rattle.formula.specs.Formula.{clauses, models}
 use Rattle.distance.specs.Distance.{disagreement}
@@ -31,10 +31,14 @@ pub data Agree (d : ℕ) (first second : Reply) : Type 0 where
   both-none : first ≡ found none → second ≡ found none → Agree d first second
 
 module _ (n : ℕ) (rules : List ℤ) (row : List ℕ) where
-  -- A completion of a choice a that meets every rewritten rule: "A completion of a choice gives every setting of the result a value, and settings 1 to n the values of the choice".
-  pub record Completing (d : ℕ) (a e : List ℕ) : Type 0 where
+  -- "A completion of a choice gives every setting of the result a value, and settings 1 to n the values of the choice"
+  pub record Completion (a e : List ℕ) : Type 0 where
     pub whole : Choice (rewrittenVariables n row) e
     pub same : take n e ≡ a
+
+  -- a completion "that meets every rewritten rule"
+  pub record Completing (d : ℕ) (a e : List ℕ) : Type 0 where
+    pub completion : Completion a e
     pub meets : models e (clauses (rewritten n rules row d)) ≡ true
 
   -- The completions at a limit d.
@@ -46,7 +50,7 @@ module _ (n : ℕ) (rules : List ℤ) (row : List ℕ) where
     -- "The one completion that meets every rewritten rule has r(k) of a group on exactly when at least k of that group's leaves hold."
     pub counts : (a e : List ℕ) → Completing d a e → Right (holds e) n (tree (leaves row))
     -- "where nothing was added it is the choice itself"
-    pub alone : (a e : List ℕ) → Completing d a e → rewrittenVariables n row ≡ n → e ≡ a
+    pub alone : (a e : List ℕ) → Completion a e → rewrittenVariables n row ≡ n → e ≡ a
 
   -- "no call named here is refused except with 15": the reply of a route is the refusal of the first of its calls that is refused
   pub record Unrefused (d : ℕ) : Type 0 where
@@ -82,7 +86,3 @@ module _ (n : ℕ) (rules : List ℤ) (row : List ℕ) where
         → Answered (firstRoute n rules row d choice) → Answered (secondRoute n rules row d b)
         → Agree d (firstRoute n rules row d choice) (secondRoute n rules row d b)
     pub nearest : (choice : List ℕ) → Answered (nearestRoute n rules row choice) → Nearest (nearestRoute n rules row choice)
-
--- demand 3, over all admitted input
-abbrev pub Demand3 : Type 0
-Demand3 = (n : ℕ) (rules : List ℤ) (row : List ℕ) → Admissible n rules row → Agreement n rules row

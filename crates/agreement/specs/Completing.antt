@@ -1,13 +1,12 @@
 -- The completions of choices, from the totalizer's theorems.
-use mathlib.Core.Path.{_≡_, refl, sym, ap, subst, _∙_}
+use mathlib.Core.Path.{_≡_, sym, subst, _∙_}
 use mathlib.Core.List.{List}
 use Prim.Native.Nat.{ℕ, _≤_}
 use native.Mathlib.Omega.{arith}
 use lib.IntN.{ℤ}
-use lib.ListN.{length}
 use lib.Seq.{take-all}
 use Rattle.literal.specs.Literal.{holds}
-use Rattle.formula.specs.Formula.{clauses, models}
+use Rattle.formula.specs.Formula.{clauses}
 use Rattle.distance.specs.Distance.{disagreement}
 use Rattle.choices.specs.Choices.{Choice, Model}
 use Rattle.totalizer.specs.Choice.{choice-take}
@@ -20,16 +19,15 @@ module _ (n : ℕ) (rules : List ℤ) (row : List ℕ) (d : ℕ) (ok : Admitted 
   -- a completion that meets every rewritten rule is the totalizer's, of a model within the limit
   says : (a e : List ℕ) → Completing n rules row d a e → Model n (clauses rules) a × (disagreement row a ≤ d) × (e ≡ completion row a)
   says a e c =
-      let (met, near, own) = totalizer.completions n rules row d a e (ok .soundRules) (ok .long) (c .whole) (c .same) .0 (c .meets) in
-      let choice : Choice n a = subst (Choice n) (c .same) (choice-take n (rewrittenVariables n row) e (c .whole) (omega arith)) in
+      let (met, near, own) = totalizer.completions n rules row d a e (ok .soundRules) (ok .long) (c .completion .whole) (c .completion .same) .0 (c .meets) in
+      let choice : Choice n a = subst (Choice n) (c .completion .same) (choice-take n (rewrittenVariables n row) e (c .completion .whole) (omega arith)) in
       (record { choice = choice; satisfies = met }, near, own)
 
   own : (a : List ℕ) → Model n (clauses rules) a → disagreement row a ≤ d → Completing n rules row d a (completion row a)
   own a m near =
       let (whole, same) = totalizer.completion-completes n row a (m .choice) in
       record {
-        whole = whole;
-        same = same;
+        completion = record { whole = whole; same = same };
         meets = totalizer.within-found n rules row d a (ok .soundRules) (ok .long) (m .choice) (m .satisfies) near;
       }
 

@@ -1,8 +1,8 @@
 -- What the answers of both routes say: whether some choice meets the rules with at most d broken wishes.
-use mathlib.Core.Path.{_≡_, refl, ap}
+use mathlib.Core.Path.{_≡_, refl}
 use mathlib.Core.List.{List}
 use mathlib.Core.Option.{Option, none, some}
-use Prim.Native.Nat.{ℕ, _≤_, _<_}
+use Prim.Native.Nat.{ℕ, _≤_}
 use native.Mathlib.Omega.{arith}
 use lib.IntN.{ℤ}
 use lib.ListN.{take, replicate}
@@ -15,7 +15,7 @@ use Rattle.totalizer.specs.Completion.{completion-choice}
 use Rattle.totalizer.specs.Totalizer.{rewrittenVariables, rewritten, completion}
 use Rattle.totalizer.specs.Theorems.{found-within, within-found}
 use Rattle.searches.specs.Admitted.{Admitted}
-use Rattle.searches.specs.Meaning.{search-found, search-none, plain-found, plain-nothing}
+use Rattle.searches.specs.Meaning.{search-found, search-none, plain-nothing}
 use Rattle.searches.specs.Searches.{found, brokenBy}
 use Rattle.agreement.specs.Second.{outcome, sound}
 

@@ -19,7 +19,7 @@ use Rattle.lent.specs.Sound.{unread, badRule}
 use Rattle.walk.specs.Walk.{plainWalk}
 use Rattle.totalizer.specs.Totalizer.{rewrittenVariables, rewritten}
 use Rattle.totalizer.specs.Theorems.{rewritten-variables, rewritten-sound}
-use Rattle.dimacs.specs.Format.{Reading, reading}
+use Rattle.dimacs.specs.Format.{Reading}
 use Rattle.dimacs.specs.RoundTrip.{read-written}
 use Rattle.dimacs.specs.Written.{written}
 use Rattle.searches.specs.Admitted.{Admitted, admitted-room}
