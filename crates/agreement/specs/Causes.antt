@@ -17,10 +17,10 @@ use Rattle.lent.specs.Lent.{refusalOf, outOfRange, wrongLength, oversized}
 use Rattle.lent.specs.Limits.{maxVariables, maxLimit}
 use Rattle.lent.specs.ScanLaws.{by-none}
 use Rattle.lent.specs.Sound.{unread, badRule, badWish}
-use Rattle.totalizer.specs.Totalizer.{rewritten}
+use Rattle.totalizer.specs.Totalizer.{rewrittenVariables, rewritten}
 use Rattle.searches.specs.Admitted.{Admitted, admitted-of}
 use Rattle.searches.specs.Searches.{lentToPlain}
-use Rattle.rewriting.specs.Rewrite.{lentToRewrite, rewriteReply}
+use Rattle.rewriting.specs.Rewrite.{lentToRewrite}
 use Rattle.agreement.specs.Routes.{Answered, Passes}
 use Rattle.agreement.specs.Claim.{Admissible}
 
@@ -44,27 +44,17 @@ pub short-none : (room needed : ℕ) → needed ≤ room → short room needed �
 short-none room needed h = ap (λ (b : Bool). cause b 15 needed) (le-ltb room needed h)
 
 -- the reply of a call with a cause or without one
-module _ (o : Option Refusal) (reply : Reply) where
-  pub passes-fine : (v x y z : ℕ) → Passes (unless o (answering v x y z)) → Fine o
-  passes-fine v x y z = go o
-    where
-      go : (o : Option Refusal) → Passes (unless o (answering v x y z)) → Fine o
-      go none h = tt
-      go (some r) h = h
+passes-fine : (o : Option Refusal) (v x y z : ℕ) → Passes (unless o (answering v x y z)) → Fine o
+passes-fine none v x y z h = tt
+passes-fine (some r) v x y z h = h
 
-  pub fine-passes : Fine o → Passes reply → Passes (unless o reply)
-  fine-passes = go o
-    where
-      go : (o : Option Refusal) → Fine o → Passes reply → Passes (unless o reply)
-      go none f h = h
-      go (some r) f h = f
+pub fine-passes : (o : Option Refusal) (reply : Reply) → Fine o → Passes reply → Passes (unless o reply)
+fine-passes none reply f h = h
+fine-passes (some r) reply f h = f
 
-  pub answered-past : Answered (unless o reply) → (unless o reply ≡ reply) × Answered reply
-  answered-past = go o
-    where
-      go : (o : Option Refusal) → Answered (unless o reply) → (unless o reply ≡ reply) × Answered reply
-      go none h = (refl, h)
-      go (some r) h = absurd h
+pub answered-past : (o : Option Refusal) (reply : Reply) → Answered (unless o reply) → (unless o reply ≡ reply) × Answered reply
+answered-past none reply h = (refl, h)
+answered-past (some r) reply h = absurd h
 
 -- of causes that are none or 15 at most, one with another number does not apply
 past : (o : Option Refusal) (causes : List (Option Refusal)) → (Fine o → o ≡ none) → Fine (first (o ∷ causes)) → (o ≡ none) × Fine (first causes)
@@ -115,7 +105,7 @@ module _ (n : ℕ) (rules : List ℤ) (row : List ℕ) where
   admitted a d h =
       at-limit (a .d) d h
       (admitted-with (a .d) (a .room)
-      (passes-fine (refusalOf (lentToRewrite n rules row (a .d) (a .room))) (rewriteReply n rules row (a .d) (a .room)) 1 _ _ 0 (a .passes)))
+      (passes-fine (refusalOf (lentToRewrite n rules row (a .d) (a .room))) 1 (rewrittenVariables n row) (length (rewritten n rules row (a .d))) 0 (a .passes)))
 
 -- plain search on a sound list is refused only for want of room
 pub plain-room : (n : ℕ) (list : List ℤ) (room : ℕ) → 0 < n → n ≤ maxVariables → badRule n unread 0 list ≡ none
