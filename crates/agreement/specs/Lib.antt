@@ -3,6 +3,7 @@ pub mod Causes
 pub mod Claim
 pub mod Completing
 pub mod Decided
+pub mod Example
 pub mod First
 pub mod Routes
 pub mod Second
