@@ -1,4 +1,4 @@
--- The two routes of document 01 ("Rewriting into plain rules", for mission demand 3), each from the definitions of the calls that it makes.
+-- The two routes of document 01 ("Rewriting into plain rules"), each from the definitions of the calls that it makes.
 use mathlib.Core.Path.{_≡_}
 use mathlib.Core.List.{List}
 use Prim.Native.Nat.{ℕ}
@@ -27,7 +27,8 @@ pub record Buffers : Type 0 where
   pub list : List ℤ
   pub choice : List ℕ
 
--- "Each call takes exactly what the one before it returned or left in the part it filled": the numbers of its answer, and as much from the front of the lent buffer as the answer says. The route from its last call on:
+-- The second route, from its last call to its first. "Each call takes exactly what the one before it returned or left in the part it filled": the numbers of its answer, and as much from the front of the lent buffer as the answer says.
+
 -- "then the number of settings and the list that were read to plain search"
 abbrev pub fromSearch : Buffers → ℕ → List ℤ → Reply
 fromSearch b n list = plainReply n list (length (b .choice))
@@ -62,7 +63,7 @@ abbrev pub Answered : Reply → Type 0
 Answered (refusing r) = ⊥
 Answered (answering v x y z) = Unit {0}
 
--- a reply that is "no[t] refused except with 15"
+-- an answer, or a refusal with 15
 abbrev pub Passes : Reply → Type 0
 Passes (refusing r) = r .number ≡ 15
 Passes (answering v x y z) = Unit {0}
