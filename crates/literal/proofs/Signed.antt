@@ -66,3 +66,12 @@ pub literal-fits : (v : ℕ) (positive : Bool) → v ≤ 2147483647 → SFits w3
 literal-fits v true h = record { sfits = omega arith }
 literal-fits zero false h = record { sfits = omega arith }
 literal-fits (suc k) false h = record { sfits = omega arith }
+
+-- the negation of an i32 other than the least
+pub opposite-is : (x : ℤ) → SFits w32 x → pos 0 -ℤ toZ w32 (ofZ w32 x) ≡ negℤ x
+opposite-is x f = rw (toZ-ofZ w32 x f) (+ℤ-idl (negℤ x))
+
+pub opposite-fits : (x : ℤ) → natAbs x ≤ 2147483647 → SFits w32 (negℤ x)
+opposite-fits (pos zero) h = record { sfits = omega arith }
+opposite-fits (pos (suc n)) h = record { sfits = omega arith }
+opposite-fits (negsuc n) h = record { sfits = omega arith }

@@ -2,6 +2,7 @@
 // the numbers and booleans that these functions give.
 ghost use mathlib.Core.Path.{_≡_};
 ghost use Prim.Native.Nat.{_≤_};
+ghost use lib.IntN.{negℤ};
 ghost use Rattle.literal.specs.Literal.{variable, wanted, literal, value, holds};
 
 // A variable's number, from 1 (document 01: a setting).
@@ -59,4 +60,12 @@ pub fn holds_in(x: i32, assignment: &[u8]) -> bool
     ensures { λ r. ⌜ r ≡ holds (now (assignment .entry)) x ⌝ }
 {
     value_of(variable_of(x), assignment) == wanted_by(x)
+}
+
+// The opposite literal. The bound is the greatest i32.
+pub fn negate(x: i32) -> i32
+    requires { ⌜ variable x ≤ 2147483647 ⌝ }
+    ensures { λ r. ⌜ r ≡ negℤ x ⌝ }
+{
+    -x
 }

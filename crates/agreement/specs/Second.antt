@@ -1,0 +1,150 @@
+-- The second route on admitted input, call by call: each is refused only for want of room, and plain search is asked for the rewritten rules.
+use mathlib.Core.Path.{_≡_, refl, sym, ap, subst, _∙_}
+use mathlib.Core.Bool.{Bool, false}
+use mathlib.Core.List.{List}
+use mathlib.Core.Option.{Option, none, some}
+use Prim.Native.Nat.{ℕ, _≤_, _<_}
+use native.Mathlib.Nat.{le-refl}
+use native.Mathlib.Omega.{arith}
+use lib.IntN.{ℤ}
+use lib.ListN.{length, take, drop, replicate, length-replicate}
+use lib.Seq.{take-append-seam}
+use borrow.Author.Tests.{le-ltb, ne-eqb}
+use Rattle.formula.specs.Formula.{clauses}
+use Rattle.refusal.specs.declared.Refusal.{Refusal}
+use Rattle.refusal.specs.Reply.{Reply, cause, answering, unless, filled}
+use Rattle.lent.specs.Lent.{refusalOf, outOfRange}
+use Rattle.lent.specs.Limits.{maxVariables}
+use Rattle.lent.specs.Sound.{unread, badRule}
+use Rattle.walk.specs.Walk.{plainWalk}
+use Rattle.totalizer.specs.Totalizer.{rewrittenVariables, rewritten}
+use Rattle.totalizer.specs.Theorems.{rewritten-variables, rewritten-sound}
+use Rattle.dimacs.specs.Format.{Reading}
+use Rattle.dimacs.specs.RoundTrip.{read-written}
+use Rattle.dimacs.specs.Written.{written}
+use Rattle.searches.specs.Admitted.{Admitted, admitted-room}
+use Rattle.searches.specs.Searches.{found, brokenBy}
+use Rattle.rewriting.specs.Rewrite.{lentToRewrite, rewriteOutput}
+use Rattle.rule_writer.specs.Laws.{by-room}
+use Rattle.rule_writer.specs.Write.{lentToWrite, writeOutput}
+use Rattle.rule_reader.specs.Read.{tooShort, readReply, readOutput}
+use Rattle.agreement.specs.Causes.{short, short-fine, short-none, fine-passes, answered-past, plain-room}
+use Rattle.agreement.specs.Routes.{onAnswer, Buffers, fromSearch, fromReader, fromWriter, secondRoute, Answered, Passes}
+
+on-unless : (o : Option Refusal) (v x y z : ℕ) (next : ℕ → ℕ → ℕ → ℕ → Reply) → onAnswer (unless o (answering v x y z)) next ≡ unless o (next v x y z)
+on-unless none v x y z next = refl
+on-unless (some r) v x y z next = refl
+
+-- the part that a call filled is its result
+take-filled {ℓ} : {A : Type ℓ} (o : Option Refusal) (result out : List A) (next : List A → Reply)
+    → unless o (next (take (length result) (filled o result out))) ≡ unless o (next result)
+take-filled none result out next = ap next (take-append-seam result (drop (length result) out))
+take-filled (some r) result out next = refl
+
+pub found-answered : (o : Option ℕ) → Answered (found o)
+found-answered none = tt
+found-answered (some k) = tt
+
+pub found-passes : (o : Option ℕ) → Passes (found o)
+found-passes none = tt
+found-passes (some k) = tt
+
+-- what plain search answers on the rewritten rules
+abbrev pub outcome : ℕ → List ℤ → List ℕ → ℕ → Reply
+outcome n rules row d = found (brokenBy (plainWalk (rewrittenVariables n row) (clauses (rewritten n rules row d)) .answer))
+
+module _ (n : ℕ) (rules : List ℤ) (row : List ℕ) (d : ℕ) (a : Admitted n rules row d) where
+  abbrev N : ℕ
+  N = rewrittenVariables n row
+
+  abbrev R : List ℤ
+  R = rewritten n rules row d
+
+  abbrev W : List ℕ
+  W = written N R
+
+  pub sound : badRule N unread 0 R ≡ none
+  sound = rewritten-sound n rules row d (a .soundRules) (a .long) (a .soundRow) (a .few) (a .short)
+
+  positive : 0 < N
+  positive = omega (arith, a .positive)
+
+  most : N ≤ maxVariables
+  most = rewritten-variables n row (a .small) (a .soundRow)
+
+  module _ (b : Buffers) where
+    search-says : fromSearch b N R ≡ unless (short (length (b .choice)) N) (outcome n rules row d)
+    search-says = ap (λ (o : Option Refusal). unless o (outcome n rules row d)) (plain-room N R (length (b .choice)) positive most sound)
+
+    reader-says : fromReader b W ≡ unless (short (length (b .list)) (length R)) (fromSearch b N R)
+    reader-says =
+        ap
+        (λ (g : Reading). onAnswer (readReply g (b .list)) (λ (v n c size : ℕ). fromSearch b n (take size (readOutput g (b .list)))))
+        (read-written N R positive most sound)
+        ∙ on-unless (tooShort R (b .list)) 1 N (length (clauses R)) (length R)
+        (λ (v n c size : ℕ). fromSearch b n (take size (filled (tooShort R (b .list)) R (b .list))))
+        ∙ take-filled (tooShort R (b .list)) R (b .list) (fromSearch b N)
+
+    writer-says : fromWriter b N R ≡ unless (short (length (b .file)) (length W)) (fromReader b W)
+    writer-says =
+        let o : Option Refusal = refusalOf (lentToWrite N R (length (b .file))) in
+        let range : outOfRange N 0 ≡ false = rw (ne-eqb N 0 (λ z. omega (arith, positive)), le-ltb maxVariables N most) in
+        on-unless o 1 (length W) 0 0 (λ (v size y z : ℕ). fromReader b (take size (writeOutput N R (b .file))))
+        ∙ take-filled o W (b .file) (fromReader b)
+        ∙ ap (λ (p : Option Refusal). unless p (fromReader b W)) (by-room N R (b .file) (ap (λ (t : Bool). cause t 14 0) range) sound)
+
+    rewriting-says : secondRoute n rules row d b ≡ unless (short (length (b .rewritten)) (length R)) (fromWriter b N R)
+    rewriting-says =
+        let o : Option Refusal = refusalOf (lentToRewrite n rules row d (length (b .rewritten))) in
+        on-unless o 1 N (length R) 0 (λ (v variables size z : ℕ). fromWriter b variables (take size (rewriteOutput n rules row d (b .rewritten))))
+        ∙ take-filled o R (b .rewritten) (fromWriter b N)
+        ∙ ap (λ (p : Option Refusal). unless p (fromWriter b N R)) (admitted-room n rules row d (length R) (length (b .rewritten)) a)
+
+    -- the whole route: the refusals for want of room, in the order of the calls, and then the answer of plain search
+    pub second-says : secondRoute n rules row d b
+        ≡ unless (short (length (b .rewritten)) (length R))
+        (unless (short (length (b .file)) (length W))
+        (unless (short (length (b .list)) (length R))
+        (unless (short (length (b .choice)) N) (outcome n rules row d))))
+    second-says =
+        rewriting-says
+        ∙ ap (λ (r : Reply). unless (short (length (b .rewritten)) (length R)) r)
+        (writer-says
+        ∙ ap (λ (r : Reply). unless (short (length (b .file)) (length W)) r)
+        (reader-says ∙ ap (λ (r : Reply). unless (short (length (b .list)) (length R)) r) search-says))
+
+    pub second-passes : Passes (secondRoute n rules row d b)
+    second-passes =
+        subst Passes (sym second-says)
+        (fine-passes (short (length (b .rewritten)) (length R)) _ (short-fine (length (b .rewritten)) (length R))
+        (fine-passes (short (length (b .file)) (length W)) _ (short-fine (length (b .file)) (length W))
+        (fine-passes (short (length (b .list)) (length R)) _ (short-fine (length (b .list)) (length R))
+        (fine-passes (short (length (b .choice)) N) (outcome n rules row d) (short-fine (length (b .choice)) N)
+        (found-passes (brokenBy (plainWalk N (clauses R) .answer)))))))
+
+    pub second-outcome : Answered (secondRoute n rules row d b) → secondRoute n rules row d b ≡ outcome n rules row d
+    second-outcome h =
+        let one = answered-past (short (length (b .rewritten)) (length R)) _ (subst Answered second-says h) in
+        let two = answered-past (short (length (b .file)) (length W)) _ (one .1) in
+        let three = answered-past (short (length (b .list)) (length R)) _ (two .1) in
+        let four = answered-past (short (length (b .choice)) N) (outcome n rules row d) (three .1) in
+        second-says ∙ one .0 ∙ two .0 ∙ three .0 ∙ four .0
+
+  abbrev off : List ℕ
+  off = replicate N 0
+
+  -- buffers of just the lengths that are needed
+  abbrev pub enough : Buffers
+  enough = record { rewritten = R; file = W; list = R; choice = off }
+
+  pub second-enough : Answered (secondRoute n rules row d enough)
+  second-enough =
+      let all : secondRoute n rules row d enough ≡ outcome n rules row d =
+      second-says enough
+      ∙ ap (λ (o : Option Refusal). unless o (unless (short (length W) (length W)) (unless o (unless (short (length off) N) (outcome n rules row d)))))
+      (short-none (length R) (length R) (le-refl (length R)))
+      ∙ ap (λ (o : Option Refusal). unless o (unless (short (length off) N) (outcome n rules row d)))
+      (short-none (length W) (length W) (le-refl (length W)))
+      ∙ ap (λ (o : Option Refusal). unless o (outcome n rules row d)) (short-none (length off) N (omega (arith, length-replicate {A = ℕ} N 0)))
+      in
+      subst Answered (sym all) (found-answered (brokenBy (plainWalk N (clauses R) .answer)))

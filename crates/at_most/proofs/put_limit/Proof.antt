@@ -1,0 +1,80 @@
+-- `at_most::put_limit` meets its contract.
+use mathlib.Core.Path.{_≡_, ap, _∙_}
+use mathlib.Core.List.{[], _∷_}
+use Prim.Native.Nat.{_+_}
+use native.Mathlib.Omega.{arith}
+use lib.IntN.{ℤ, pos, negℤ}
+use lib.ListN.{length}
+use mir.Syntax.{w32}
+use mir.Val.{toZ, ofZ}
+use Rattle.literal.specs.Literal.{variable}
+use Rattle.literal.specs.Laws.{as-read}
+use Rattle.emit.specs.Wrote.{wrote-none, wrote-as}
+use Rattle.adder.specs.Adder.{outputs}
+use Rattle.adder.specs.Laws.{variable-outputs, reach-less}
+use Rattle.at_most.specs.Limit.{limiting-none, limiting-one}
+use borrow.Author.Needs.{needs}
+use Rattle.at_most.proofs.put_limit.Statement.{statement}
+use Rattle.at_most.proofs.put_limit.Tie as tie
+
+add-output-of : tie.Need-add-output-of
+add-output-of c = search needs
+
+output-of-requires : tie.Need-output-of-requires
+output-of-requires c κs =
+    let args = c .before .args in
+    omega (arith, reach-less (args .s) (args .d + 1) (args .m) (omega (arith, c .if1 .taken)), c .before .pre .0)
+
+-- the output, as it is passed on
+passed : (c : tie.After-output-of) → toZ w32 (ofZ w32 (c .output-of .result)) ≡ outputs (c .before .before .args .s) (c .before .before .args .d + 1)
+passed c = as-read (c .output-of .result) (c .output-of .ok) ∙ c .output-of .ensures
+
+negate-requires : tie.Need-negate-requires
+negate-requires c κs =
+    let args = c .before .before .args in
+    omega (
+      arith,
+      ap variable (passed c),
+      variable-outputs (args .s) (args .d + 1),
+      reach-less (args .s) (args .d + 1) (args .m) (omega (arith, c .before .if1 .taken)),
+      c .before .before .pre .0,
+    )
+
+put-closed-requires : tie.Need-put-closed-requires
+put-closed-requires c κs =
+    let args = c .before .before .before .before .args in
+    omega (
+      arith,
+      ap length (limiting-one (outputs (args .s)) (args .m) (args .d) (c .before .before .before .if1 .taken)),
+      c .before .before .before .before .pre .1,
+    )
+
+same-length : tie.Need-same-length
+same-length c = search needs
+
+returns : tie.Need-returns
+returns c =
+    let args = c .before .before .before .before .before .before .args in
+    let negate = c .before .before .before .negate in
+    let x : toZ w32 (ofZ w32 (negate .result)) ≡ negℤ (outputs (args .s) (args .d + 1)) =
+    as-read (negate .result) (negate .ok) ∙ negate .ensures ∙ ap negℤ (passed (c .before .before .before .before)) in
+    wrote-as
+    (ap (λ (z : ℤ). z ∷ pos 0 ∷ []) x ∙ limiting-one (outputs (args .s)) (args .m) (args .d) (c .before .before .before .before .before .if1 .taken))
+    (c .before .put-closed .ensures)
+
+returns-2 : tie.Need-returns-2
+returns-2 c =
+    let args = c .before .args in
+    wrote-as (limiting-none (outputs (args .s)) (args .m) (args .d) (c .if1 .left)) (wrote-none (args .out .now) (args .at))
+
+pub put-limit-spec : {M : Type 1} → statement M
+put-limit-spec =
+    tie.close
+    (tie.spec
+    add-output-of
+    output-of-requires
+    negate-requires
+    put-closed-requires
+    same-length
+    returns
+    returns-2)

@@ -1,0 +1,4 @@
+pub mod Causes
+pub mod Leaves
+pub mod Rewrite
+pub mod Writing
