@@ -33,12 +33,8 @@ fn show(reply: ReadRules) {
         ReadRules::Refused(r) => {
             report::refused(r.number, r.place);
         }
-        ReadRules::Read {
-            variables,
-            clauses,
-            length,
-        } => {
-            report::values(variables, clauses, length);
+        ReadRules::Read(counts) => {
+            report::values(counts.variables, counts.clauses, counts.length);
         }
     }
 }

@@ -33,12 +33,8 @@ fn show(reply: ReadWishes) {
         ReadWishes::Refused(r) => {
             report::refused(r.number, r.place);
         }
-        ReadWishes::Read {
-            variables,
-            wishes,
-            limit,
-        } => {
-            report::values(variables, wishes, limit);
+        ReadWishes::Read(header) => {
+            report::values(header.variables, header.wishes, header.limit);
         }
     }
 }
