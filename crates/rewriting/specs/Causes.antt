@@ -14,7 +14,7 @@ use Rattle.distance.specs.Distance.{wishes}
 use Rattle.refusal.specs.declared.Refusal.{Refusal}
 use Rattle.refusal.specs.declared.Verdict.{Verdict}
 use Rattle.refusal.specs.declared.Verdict.the-variants.{Pass, Refuse}
-use Rattle.refusal.specs.Laws.{first-early, first-late, cause-none, causeAt-none}
+use Rattle.refusal.specs.Laws.{first-early, first-late, no-first, cause-none, causeAt-none}
 use Rattle.refusal.specs.Reply.{Reply, refusal, refused, first, cause, causeAt, refusing, answering, unless, filled}
 use Rattle.lent.specs.Lent.{refusalOf, outOfRange, oversized}
 use Rattle.lent.specs.Limits.{maxWishVariables, maxWishClauses, maxWishLiterals, maxWishes}
@@ -23,50 +23,17 @@ use Rattle.lent.specs.declared.problem.Problem.{Problem}
 use Rattle.lent.specs.ScanLaws.{problem-refused, problem-sound}
 use Rattle.lent.specs.Scans.{unsound, problem}
 use Rattle.lent.specs.Sound.{unread, badRule, badWish}
+use Rattle.admission.specs.Causes.{laterCauses}
 use Rattle.totalizer.specs.Totalizer.{leaves, rewrittenVariables, rewritten}
 use Rattle.totalizer.specs.Rows.{leaves-length, sound-wishes}
-use Rattle.rewriting.specs.Rewrite.{lentToRewrite, rewriteReply, rewriteOutput, replyOf}
+use Rattle.rewriting.specs.Rewrite.{lentToRewrite, rewriteReply, rewriteOutput, replyOf, done}
 use Rattle.rewriting.specs.declared.Rewritten.{Rewritten}
-use Rattle.rewriting.specs.declared.Rewritten.the-variants.{Done}
-
--- 11, 12 and 15: the row's length, the size of the problem, and the room in the lent list
-abbrev pub laterCauses : ℕ → ℕ → ℕ → ℕ → ℕ → ℕ → List (Option Refusal)
-laterCauses n long clauses literals needed room =
-    cause (not (eqb long n)) 11 0
-    ∷ cause (oversized n clauses literals) 12 0
-    ∷ cause (ltb room needed) 15 needed
-    ∷ []
-
--- the first of them
-module _ (n long k m needed room : ℕ) where
-  abbrev misfit : Option Refusal
-  misfit = cause (not (eqb long n)) 11 0
-
-  abbrev large : Option Refusal
-  large = cause (oversized n k m) 12 0
-
-  pub by-length : (r : Refusal) → misfit ≡ some r → some r ≡ first (laterCauses n long k m needed room)
-  by-length r e = rw e
-
-  pub by-size : (r : Refusal) → misfit ≡ none → large ≡ some r → some r ≡ first (laterCauses n long k m needed room)
-  by-size r f e = rw (f, e)
-
-  pub by-room : misfit ≡ none → large ≡ none → room < needed → some (refusal 15 needed) ≡ first (laterCauses n long k m needed room)
-  by-room f l h = rw (f, l, lt-ltb room needed h)
-
-  pub by-none : misfit ≡ none → large ≡ none → needed ≤ room → none ≡ first (laterCauses n long k m needed room)
-  by-none f l h = rw (f, l, le-ltb room needed h)
 
 -- a cause that never applies
 first-skip : (l m : List (Option Refusal)) → first (l ++ (none ∷ m)) ≡ first (l ++ m)
 first-skip [] m = refl
 first-skip (none ∷ l) m = first-skip l m
 first-skip (some r ∷ l) m = refl
-
--- several causes of which none applies
-nothing : (o : Option Refusal) (l : List (Option Refusal)) → first (o ∷ l) ≡ none → (o ≡ none) × (first l ≡ none)
-nothing none l e = (refl, e)
-nothing (some r) l e = absurd (Option·some-ne-none r e)
 
 -- What holds of lent values for which there is no cause to refuse.
 pub record Admitted (n : ℕ) (rules : List ℤ) (row : List ℕ) (d : ℕ) (out : List ℤ) : Type 0 where
@@ -93,9 +60,9 @@ pub few-leaves : {n : ℕ} {rules : List ℤ} {row : List ℕ} {d k m w : ℕ} �
 few-leaves {n} {rules} {row} {d} s =
     let wish : Option Refusal = causeAt 13 (badWish 0 0 row) in
     let rule : Option Refusal = causeAt 13 (badRule n unread 0 rules) in
-    let one = nothing (cause (outOfRange n d) 14 0) (rule ∷ wish ∷ []) (s .sound) in
-    let two = nothing rule (wish ∷ []) (one .1) in
-    let three = nothing wish [] (two .1) in
+    let one = no-first (cause (outOfRange n d) 14 0) (rule ∷ wish ∷ []) (s .sound) in
+    let two = no-first rule (wish ∷ []) (one .1) in
+    let three = no-first wish [] (two .1) in
     omega (arith, leaves-length row, sound-wishes row (causeAt-none 13 (badWish 0 0 row) (three .0)))
 
 pub few-wishes : {n : ℕ} {rules : List ℤ} {row : List ℕ} {d k m w : ℕ} → Scanned n rules row d k m w → w ≤ maxWishes
@@ -150,15 +117,15 @@ module _ (n : ℕ) (rules : List ℤ) (row : List ℕ) (d : ℕ) (out : List ℤ
     refused-late r f = answers (refusing r) out (some r) (all ∙ ap refused f) (refl, refl)
 
     module _ (f : v ≡ Pass) where
-      pub answered : (r : Rewritten) (result : List ℤ) → r ≡ Done (rewrittenVariables n row) needed → result ≡ filled none (rewritten n rules row d) out
+      pub answered : (r : Rewritten) (result : List ℤ) → r ≡ done (rewrittenVariables n row) needed → result ≡ filled none (rewritten n rules row d) out
           → (replyOf r ≡ rewriteReply n rules row d (length out)) × (result ≡ rewriteOutput n rules row d out)
       answered r result a b = answers (replyOf r) result none (all ∙ ap refused f) (ap replyOf a, b)
 
       pub admitted : Admitted n rules row d out
       admitted =
-          let one = nothing (cause (not (eqb (length row) n)) 11 0) (cause (oversized n k m) 12 0 ∷ cause (ltb (length out) h) 15 h ∷ []) (sym e ∙ ap refused f) in
-          let two = nothing (cause (oversized n k m) 12 0) (cause (ltb (length out) h) 15 h ∷ []) (one .1) in
-          let three = nothing (cause (ltb (length out) h) 15 h) [] (two .1) in
+          let one = no-first (cause (not (eqb (length row) n)) 11 0) (cause (oversized n k m) 12 0 ∷ cause (ltb (length out) h) 15 h ∷ []) (sym e ∙ ap refused f) in
+          let two = no-first (cause (oversized n k m) 12 0) (cause (ltb (length out) h) 15 h ∷ []) (one .1) in
+          let three = no-first (cause (ltb (length out) h) 15 h) [] (two .1) in
           record {
             small = ltb-false maxWishVariables n (first-false (ltb maxWishVariables n) (ltb maxWishClauses k || ltb maxWishLiterals m) (cause-none (oversized n k m) 12 0 (two .0)));
             long = eqb-true (length row) n (unnot (eqb (length row) n) (cause-none (not (eqb (length row) n)) 11 0 (one .0)));

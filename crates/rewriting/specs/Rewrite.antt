@@ -38,4 +38,7 @@ rewriteOutput n rules row d out =
 -- the numbers of each answer
 abbrev pub replyOf : Rewritten → Reply
 replyOf (Refused r) = refusing r
-replyOf (Done variables length) = answering 1 variables length 0
+replyOf (Done sizes) = answering 1 (sizes .variables) (sizes .length) 0
+
+abbrev pub done : ℕ → ℕ → Rewritten
+done variables length = Done (record { variables = variables; length = length })

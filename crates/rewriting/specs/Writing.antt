@@ -17,7 +17,7 @@ use Rattle.totalizer.specs.Trees as trees
 use Rattle.totalizer.specs.Rows.{leaves-length, leaves-within}
 use Rattle.totalizer.specs.Sizes.{added-most}
 use Rattle.groups.specs.Groups.{Within}
-use Rattle.rewriting.specs.declared.Rewritten.the-variants.{Done}
+use Rattle.rewriting.specs.Rewrite.{done}
 use Rattle.rewriting.specs.Causes.{Admitted}
 
 -- literals of the variables 1 to n are within the limit, if n is
@@ -55,9 +55,9 @@ module _ (n : ℕ) (rules : List ℤ) (row : List ℕ) (d : ℕ) (out : List ℤ
       )
 
       pub all-written : {p : List ℤ} {last at : ℕ} → Wrote (own (take m found)) o from p at × (last ≡ n + added (tree (take m found)))
-          → (Done last at ≡ Done (rewrittenVariables n row) (length (rewritten n rules row d))) × (p ≡ filled none (rewritten n rules row d) out)
+          → (done last at ≡ done (rewrittenVariables n row) (length (rewritten n rules row d))) × (p ≡ filled none (rewritten n rules row d) out)
       all-written {p} {last} {at} e =
           let whole : Wrote (rewritten n rules row d) out 0 p at = wrote-more copied (wrote-as (ap own these) (e .0)) in (
-            ap₂ Done (e .1 ∙ ap (λ (l : List ℤ). n + added (tree l)) these) (whole .place ∙ zero-add (length (rewritten n rules row d))),
+            ap₂ done (e .1 ∙ ap (λ (l : List ℤ). n + added (tree l)) these) (whole .place ∙ zero-add (length (rewritten n rules row d))),
             wrote-whole whole (ok .room),
           )

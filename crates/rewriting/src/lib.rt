@@ -8,15 +8,20 @@ use refusal::Verdict;
 ghost use mathlib.Core.Option.{none};
 ghost use mathlib.Core.Path.{_≡_};
 ghost use lib.ListN.{length};
-ghost use Rattle.refusal.specs.Reply.{refused, first, filled};
+ghost use Rattle.refusal.specs.Reply.{filled};
 ghost use Rattle.totalizer.specs.Totalizer.{rewrittenVariables, rewritten};
-ghost use Rattle.rewriting.specs.Causes.{Admitted, laterCauses};
-ghost use Rattle.rewriting.specs.Rewrite.{rewriteReply, rewriteOutput, replyOf};
+ghost use Rattle.rewriting.specs.Causes.{Admitted};
+ghost use Rattle.rewriting.specs.Rewrite.{rewriteReply, rewriteOutput, replyOf, done};
 
 // Refused, or the number of variables and the length of the rewritten list.
 pub enum Rewritten {
     Refused(Refusal),
-    Done { variables: usize, length: usize },
+    Done(Sizes),
+}
+
+pub struct Sizes {
+    pub variables: usize,
+    pub length: usize,
 }
 
 // Rewrites a rule list of n variables and a wish row with the limit d.
@@ -32,7 +37,7 @@ pub fn rewrite(n: usize, rules: &[i32], row: &[u8], d: usize, out: &mut [i32]) -
             wishes,
         } => {
             let needed = rules.len() + at_most::length_of(wishes, d);
-            match check_rest(n, row.len(), clauses, literals, needed, out.len()) {
+            match admission::check_rest(n, row.len(), clauses, literals, needed, out.len()) {
                 Verdict::Refuse(r) => Rewritten::Refused(r),
                 Verdict::Pass => write(n, rules, row, d, out),
             }
@@ -40,41 +45,18 @@ pub fn rewrite(n: usize, rules: &[i32], row: &[u8], d: usize, out: &mut [i32]) -
     }
 }
 
-// The causes that come after the rules and the row: a wrong length, the size, no room.
-fn check_rest(
-    n: usize,
-    length: usize,
-    clauses: usize,
-    literals: usize,
-    needed: usize,
-    room: usize,
-) -> Verdict
-    ensures { λ r. ⌜ refused r ≡ first (laterCauses n length clauses literals needed room) ⌝ }
-{
-    if let Verdict::Refuse(r) = lent::check_length(n, length) {
-        return Verdict::Refuse(r);
-    }
-    if let Verdict::Refuse(r) = lent::check_size(n, clauses, literals) {
-        return Verdict::Refuse(r);
-    }
-    if room < needed {
-        return refusal::refuse(15, needed);
-    }
-    Verdict::Pass
-}
-
 // Writes the rewritten list where it has room.
 fn write(n: usize, rules: &[i32], row: &[u8], d: usize, out: &mut [i32]) -> Rewritten
     requires { ⌜ Admitted n (now rules) (now row) d (now out) ⌝ }
-    ensures reply { λ r. ⌜ r ≡ Rewritten.Done (rewrittenVariables n (now (row .entry))) (length (rewritten n (now (rules .entry)) (now (row .entry)) d)) ⌝ }
+    ensures reply { λ r. ⌜ r ≡ done (rewrittenVariables n (now (row .entry))) (length (rewritten n (now (rules .entry)) (now (row .entry)) d)) ⌝ }
     ensures output { λ r. ⌜ now (out .exit) ≡ filled none (rewritten n (now (rules .entry)) (now (row .entry)) d) (now (out .entry)) ⌝ }
 {
     let mut found = leaves::no_leaves();
     let m = leaves::put_leaves(row, &mut found);
     let from = emit::put_all(rules, out, 0);
     let end = at_most::put_at_most(&found[..m], n, d, out, from);
-    Rewritten::Done {
+    Rewritten::Done(Sizes {
         variables: end.last,
         length: end.at,
-    }
+    })
 }
