@@ -1,12 +1,11 @@
 -- The cases that document 01 marks with a star ("Examples"), in one list that one theorem covers.
 use mathlib.Core.Path.{_≡_, refl}
 use mathlib.Core.List.{List, [], _∷_, _++_, map}
-use mathlib.Core.Option.{Option, none, some}
 use Prim.Native.Nat.{ℕ}
 use lib.IntN.{ℤ, pos}
 use lib.ListN.{length, take}
-use Rattle.distance.specs.Distance.{disagreement, least, nearest, within}
 use Rattle.refusal.specs.Reply.{Reply, refusal, refusing, answering}
+use Rattle.searches.specs.Searches.{searchReply, nearestReply}
 use Rattle.dimacs.specs.Class.{classOf}
 use Rattle.dimacs.specs.Format as rule
 use Rattle.wish_file.specs.Format as wish
@@ -17,17 +16,12 @@ pub record Case : Type 0 where
   pub given : Reply
   pub stated : Reply
 
--- found with a count of broken wishes, or none
-abbrev pub found : Option ℕ → Reply
-found none = answering 0 0 0 0
-found (some k) = answering 1 k 0 0
+-- nearest, and the wish search with a limit, where a choice of n bytes is lent
+abbrev nearestOf : ℕ → List ℤ → List ℕ → Reply
+nearestOf n rules row = nearestReply n rules row n
 
-abbrev pub nearestCount : ℕ → List ℤ → List ℕ → Reply
-nearestCount n rules row = found (nearest n rules row)
-
--- the least number of broken wishes among the choices within the limit
-abbrev pub limitedCount : ℕ → List ℤ → List ℕ → ℕ → Reply
-limitedCount n rules row d = found (least (map (disagreement row) (within n rules row d)))
+abbrev searchOf : ℕ → List ℤ → List ℕ → ℕ → Reply
+searchOf n rules row d = searchReply n rules row d n
 
 -- a rule file is refused, or has an N, a C and a list of some length
 abbrev pub ruleReply : rule.Reading → Reply
@@ -52,14 +46,14 @@ afterHeader s = (112 ∷ 32 ∷ 99 ∷ 110 ∷ 102 ∷ 32 ∷ 49 ∷ 32 ∷ 49 �
 abbrev pub starred : List Case
 starred =
     -- "n = 2, rule 1 2, both wished off: nearest 1; limit 0 none; limit 1 found"
-    record { given = nearestCount 2 oneOrTwo bothOff; stated = answering 1 1 0 0 }
-    ∷ record { given = limitedCount 2 oneOrTwo bothOff 0; stated = answering 0 0 0 0 }
-    ∷ record { given = limitedCount 2 oneOrTwo bothOff 1; stated = answering 1 1 0 0 }
+    record { given = nearestOf 2 oneOrTwo bothOff; stated = answering 1 1 0 0 }
+    ∷ record { given = searchOf 2 oneOrTwo bothOff 0; stated = answering 0 0 0 0 }
+    ∷ record { given = searchOf 2 oneOrTwo bothOff 1; stated = answering 1 1 0 0 }
     -- "One empty rule: nearest none"
-    ∷ record { given = nearestCount 1 (pos 0 ∷ []) (1 ∷ []); stated = answering 0 0 0 0 }
+    ∷ record { given = nearestOf 1 (pos 0 ∷ []) (1 ∷ []); stated = answering 0 0 0 0 }
     -- "n = 1, no rules: the wish is kept at limit 0"
-    ∷ record { given = limitedCount 1 [] (0 ∷ []) 0; stated = answering 1 0 0 0 }
-    ∷ record { given = limitedCount 1 [] (1 ∷ []) 0; stated = answering 1 0 0 0 }
+    ∷ record { given = searchOf 1 [] (0 ∷ []) 0; stated = answering 1 0 0 0 }
+    ∷ record { given = searchOf 1 [] (1 ∷ []) 0; stated = answering 1 0 0 0 }
     -- "empty file 1 at 0"
     ∷ record { given = ruleReply (rule.reading []); stated = refusing (refusal 1 0) }
     -- "After `p cnf 1 1` and a line feed": "`-0 0` 3 at 10", "`2 0` 4 at 10", "`1 -1 0` 5 at 12", "`1` and the end 6 at 11"
