@@ -12,7 +12,7 @@ use lib.Seq.{take-append-seam}
 use borrow.Author.Tests.{le-ltb, ne-eqb}
 use Rattle.formula.specs.Formula.{clauses}
 use Rattle.refusal.specs.declared.Refusal.{Refusal}
-use Rattle.refusal.specs.Reply.{Reply, cause, answering, unless, filled}
+use Rattle.refusal.specs.Reply.{Reply, cause, answering, unless, filled, tooShort}
 use Rattle.lent.specs.Lent.{refusalOf, outOfRange}
 use Rattle.lent.specs.Limits.{maxVariables}
 use Rattle.lent.specs.Sound.{unread, badRule}
@@ -27,7 +27,7 @@ use Rattle.searches.specs.Searches.{found, brokenBy}
 use Rattle.rewriting.specs.Rewrite.{lentToRewrite, rewriteOutput}
 use Rattle.rule_writer.specs.Laws.{by-room}
 use Rattle.rule_writer.specs.Write.{lentToWrite, writeOutput}
-use Rattle.rule_reader.specs.Read.{tooShort, readReply, readOutput}
+use Rattle.rule_reader.specs.Read.{readReply, readOutput}
 use Rattle.agreement.specs.Causes.{short, short-fine, short-none, fine-passes, answered-past, plain-room}
 use Rattle.agreement.specs.Routes.{onAnswer, Buffers, fromSearch, fromReader, fromWriter, secondRoute, Answered, Passes}
 
@@ -81,9 +81,9 @@ module _ (n : ℕ) (rules : List ℤ) (row : List ℕ) (d : ℕ) (a : Admitted n
         ap
         (λ (g : Reading). onAnswer (readReply g (b .list)) (λ (v n c size : ℕ). fromSearch b n (take size (readOutput g (b .list)))))
         (read-written N R positive most sound)
-        ∙ on-unless (tooShort R (b .list)) 1 N (length (clauses R)) (length R)
-        (λ (v n c size : ℕ). fromSearch b n (take size (filled (tooShort R (b .list)) R (b .list))))
-        ∙ take-filled (tooShort R (b .list)) R (b .list) (fromSearch b N)
+        ∙ on-unless (tooShort (length R) (length (b .list))) 1 N (length (clauses R)) (length R)
+        (λ (v n c size : ℕ). fromSearch b n (take size (filled (tooShort (length R) (length (b .list))) R (b .list))))
+        ∙ take-filled (tooShort (length R) (length (b .list))) R (b .list) (fromSearch b N)
 
     writer-says : fromWriter b N R ≡ unless (short (length (b .file)) (length W)) (fromReader b W)
     writer-says =
