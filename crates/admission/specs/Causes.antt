@@ -4,13 +4,13 @@ use mathlib.Core.Bool.{not}
 use mathlib.Core.List.{List, [], _∷_}
 use mathlib.Core.Option.{Option, none, some}
 use Prim.Native.Nat.{ℕ}
-use lib.Dec.{eqb, ltb}
+use lib.Dec.{eqb}
 use lib.IntN.{ℤ}
 use lib.ListN.{length}
 use Rattle.formula.specs.Formula.{clauses, literals}
 use Rattle.refusal.specs.declared.Refusal.{Refusal}
 use Rattle.refusal.specs.Laws.{first-late, first-last}
-use Rattle.refusal.specs.Reply.{refusal, first, cause, causeAt}
+use Rattle.refusal.specs.Reply.{refusal, first, cause, causeAt, tooShort}
 use Rattle.lent.specs.Lent.{refusalOf, outOfRange, wrongLength, oversized}
 use Rattle.lent.specs.Scans.{unsound}
 use Rattle.lent.specs.Sound.{unread, badRule, badWish}
@@ -22,7 +22,7 @@ abbrev pub laterCauses : ℕ → ℕ → ℕ → ℕ → ℕ → ℕ → List (O
 laterCauses n long clauses literals needed room =
     cause (not (eqb long n)) 11 0
     ∷ cause (oversized n clauses literals) 12 0
-    ∷ cause (ltb room needed) 15 needed
+    ∷ tooShort needed room
     ∷ []
 
 -- the first of them
@@ -41,7 +41,7 @@ decided-late n rules row d k m needed room sound e f =
     let early : List (Option Refusal) = cause (outOfRange n d) 14 0 ∷ causeAt 13 (badRule n unread 0 rules) ∷ causeAt 13 (badWish 0 0 row) ∷ [] in
     let wrong : Option Refusal = cause (wrongLength n row) 11 0 in
     let large : Option Refusal = cause (oversized n (length (clauses rules)) (literals (clauses rules))) 12 0 in
-    let short : Option Refusal = cause (ltb room needed) 15 needed in
+    let short : Option Refusal = tooShort needed room in
     ap₂ (λ (i j : ℕ). first (laterCauses n (length row) i j needed room)) e f
     ∙ sym (first-late early (none ∷ wrong ∷ none ∷ large ∷ short ∷ []) sound ∙ skip wrong (large ∷ short ∷ []))
 
@@ -53,5 +53,5 @@ module _ (n : ℕ) (rules : List ℤ) (room : ℕ) where
   pub plain-rules : cause (outOfRange n 0) 14 0 ≡ none → (place : ℕ) → badRule n unread 0 rules ≡ some place → some (refusal 13 place) ≡ refusalOf (lentToPlain n rules room)
   plain-rules e place f = sym (rw (e, f))
 
-  pub plain-room : cause (outOfRange n 0) 14 0 ≡ none → badRule n unread 0 rules ≡ none → (o : Option Refusal) → o ≡ cause (ltb room n) 15 n → o ≡ refusalOf (lentToPlain n rules room)
-  plain-room e f o g = g ∙ sym (rw (e, f) (first-last (cause (ltb room n) 15 n)))
+  pub plain-room : cause (outOfRange n 0) 14 0 ≡ none → badRule n unread 0 rules ≡ none → (o : Option Refusal) → o ≡ tooShort n room → o ≡ refusalOf (lentToPlain n rules room)
+  plain-room e f o g = g ∙ sym (rw (e, f) (first-last (tooShort n room)))

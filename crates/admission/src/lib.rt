@@ -4,8 +4,7 @@ use lent::RuleScan;
 use refusal::Verdict;
 ghost use mathlib.Core.Path.{_≡_};
 ghost use Prim.Native.Nat.{_≤_};
-ghost use lib.Dec.{ltb};
-ghost use Rattle.refusal.specs.Reply.{refused, first, cause};
+ghost use Rattle.refusal.specs.Reply.{refused, first, tooShort};
 ghost use Rattle.lent.specs.Lent.{refusalOf};
 ghost use Rattle.searches.specs.Searches.{lentToSearch, lentToPlain};
 ghost use Rattle.admission.specs.Causes.{laterCauses};
@@ -45,7 +44,7 @@ pub fn check_rest(
 }
 
 fn check_room(needed: usize, room: usize) -> Verdict
-    ensures { λ r. ⌜ refused r ≡ cause (ltb room needed) 15 needed ⌝ }
+    ensures { λ r. ⌜ refused r ≡ tooShort needed room ⌝ }
 {
     if room < needed {
         return refusal::refuse(15, needed);

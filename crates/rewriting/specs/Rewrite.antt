@@ -40,5 +40,6 @@ abbrev pub replyOf : Rewritten → Reply
 replyOf (Refused r) = refusing r
 replyOf (Done sizes) = answering 1 (sizes .variables) (sizes .length) 0
 
+-- an answer with its two sizes
 abbrev pub done : ℕ → ℕ → Rewritten
-done variables length = Done (record { variables = variables; length = length })
+done variables size = Done (record { variables = variables; length = size })

@@ -19,6 +19,7 @@ pub enum Rewritten {
     Done(Sizes),
 }
 
+// The number of variables of a rewritten list, and its length.
 pub struct Sizes {
     pub variables: usize,
     pub length: usize,

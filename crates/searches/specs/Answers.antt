@@ -1,4 +1,4 @@
--- What the searches answer, and what their answers mean (document 01, "Contracts": "the contract names that choice and says what holds of it: it meets all rules and has the stated count").
+-- What the searches answer, and what their answers mean (document 01, "How contracts and examples are held to this": "the contract names that choice and says what holds of it: it meets all rules and has the stated count").
 use mathlib.Core.Path.{_≡_, refl, sym, ap, subst, _∙_}
 use mathlib.Core.List.{List, _++_}
 use mathlib.Core.Option.{Option, none, some}
@@ -35,10 +35,10 @@ SearchMeans n rules row d bytes (Refused r) = Unit {0}
 SearchMeans n rules row d bytes (Found broken) = P.Found n (clauses rules) row d (answerIn n bytes broken)
 SearchMeans n rules row d bytes Nothing = (a : List ℕ) → Model n (clauses rules) a → d < disagreement row a
 
--- plain search: a model; or there is none
+-- plain search: a model, and no wish is broken, since there is none; or there is no model
 abbrev pub PlainMeans : ℕ → List ℤ → List ℕ → Searched → Type 0
 PlainMeans n rules bytes (Refused r) = Unit {0}
-PlainMeans n rules bytes (Found broken) = Model n (clauses rules) (take n bytes)
+PlainMeans n rules bytes (Found broken) = (broken ≡ 0) × Model n (clauses rules) (take n bytes)
 PlainMeans n rules bytes Nothing = (a : List ℕ) → Model n (clauses rules) a → ⊥
 
 -- nearest: a model, with its own count, and no model breaks fewer wishes; or there is no model
@@ -94,5 +94,5 @@ module _ (n : ℕ) (before : List ℕ) where
       → bytes ≡ choiceAfter none o n before → PlainMeans n rules bytes (searchedOf (brokenBy o))
   plain-means rules sound bytes none e g = plain-nothing n rules sound .0 e
   plain-means rules sound bytes (some x) e g =
-      let w : Model n (clauses rules) (x .choice) = plain-found n rules sound x e in
-      subst (λ (y : Answer). Model n (clauses rules) (y .choice)) (front x (w .choice .size) bytes g) w
+      let w : (x .broken ≡ 0) × Model n (clauses rules) (x .choice) = plain-found n rules sound x e in
+      (w .0, subst (λ (y : Answer). Model n (clauses rules) (y .choice)) (front x (w .1 .choice .size) bytes g) (w .1))

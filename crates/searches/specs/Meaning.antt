@@ -4,13 +4,15 @@ use mathlib.Core.Logic.{_↔_}
 use mathlib.Core.List.{List, []}
 use mathlib.Core.Option.{Option, none, some}
 use Prim.Native.Nat.{ℕ, _≤_, _<_}
+use native.Mathlib.Omega.{arith}
 use lib.IntN.{ℤ}
+use lib.ListN.{replicate}
 use Rattle.formula.specs.Formula.{clauses}
 use Rattle.distance.specs.Distance.{disagreement, within, nearest}
 use Rattle.choices.specs.Choices.{Model, Nearest, nearest-some, nearest-none}
 use Rattle.lent.specs.Sound.{unread, badRule}
 use Rattle.walk.specs.Promises.{Found, Closest}
-use Rattle.walk.specs.Theorems.{walk-sound, walk-none, walk-within, plain-sound, plain-none, nearest-sound, nearest-count}
+use Rattle.walk.specs.Theorems.{walk-sound, walk-none, walk-within, plain-none, nearest-sound, nearest-count}
 use Rattle.walk.specs.Walk.{Answer, walk, plainWalk, nearestWalk}
 use Rattle.searches.specs.Fits.{sound-fits}
 use Rattle.searches.specs.Searches.{brokenBy}
@@ -38,8 +40,10 @@ module _ (n : ℕ) (rules : List ℤ) (sound : badRule n unread 0 rules ≡ none
   nearest-nothing e = nearest-none n rules row .0 (sym nearest-is ∙ ap brokenBy e)
 
 -- plain search
-pub plain-found : (n : ℕ) (rules : List ℤ) → badRule n unread 0 rules ≡ none → (x : Answer) → plainWalk n (clauses rules) .answer ≡ some x → Model n (clauses rules) (x .choice)
-plain-found n rules sound x e = plain-sound n (clauses rules) (sound-fits n rules sound) x e
+pub plain-found : (n : ℕ) (rules : List ℤ) → badRule n unread 0 rules ≡ none → (x : Answer) → plainWalk n (clauses rules) .answer ≡ some x → (x .broken ≡ 0) × Model n (clauses rules) (x .choice)
+plain-found n rules sound x e =
+    let w : Found n (clauses rules) (replicate n 2) 0 x = walk-sound n (clauses rules) (sound-fits n rules sound) (replicate n 2) 0 x e in
+    (omega (arith, w .limited), w .model)
 
 pub plain-nothing : (n : ℕ) (rules : List ℤ) → badRule n unread 0 rules ≡ none → (plainWalk n (clauses rules) .answer ≡ none) ↔ ((a : List ℕ) → Model n (clauses rules) a → ⊥)
 plain-nothing n rules sound = plain-none n (clauses rules) (sound-fits n rules sound)
