@@ -88,3 +88,31 @@ def damaged(file):
                 yield file[:at] + bytes([byte]) + file[at + 1 :]
         yield file[:at] + file[at + 1 :]
         yield file[:at] + file[at : at + 1] + file[at:]
+
+
+def search(text, n, rules, row, d, room):
+    buffer = pattern(BYTES, room)
+    label('search: ' + text)
+    lines.append('search %d %s %s %d %s' % (n, encode(rules), encode(row), d, encode(buffer)))
+    answers.append(oracle.search(n, rules, row, d, buffer))
+
+
+def plain(text, n, rules, room):
+    buffer = pattern(BYTES, room)
+    label('plain: ' + text)
+    lines.append('plain %d %s %s' % (n, encode(rules), encode(buffer)))
+    answers.append(oracle.plain(n, rules, buffer))
+
+
+def nearest(text, n, rules, row, room):
+    buffer = pattern(BYTES, room)
+    label('nearest: ' + text)
+    lines.append('nearest %d %s %s %s' % (n, encode(rules), encode(row), encode(buffer)))
+    answers.append(oracle.nearest(n, rules, row, buffer))
+
+
+def rewrite(text, n, rules, row, d, room):
+    buffer = pattern(NUMBERS, room)
+    label('rewrite: ' + text)
+    lines.append('rewrite %d %s %s %d %s' % (n, encode(rules), encode(row), d, encode(buffer)))
+    answers.append(oracle.rewrite(n, rules, row, d, buffer))

@@ -10,8 +10,9 @@ are drawn from a fixed seed, so a second run writes the same files.
 A case is a line: the name of a call, then its values, single spaces between them. A list is its
 length and its elements; among these `@ COUNT BACK` stands for COUNT further elements, each of them
 the one that stands BACK places before it. A call that fills an output has the buffer for it as its last
-list, and the second line of its answer says what the buffer then holds. A line that starts with # is a
-label."""
+list, and the last line of its answer says what the buffer then holds. Which choice a search finds is left
+open, so of a choice that is found the answer says what holds of it, and what the buffer holds past it. A
+line that starts with # is a label."""
 
 import itertools
 import pathlib
@@ -19,6 +20,7 @@ import random
 
 import oracle
 import rule_files
+import searches
 import wish_files
 from case_lines import answers, encode, label, lines
 
@@ -255,6 +257,11 @@ def malformed():
         ('no limit', 'write_wishes 1 1 2'),
         ('no buffer for wishes', 'write_wishes 1 1 2 0'),
         ('a negative limit', 'write_wishes 1 1 2 -1 0'),
+        ('no limit for a search', 'search 1 0 1 2'),
+        ('a search without a buffer', 'search 1 0 1 2 0'),
+        ('plain search without a buffer', 'plain 1 0'),
+        ('nearest with a limit', 'nearest 1 0 1 2 0 1 7'),
+        ('rewriting without a buffer', 'rewrite 1 0 1 2 0'),
     ):
         label('no case: ' + text)
         lines.append(line)
@@ -272,6 +279,7 @@ def main():
     random_problems(random.Random(1), 200)
     rule_files.add(random.Random(2))
     wish_files.add(random.Random(3))
+    searches.add(random.Random(4))
     malformed()
     (CRATE / 'stdin').write_text('\n'.join(lines) + '\n', encoding='ascii')
     (CRATE / 'stdout').write_text('\n'.join(answers) + '\n', encoding='ascii')

@@ -3,6 +3,7 @@
 Each function that has the name of a call answers with what the program `cases` is to write for a
 case: a line, and a second one for what the lent output holds."""
 
+import itertools
 import re
 
 # "N is 1 to 640, C 0 to 9,000, entries at most 31,000" ("The rule file")
@@ -282,3 +283,134 @@ def write_wishes(n, row, d, buffer):
         return ending((12, 0), None, None, buffer)
     file = written_wishes(n, row, d)
     return ending(None, 'written %d' % len(file), file, buffer)
+
+
+# Up to this many settings, all choices are gone through.
+FEW_SETTINGS = 12
+
+
+def least_of_all(n, rules, row):
+    """The least number of broken wishes of all choices that meet the rules, None if none does."""
+    choices = itertools.product((0, 1), repeat=n)
+    return min((broken(row, choice) for choice in choices if meets(rules, choice)), default=None)
+
+
+def joined(costs):
+    """One cost of the values of some settings for several; values that it lacks are ruled out."""
+    settings = sorted(set().union(*(names for names, _ in costs)))
+    table = {}
+    for values in itertools.product((0, 1), repeat=len(settings)):
+        value = dict(zip(settings, values))
+        parts = [table_.get(tuple(value[name] for name in names)) for names, table_ in costs]
+        if None not in parts:
+            table[values] = sum(parts)
+    return settings, table
+
+
+def least_by_elimination(n, rules, row):
+    """The same for many settings, a setting at a time: the cost of the others is the least over its values."""
+    costs = [([index + 1], {(byte,): 0, (1 - byte,): 1}) for index, byte in enumerate(row) if byte != 2]
+    for rule in rules:
+        names = [abs(entry) for entry in rule]
+        kept = [v for v in itertools.product((0, 1), repeat=len(rule)) if any(x == (e > 0) for x, e in zip(v, rule))]
+        costs.append((names, {values: 0 for values in kept}))
+    for setting in range(1, n + 1):
+        names, table = joined([cost for cost in costs if setting in cost[0]])
+        costs = [cost for cost in costs if setting not in cost[0]]
+        if names:
+            at, less = names.index(setting), {}
+            for values, cost in table.items():
+                rest = values[:at] + values[at + 1 :]
+                less[rest] = min(cost, less.get(rest, cost))
+            costs.append((names[:at] + names[at + 1 :], less))
+    return joined(costs)[1].get(())
+
+
+def least(n, rules, row):
+    return least_of_all(n, rules, row) if n <= FEW_SETTINGS else least_by_elimination(n, rules, row)
+
+
+def lent_cause(n, numbers, row, d):
+    """The first cause of a call with rules, wishes and a limit: "14, 13 (rules, wishes, choice), 11, 12"."""
+    if d > MAX_LIMIT:
+        return 14, 0
+    return refusal(n, numbers, row, [0] * n if n <= MAX_SETTINGS else [])
+
+
+def searched(cause, n, count, words, buffer):
+    """The lines of a search: "The choice that a search writes needs n bytes; a shorter buffer is 15 before
+    the search starts"; ""None" leaves the choice unchanged." Of a choice that is found only what holds of
+    it, and the bytes past it."""
+    if cause is None and len(buffer) < n:
+        cause = 15, n
+    if cause is not None:
+        return 'refused %d at %d\n%s' % (*cause, held(buffer))
+    found = count()
+    if found is None:
+        return 'none\n' + held(buffer)
+    return '%s\n%s' % (words.replace('#', str(found)), held(buffer[n:]))
+
+
+def search(n, numbers, row, d, buffer):
+    """ "a choice meeting all rules with at most d broken wishes, or none" """
+
+    def count():
+        fewest = least(n, rules_of(numbers), row)
+        return None if fewest is None or fewest > d else fewest
+
+    return searched(lent_cause(n, numbers, row, d), n, count, 'found within the limit', buffer)
+
+
+def nearest(n, numbers, row, buffer):
+    """ "the least number of broken wishes with a choice, or none when the rules can't be met" """
+    return searched(
+        lent_cause(n, numbers, row, 0), n, lambda: least(n, rules_of(numbers), row), 'found #\nmet #', buffer
+    )
+
+
+def plain(n, numbers, buffer):
+    """ "Plain search is this with no wishes and d = 0, up to the file's limits." """
+    cause = None
+    if not 1 <= n <= MAX_SETTINGS:
+        cause = 14, 0
+    elif bad_rules(n, numbers) is not None:
+        cause = 13, bad_rules(n, numbers)
+    return searched(cause, n, lambda: least(n, rules_of(numbers), [2] * n), 'found #\nmet', buffer)
+
+
+def group(leaves, last):
+    """A group's outputs, its rules with those of its parts before, and the last setting's number."""
+    if len(leaves) == 1:
+        return leaves, [], last
+    half = len(leaves) // 2
+    a, before, last = group(leaves[:half], last)
+    b, then, last = group(leaves[half:], last)
+    r = list(range(last + 1, last + len(leaves) + 1))
+    rules = before + then
+    for i in range(len(a) + 1):
+        for j in range(len(b) + 1):
+            if (i, j) != (0, 0):
+                rules.append([-x for x in a[i - 1 : i] if i] + [-x for x in b[j - 1 : j] if j] + [r[i + j - 1]])
+            if (i, j) != (len(a), len(b)):
+                rules.append(a[i : i + 1] + b[j : j + 1] + [-r[i + j]])
+    return r, rules, last + len(leaves)
+
+
+def rewritten(n, numbers, row, d):
+    """ "The result holds the given rules, then the groups' rules in that same order, then, if d < m, one rule
+    -s(d+1)"; "a leaf is the entry that breaks its wish"."""
+    leaves = [index + 1 if byte == 0 else -index - 1 for index, byte in enumerate(row) if byte != 2]
+    if not leaves:
+        return n, list(numbers)
+    outputs, rules, last = group(leaves, n)
+    if d < len(leaves):
+        rules = rules + [[-outputs[d]]]
+    return last, list(numbers) + [number for rule in rules for number in rule + [0]]
+
+
+def rewrite(n, numbers, row, d, buffer):
+    cause = lent_cause(n, numbers, row, d)
+    if cause is not None:
+        return ending(cause, None, None, buffer)
+    settings, result = rewritten(n, numbers, row, d)
+    return ending(None, ' %d rewritten to %d' % (settings, len(result)), result, buffer)

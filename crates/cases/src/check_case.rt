@@ -26,7 +26,7 @@ pub fn run(line: &[u8]) -> bool {
     true
 }
 
-fn show(answer: Checked) {
+pub fn show(answer: Checked) {
     match answer {
         Checked::Refused(r) => {
             report::refused(r.number, r.place);

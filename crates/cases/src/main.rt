@@ -4,9 +4,13 @@
 // nothing is left out.
 mod check_case;
 mod held;
+mod nearest_case;
+mod plain_case;
 mod read_rules_case;
 mod read_wishes_case;
 mod report;
+mod rewrite_case;
+mod search_case;
 mod write_rules_case;
 mod write_wishes_case;
 
@@ -45,7 +49,7 @@ fn lines(input: &[u8]) {
 // Each call has a module, which tells whether a line is a case of its own.
 fn line(line: &[u8]) {
     if casefile::past_byte(line, 0, b'#') <= line.len() {
-        report::label(line);
+        report::words(line);
         return;
     }
     if check_case::run(line) {
@@ -61,6 +65,23 @@ fn line(line: &[u8]) {
         return;
     }
     if write_wishes_case::run(line) {
+        return;
+    }
+    search(line);
+}
+
+// The searches, and rewriting.
+fn search(line: &[u8]) {
+    if search_case::run(line) {
+        return;
+    }
+    if plain_case::run(line) {
+        return;
+    }
+    if nearest_case::run(line) {
+        return;
+    }
+    if rewrite_case::run(line) {
         return;
     }
     report::malformed();

@@ -1,8 +1,8 @@
 // Answers, a line each.
 use libc::STDOUT_FILENO;
 
-// A label, as it was read.
-pub fn label(line: &[u8]) {
+// Words as they stand: a label as it was read, or an answer without a number.
+pub fn words(line: &[u8]) {
     io::write_all(STDOUT_FILENO, line);
     io::write_all(STDOUT_FILENO, b"\n");
 }
