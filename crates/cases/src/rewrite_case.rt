@@ -38,9 +38,9 @@ fn show(reply: Rewritten) {
         Rewritten::Refused(r) => {
             report::refused(r.number, r.place);
         }
-        Rewritten::Done { variables, length } => {
-            report::value(variables);
-            report::answer(b" rewritten to ", length);
+        Rewritten::Done(sizes) => {
+            report::value(sizes.variables);
+            report::answer(b" rewritten to ", sizes.length);
         }
     }
 }
