@@ -3,7 +3,8 @@ use mathlib.Core.Path.{_≡_, refl, sym, ap, ap₂, _∙_}
 use mathlib.Core.Bool.{Bool, true, false, cond, not, _&&_, _||_}
 use mathlib.Core.List.{List, [], _∷_}
 use mathlib.Core.Option.{Option, none, some}
-use Prim.Native.Nat.{ℕ, _≤_}
+use Prim.Native.Nat.{ℕ, min, _≤_}
+use lib.Dec.{ltb}
 use lib.IntN.{ℤ}
 use lib.ListN.{length, drop, drop-of-length-le}
 use Rattle.literal.specs.Literal.{holds}
@@ -38,6 +39,14 @@ opposed-all row a (x ∷ c) = go (holds a x) (assignedOrAgainst row a x) (satisf
 abbrev pub size : List ℕ → Bool → List ℤ → Option ℕ
 size a found s = cond found (some (unassignedIn a s)) none
 
+-- what is kept of two clauses, told by their counts, is the shorter, and its count the smaller
+module _ (a : List ℕ) (s c : List ℤ) (least count : ℕ) (kept : least ≡ unassignedIn a s) (counted : count ≡ unassignedIn a c) where
+  pub shorter-counted : cond (ltb count least) c s ≡ shorter a s c
+  shorter-counted = ap₂ (λ (k m : ℕ). cond (ltb k m) c s) counted kept
+
+  pub least-counted : min least count ≡ unassignedIn a (shorter a s c)
+  least-counted = ap₂ min kept counted ∙ sym (shorter-fewer a s c)
+
 -- one more clause: not opposed, the first that is opposed, and another
 module _ (row a : List ℕ) (found : Bool) (s c : List ℤ) (f : List (List ℤ)) where
   pub fewest-kept : isOpposed row a c ≡ false → fewer (size a found s) (fewest row a (c ∷ f)) ≡ fewer (size a found s) (fewest row a f)
@@ -46,13 +55,13 @@ module _ (row a : List ℕ) (found : Bool) (s c : List ℤ) (f : List (List ℤ)
   pub fewest-first : found ≡ false → isOpposed row a c ≡ true → fewer (size a found s) (fewest row a (c ∷ f)) ≡ fewer (size a true c) (fewest row a f)
   fewest-first h e = ap (λ (b : Bool). fewer (size a b s) (fewest row a (c ∷ f))) h ∙ fewest-opposed row a c f e
 
-  pub fewest-shorter : found ≡ true → isOpposed row a c ≡ true → (t : List ℤ) → t ≡ shorter a s c
-      → fewer (size a found s) (fewest row a (c ∷ f)) ≡ fewer (size a true t) (fewest row a f)
-  fewest-shorter h e t q =
+  pub fewest-shorter : found ≡ true → isOpposed row a c ≡ true
+      → fewer (size a found s) (fewest row a (c ∷ f)) ≡ fewer (size a true (shorter a s c)) (fewest row a f)
+  fewest-shorter h e =
       ap (λ (b : Bool). fewer (size a b s) (fewest row a (c ∷ f))) h
       ∙ ap (fewer (some (unassignedIn a s))) (fewest-opposed row a c f e)
       ∙ sym (fewer-assoc (some (unassignedIn a s)) (some (unassignedIn a c)) (fewest row a f))
-      ∙ ap (λ (k : ℕ). fewer (some k) (fewest row a f)) (sym (ap (unassignedIn a) q ∙ shorter-fewer a s c))
+      ∙ ap (λ (k : ℕ). fewer (some k) (fewest row a f)) (sym (shorter-fewer a s c))
 
 -- at the end of the list
 pub fewest-found : (row a : List ℕ) (found : Bool) (s : List ℤ) (l : List ℤ) (i : ℕ) → length l ≤ i → fewer (size a found s) (fewest row a (clauses (drop i l))) ≡ size a found s

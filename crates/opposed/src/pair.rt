@@ -1,7 +1,9 @@
 // The shorter of two clauses.
+ghost use mathlib.Core.Bool.{cond};
 ghost use mathlib.Core.Path.{_≡_};
+ghost use Prim.Native.Nat.{min};
+ghost use lib.Dec.{ltb};
 ghost use Rattle.walk.specs.State.{unassignedIn};
-ghost use Rattle.walk.specs.Branching.{shorter};
 
 // The number of unassigned literals of a clause.
 pub fn unassigned_in(clause: &[i32], assignment: &[u8]) -> usize
@@ -18,13 +20,22 @@ pub fn unassigned_in(clause: &[i32], assignment: &[u8]) -> usize
     count
 }
 
-// Of two clauses the one with fewer unassigned literals, the first if equal, handed back as itself.
-pub fn shorter<'a>(first: &'a [i32], second: &'a [i32], assignment: &[u8]) -> &'a [i32]
-    ensures { λ r. ⌜ now r ≡ shorter (now (assignment .entry)) (now (first .entry)) (now (second .entry)) ⌝ }
+// The smaller of two counts.
+pub fn smaller(first: usize, second: usize) -> usize
+    ensures { λ r. ⌜ r ≡ min first second ⌝ }
 {
-    if unassigned_in(second, assignment) < unassigned_in(first, assignment) {
-        second
-    } else {
-        first
-    }
+    if second < first { second } else { first }
+}
+
+// Of two clauses the one with fewer unassigned literals, the first if equal, handed back as itself. The
+// counts are handed in: a clause that is kept is not counted again beside each later one.
+pub fn shorter<'a>(
+    first: &'a [i32],
+    in_first: usize,
+    second: &'a [i32],
+    in_second: usize,
+) -> &'a [i32]
+    ensures { λ r. ⌜ now r ≡ cond (ltb in_second in_first) (now (second .entry)) (now (first .entry)) ⌝ }
+{
+    if in_second < in_first { second } else { first }
 }

@@ -10,19 +10,22 @@ use lib.IntN.{ℤ}
 use lib.ListN.{length, take, drop}
 use Rattle.formula.specs.Formula.{clauses}
 use Rattle.formula.specs.Laws.{end-inside, clauses-step}
-use Rattle.walk.specs.Branching.{fewest}
+use Rattle.walk.specs.State.{unassignedIn}
+use Rattle.walk.specs.Branching.{shorter, fewest}
 use Rattle.walk.specs.BranchingLaws.{fewer}
-use Rattle.opposed.specs.Laws.{size, fewest-kept, fewest-first, fewest-shorter, fewest-found}
+use Rattle.opposed.specs.Laws.{size, shorter-counted, least-counted, fewest-kept, fewest-first, fewest-shorter, fewest-found}
 use denote.Ref.{now}
 use borrow.Author.Needs.{needs}
 use Rattle.opposed.proofs.fewest.fewest_opposed.Statement.{statement}
 use Rattle.opposed.proofs.fewest.fewest_opposed.Tie as tie
 
 abbrev Inv-loop : tie.InvT-loop
-Inv-loop list row assignment shortest₀ found₀ from₀ shortest found from = fewest row assignment (clauses list) ≡ fewer (size assignment found shortest) (fewest row assignment (clauses (drop from list)))
+Inv-loop list row assignment shortest₀ least₀ found₀ from₀ shortest least found from =
+    (fewest row assignment (clauses list) ≡ fewer (size assignment found shortest) (fewest row assignment (clauses (drop from list))))
+    × (least ≡ unassignedIn assignment shortest)
 
 abbrev μ-loop : tie.MeasureT-loop
-μ-loop list row assignment shortest₀ found₀ from₀ shortest found from = length list - from
+μ-loop list row assignment shortest₀ least₀ found₀ from₀ shortest least found from = length list - from
 
 sub-shortest : tie.Need-sub-shortest Inv-loop μ-loop
 sub-shortest c = search needs
@@ -54,8 +57,14 @@ part-clause-end c = end-inside (c .before .before .before .before .before .befor
 is-opposed-requires : tie.Need-is-opposed-requires Inv-loop μ-loop
 is-opposed-requires c κs = search needs
 
+unassigned-in-requires : tie.Need-unassigned-in-requires Inv-loop μ-loop
+unassigned-in-requires c κs = search needs
+
 shorter-requires : tie.Need-shorter-requires Inv-loop μ-loop
 shorter-requires c κs = search needs
+
+smaller-requires : tie.Need-smaller-requires Inv-loop μ-loop
+smaller-requires c κs = search needs
 
 add-from : tie.Need-add-from Inv-loop μ-loop
 add-from c = omega (arith, end-inside (c .before .before .before .before .before .before .before .before .before .args .list .now) (c .before .before .before .before .before .loop .from) (c .before .before .before .clause-end .result) (omega arith) (c .before .before .before .clause-end .ensures))
@@ -75,42 +84,45 @@ loop-again c =
     let clause : List ℤ = take (end - from) (drop from l) in
     let rest : List (List ℤ) = clauses (drop (end + 1) l) in
     let here : fewest row a (clauses l) ≡ fewer (size a found s) (fewest row a (clause ∷ rest)) =
-    c .before .before .before .before .before .loop .inv ∙ ap (λ (f : List (List ℤ)). fewer (size a found s) (fewest row a f)) (clauses-step l from end (c .before .before .before .before .loop-test .taken) (c .before .before .before .clause-end .ensures)) in
-    let same : (b : Bool) (t : List ℤ) → c .if1 .found ≡ b → c .if1 .shortest .now ≡ t → fewer (size a b t) (fewest row a rest) ≡ fewer (size a (c .if1 .found) (c .if1 .shortest .now)) (fewest row a rest) =
-    λ b t p q. sym (ap₂ (λ (x : Bool) (y : List ℤ). fewer (size a x y) (fewest row a rest)) p q) in
+    c .before .before .before .before .before .loop .inv .0 ∙ ap (λ (f : List (List ℤ)). fewer (size a found s) (fewest row a f)) (clauses-step l from end (c .before .before .before .before .loop-test .taken) (c .before .before .before .clause-end .ensures)) in
+    let same : (b : Bool) (t : List ℤ) (k : ℕ) → c .if1 .found ≡ b → c .if1 .shortest .now ≡ t → c .if1 .least ≡ k
+    → fewest row a (clauses l) ≡ fewer (size a b t) (fewest row a rest) → k ≡ unassignedIn a t
+    → (fewest row a (clauses l) ≡ fewer (size a (c .if1 .found) (c .if1 .shortest .now)) (fewest row a rest)) × (c .if1 .least ≡ unassignedIn a (c .if1 .shortest .now)) =
+    λ b t k p q r e h. (e ∙ sym (ap₂ (λ (x : Bool) (y : List ℤ). fewer (size a x y) (fewest row a rest)) p q), r ∙ h ∙ sym (ap (unassignedIn a) q)) in
     ⊎-elim
     (λ w.
-    here
-    ∙ fewest-shorter row a found s clause rest (w .1 .taken) (sym (c .before .is-opposed .ensures) ∙ w .0 .taken) (w .2 .result .now) (w .2 .ensures)
-    ∙ same true (w .2 .result .now) (w .4 ∙ w .1 .taken) (ap now (w .3)))
+    let kept : c .before .before .before .before .before .loop .least ≡ unassignedIn a s = c .before .before .before .before .before .loop .inv .1 in
+    same true (shorter a s clause) (w .4 .result) (w .7 ∙ w .2 .taken) (ap now (w .5) ∙ w .3 .ensures ∙ shorter-counted a s clause (c .before .before .before .before .before .loop .least) (w .1 .result) kept (w .1 .ensures)) (w .6)
+    (here ∙ fewest-shorter row a found s clause rest (w .2 .taken) (sym (c .before .is-opposed .ensures) ∙ w .0 .taken))
+    (w .4 .ensures ∙ least-counted a s clause (c .before .before .before .before .before .loop .least) (w .1 .result) kept (w .1 .ensures)))
     (λ v. ⊎-elim
     (λ w.
-    here
-    ∙ fewest-first row a found s clause rest (w .1 .left) (sym (c .before .is-opposed .ensures) ∙ w .0 .taken)
-    ∙ same true clause (w .3) (ap now (w .2)))
+    same true clause (w .1 .result) (w .5) (ap now (w .3)) (w .4)
+    (here ∙ fewest-first row a found s clause rest (w .2 .left) (sym (c .before .is-opposed .ensures) ∙ w .0 .taken))
+    (w .1 .ensures))
     (λ w.
-    here
-    ∙ fewest-kept row a found s clause rest (sym (c .before .is-opposed .ensures) ∙ w .0 .left)
-    ∙ same found s (w .2) (ap now (w .1)))
+    same found s (c .before .before .before .before .before .loop .least) (w .3) (ap now (w .1)) (w .2)
+    (here ∙ fewest-kept row a found s clause rest (sym (c .before .is-opposed .ensures) ∙ w .0 .left))
+    (c .before .before .before .before .before .loop .inv .1))
     v)
     (c .if1 .came)
 
-unassigned-in-requires : tie.Need-unassigned-in-requires Inv-loop μ-loop
-unassigned-in-requires c κs = search needs
+unassigned-in-requires-2 : tie.Need-unassigned-in-requires-2 Inv-loop μ-loop
+unassigned-in-requires-2 c κs = search needs
 
 returns : tie.Need-returns Inv-loop μ-loop
 returns c =
     let a = c .before .before .before .before .before .before .before .args .assignment .now in
     let l = c .before .before .before .before .before .before .before .args .list .now in
-    ap {B = Option ℕ} some (c .unassigned-in .ensures)
-    ∙ sym (c .before .before .before .loop .inv ∙ fewest-found (c .before .before .before .before .before .before .before .args .row .now) a (c .before .before .before .loop .found) (c .before .before .before .loop .shortest .now) l (c .before .before .before .loop .from) (c .before .before .loop-test .left)
+    ap {B = Option ℕ} some (c .unassigned-in2 .ensures)
+    ∙ sym (c .before .before .before .loop .inv .0 ∙ fewest-found (c .before .before .before .before .before .before .before .args .row .now) a (c .before .before .before .loop .found) (c .before .before .before .loop .shortest .now) l (c .before .before .before .loop .from) (c .before .before .loop-test .left)
     ∙ ap (λ (b : Bool). size a b (c .before .before .before .loop .shortest .now)) (c .before .if3 .taken))
 
 returns-2 : tie.Need-returns-2 Inv-loop μ-loop
 returns-2 c =
     let a = c .before .before .before .before .before .before .args .assignment .now in
     let l = c .before .before .before .before .before .before .args .list .now in
-    sym (c .before .before .loop .inv ∙ fewest-found (c .before .before .before .before .before .before .args .row .now) a (c .before .before .loop .found) (c .before .before .loop .shortest .now) l (c .before .before .loop .from) (c .before .loop-test .left)
+    sym (c .before .before .loop .inv .0 ∙ fewest-found (c .before .before .before .before .before .before .args .row .now) a (c .before .before .loop .found) (c .before .before .loop .shortest .now) l (c .before .before .loop .from) (c .before .loop-test .left)
     ∙ ap (λ (b : Bool). size a b (c .before .before .loop .shortest .now)) (c .if3 .left))
 
 pub fewest-opposed-spec : {M : Type 1} → statement M
@@ -129,10 +141,12 @@ fewest-opposed-spec =
     part-clause-start
     part-clause-end
     is-opposed-requires
+    unassigned-in-requires
     shorter-requires
+    smaller-requires
     add-from
     loop-less
     loop-again
-    unassigned-in-requires
+    unassigned-in-requires-2
     returns
     returns-2)
