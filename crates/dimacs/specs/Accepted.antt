@@ -21,7 +21,7 @@ use Rattle.lent.specs.Sound.{Scan, unread, mayJoin, stands, after, unclosed, ba
 use Rattle.decimal.specs.Decimal.{decimal, number}
 use Rattle.decimal.specs.Laws.{decimal-digits, decimal-some, decimal-read}
 use Rattle.dimacs.specs.Class.{classOf}
-use Rattle.dimacs.specs.Format.{pastComments, Header, header, numbered, outside, Word, words, positive, negative, signed, element, badToken, badTokens, refuses, gives, reading, readTokens, readFrom}
+use Rattle.dimacs.specs.Format.{pastComments, Header, header, numbered, outside, Word, tokensFrom, positive, negative, signed, element, badToken, badTokens, refuses, gives, reading, readTokens, readFrom}
 use Rattle.dimacs.specs.RoundTrip.{unsigned, tokensOf, words-written, header-fields, heading-joined, heading-length}
 use Rattle.dimacs.specs.Written.{numeral, body, heading, written}
 
@@ -136,7 +136,7 @@ ranges n c e =
 abbrev tokens : List ℕ → ℕ → List Word
 tokens file size =
     let next : ℕ = pastComments false 0 file + size in
-    words false next (drop next file)
+    tokensFrom file next
 
 -- its header and its tokens
 record Parts (file : List ℕ) (n c : ℕ) (l : List ℤ) : Type 0 where
@@ -244,7 +244,7 @@ written-back n l n′ c′ l′ e =
     sym (ap header (heading-joined n c (body l)) ∙ header-fields (decimal n) (decimal c) (body l) (decimal-digits n) (decimal-digits c)) ∙ p .head in
     let parts = numbered-parts (number (decimal n)) (number (decimal c)) size n′ c′ (p .size) head in
     let place : 0 + p .size ≡ length (heading n c) = zero-add (p .size) ∙ sym (parts .1) ∙ heading-length n c in
-    let same : words false (0 + p .size) (drop (0 + p .size) (written n l)) ≡ tokensOf (0 + p .size) l = words-written n l (0 + p .size) place in (
+    let same : tokensFrom (written n l) (0 + p .size) ≡ tokensOf (0 + p .size) l = words-written n l (0 + p .size) place in (
       decimal-read n n′ (parts .0),
       p .gave ∙ ap (map element) same
           ∙ tokens-back l n′ c′ (length (written n l)) unread (0 + p .size) (ap (badTokens n′ c′ (length (written n l)) unread) (sym same) ∙ p .good),

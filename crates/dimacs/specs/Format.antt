@@ -90,6 +90,10 @@ words inside at [] = []
 words inside at (b ∷ s) =
     starting (not inside && inToken b) (record { place = at; bytes = b ∷ leading inToken s }) (words (inToken b) (suc at) s)
 
+-- the tokens of a file from a kept offset on
+abbrev pub tokensFrom : List ℕ → ℕ → List Word
+tokensFrom file at = words false at (drop at file)
+
 -- a number as it stands, and behind a minus, where 0 is none
 abbrev pub positive : Option ℕ → Option ℤ
 positive none = none
@@ -141,7 +145,7 @@ abbrev pub readFrom : List ℕ → ℕ → Option Header → Reading
 readFrom file at none = refuses (refusal 1 at)
 readFrom file at (some h) =
     let next : ℕ = at + h .size in
-    let ws : List Word = words false next (drop next file) in
+    let ws : List Word = tokensFrom file next in
     cond (outside (h .variables) (h .clauses))
     (refuses (refusal 2 at))
     (readTokens (h .variables) (h .clauses) ws (badTokens (h .variables) (h .clauses) (length file) unread ws))

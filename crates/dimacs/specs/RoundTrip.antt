@@ -19,7 +19,7 @@ use Rattle.lent.specs.Sound.{Scan, unread, mayJoin, stands, after, unclosed, ba
 use Rattle.decimal.specs.Decimal.{decimal, number, onlyDigits, isDigit}
 use Rattle.decimal.specs.Laws.{decimal-digits, decimal-some, number-decimal}
 use Rattle.dimacs.specs.Class.{classOf}
-use Rattle.dimacs.specs.Format.{header, numbered, outside, preamble, inToken, Word, words, positive, signed, element, badToken, badTokens, gives, reading, readFrom}
+use Rattle.dimacs.specs.Format.{header, numbered, outside, preamble, inToken, Word, words, tokensFrom, positive, signed, element, badToken, badTokens, gives, reading, readFrom}
 use Rattle.dimacs.specs.Laws.{digit-class, digit-in-token, all-digits, before-digits, beyond-digits, words-token}
 use Rattle.dimacs.specs.Sizes.{sound-step, zeros-some, sound-clauses}
 use Rattle.dimacs.specs.Written.{numeral, separator, body, heading, written}
@@ -155,7 +155,7 @@ inside : (n c : ℕ) → 1 ≤ n → n ≤ maxVariables → c ≤ maxClauses →
 inside n c h k f = rw (ne-eqb n 0 (omega arith), le-ltb maxVariables n k, le-ltb maxClauses c f)
 
 -- past the heading come the tokens of the list
-pub words-written : (n : ℕ) (l : List ℤ) (at : ℕ) → at ≡ length (heading n (length (clauses l))) → words false at (drop at (written n l)) ≡ tokensOf at l
+pub words-written : (n : ℕ) (l : List ℤ) (at : ℕ) → at ≡ length (heading n (length (clauses l))) → tokensFrom (written n l) at ≡ tokensOf at l
 words-written n l at e =
     ap (λ (s : List ℕ). words false at s) (ap (λ (k : ℕ). drop k (written n l)) e ∙ drop-append-seam (heading n (length (clauses l))) (body l))
     ∙ words-body l at

@@ -7,7 +7,7 @@ use Prim.Native.Nat.{ℕ, suc, _+_, _≤_, _<_, zero-le}
 use native.Mathlib.Omega.{arith}
 use lib.Dec.{ltb}
 use lib.IntN.{ℤ}
-use lib.ListN.{length, getD, drop, set}
+use lib.ListN.{length, getD, set}
 use mir.Syntax.{w32}
 use mir.Val.{toZ, ofZ}
 use Rattle.literal.specs.Literal.{variable}
@@ -16,28 +16,24 @@ use Rattle.refusal.specs.Reply.{refusal, cause}
 use Rattle.lent.specs.Laws.{scan}
 use Rattle.lent.specs.Sound.{unread, unclosed}
 use Rattle.lent.specs.Stamps.{Stamped, stamped-none, stamped-closed, stamped-joined, stamp-free, stamp-taken}
-use Rattle.dimacs.specs.Format.{Word, words, badTokens}
+use Rattle.dimacs.specs.Format.{Word, tokensFrom, badTokens}
 use Rattle.rule_tokens.specs.declared.Token as T
 use Rattle.rule_tokens.specs.Laws.{Good, token-end, token-bad, token-good, held, signed-fits}
 use Rattle.rule_tokens.specs.Token.{firstToken}
 use Rattle.rule_reader.specs.declared.tokens.Check as C
 use Rattle.rule_reader.specs.Laws.{faultOf, checkAs, open-clause, room-left, refused-malformed, refused-fault, accepted-zero, refused-twice, accepted-literal}
 
--- the tokens of a file from a place on
-abbrev pub tokens : List ℕ → ℕ → List Word
-tokens file at = words false at (drop at file)
-
 -- the answer for a file of n variables and c clauses whose tokens begin at a place
 abbrev pub answer : ℕ → ℕ → List ℕ → ℕ → C.Check
-answer n c file from = checkAs (badTokens n c (length file) unread (tokens file from)) (length (tokens file from))
+answer n c file from = checkAs (badTokens n c (length file) unread (tokensFrom file from)) (length (tokensFrom file from))
 
 -- After the tokens before a place: k clauses, m literals, and the literals of the open clause
 pub record Checking (n c : ℕ) (file : List ℕ) (from : ℕ) (stamps : List ℕ) (k m : ℕ) (is-open : Bool) (at : ℕ) : Type 0 where
   pub clause : List ℤ
   pub few : k ≤ c
   pub many : m ≤ 31000
-  pub so-far : badTokens n c (length file) unread (tokens file from) ≡ badTokens n c (length file) (scan k m clause) (tokens file at)
-  pub counted : length (tokens file from) ≡ k + m + length (tokens file at)
+  pub so-far : badTokens n c (length file) unread (tokensFrom file from) ≡ badTokens n c (length file) (scan k m clause) (tokensFrom file at)
+  pub counted : length (tokensFrom file from) ≡ k + m + length (tokensFrom file at)
   pub opened : unclosed clause ≡ is-open
   pub stamped : Stamped stamps (k + 1) clause
 
@@ -54,21 +50,21 @@ start n c file from stamps l z =
     }
 
 -- the number that a token gives is held by an i32
-pub number-held : (file : List ℕ) (at : ℕ) {place next : ℕ} {x : ℤ} → T.the-variants.Element place x next ≡ firstToken (tokens file at) → toZ w32 (ofZ w32 x) ≡ x
+pub number-held : (file : List ℕ) (at : ℕ) {place next : ℕ} {x : ℤ} → T.the-variants.Element place x next ≡ firstToken (tokensFrom file at) → toZ w32 (ofZ w32 x) ≡ x
 number-held file at {place} {next} {x} e =
     let g = token-good file at place x next (sym e) in
     held x x refl (signed-fits (g .bytes) x (g .number))
 
 module _ {n c : ℕ} {file : List ℕ} {from : ℕ} {stamps : List ℕ} {k m : ℕ} {is-open : Bool} {at : ℕ}
     (s : Checking n c file from stamps k m is-open at) where
-  found : (r : Refusal) → badTokens n c (length file) (scan k m (s .clause)) (tokens file at) ≡ some r → C.the-variants.Refused r ≡ answer n c file from
-  found r e = sym (ap (λ (o : Option Refusal). checkAs o (length (tokens file from))) (s .so-far ∙ e))
+  found : (r : Refusal) → badTokens n c (length file) (scan k m (s .clause)) (tokensFrom file at) ≡ some r → C.the-variants.Refused r ≡ answer n c file from
+  found r e = sym (ap (λ (o : Option Refusal). checkAs o (length (tokensFrom file from))) (s .so-far ∙ e))
 
   -- no token is left
-  pub ended : T.the-variants.End ≡ firstToken (tokens file at) → checkAs (cause (ltb k c || is-open) 6 (length file)) (k + m) ≡ answer n c file from
+  pub ended : T.the-variants.End ≡ firstToken (tokensFrom file at) → checkAs (cause (ltb k c || is-open) 6 (length file)) (k + m) ≡ answer n c file from
   ended e =
-      let done : tokens file at ≡ [] = token-end file at (sym e) in
-      let all : k + m ≡ length (tokens file from) = omega (arith, s .counted, ap length done) in
+      let done : tokensFrom file at ≡ [] = token-end file at (sym e) in
+      let all : k + m ≡ length (tokensFrom file from) = omega (arith, s .counted, ap length done) in
       ap₂ checkAs
       (ap (λ (b : Bool). cause (ltb k c || b) 6 (length file)) (sym (s .opened))
       ∙ ap (badTokens n c (length file) (scan k m (s .clause))) (sym done)
@@ -76,7 +72,7 @@ module _ {n c : ℕ} {file : List ℕ} {from : ℕ} {stamps : List ℕ} {k m : �
       all
 
   -- the next one is malformed
-  pub malformed : (place : ℕ) → T.the-variants.Malformed place ≡ firstToken (tokens file at) → C.the-variants.Refused (refusal 3 place) ≡ answer n c file from
+  pub malformed : (place : ℕ) → T.the-variants.Malformed place ≡ firstToken (tokensFrom file at) → C.the-variants.Refused (refusal 3 place) ≡ answer n c file from
   malformed place e =
       let b = token-bad file at place (sym e) in
       found (refusal 3 place)
@@ -84,23 +80,23 @@ module _ {n c : ℕ} {file : List ℕ} {from : ℕ} {stamps : List ℕ} {k m : �
       ∙ refused-malformed n c (length file) k m (s .clause) place (b .bytes) (b .rest) (b .malformed))
 
   -- it is the number x of the variable v
-  module _ {place next : ℕ} {x : ℤ} (e : T.the-variants.Element place x next ≡ firstToken (tokens file at)) {v : ℕ} (same : v ≡ variable x) where
+  module _ {place next : ℕ} {x : ℤ} (e : T.the-variants.Element place x next ≡ firstToken (tokensFrom file at)) {v : ℕ} (same : v ≡ variable x) where
     g : Good file at place x next
     g = token-good file at place x next (sym e)
 
     pub later : (at < next) × (next ≤ length file)
     later = (g .later, g .inside)
 
-    here : badTokens n c (length file) (scan k m (s .clause)) (tokens file at)
-        ≡ badTokens n c (length file) (scan k m (s .clause)) (record { place = place; bytes = g .bytes } ∷ tokens file next)
+    here : badTokens n c (length file) (scan k m (s .clause)) (tokensFrom file at)
+        ≡ badTokens n c (length file) (scan k m (s .clause)) (record { place = place; bytes = g .bytes } ∷ tokensFrom file next)
     here = ap (badTokens n c (length file) (scan k m (s .clause))) (g .split)
 
-    counting : length (tokens file from) ≡ k + m + suc (length (tokens file next))
+    counting : length (tokensFrom file from) ≡ k + m + suc (length (tokensFrom file next))
     counting = omega (arith, s .counted, ap length (g .split))
 
     pub faulty : (number : ℕ) → number ≡ faultOf n c k m v → (number ≡ 0 → ⊥) → C.the-variants.Refused (refusal number place) ≡ answer n c file from
     faulty number f z =
-        found (refusal number place) (here ∙ refused-fault n c (length file) k m (s .clause) place (g .bytes) (tokens file next) x (g .number) v same number f z)
+        found (refusal number place) (here ∙ refused-fault n c (length file) k m (s .clause) place (g .bytes) (tokensFrom file next) x (g .number) v same number f z)
 
     module _ (fine : faultOf n c k m v ≡ 0) where
       pub closed : v ≡ 0 → Checking n c file from stamps (k + 1) m false next
@@ -109,7 +105,7 @@ module _ {n c : ℕ} {file : List ℕ} {from : ℕ} {stamps : List ℕ} {k m : �
             clause = [];
             few = omega (arith, open-clause n c k m v fine);
             many = s .many;
-            so-far = s .so-far ∙ here ∙ accepted-zero n c (length file) k m (s .clause) place (g .bytes) (tokens file next) x (g .number) v same fine z;
+            so-far = s .so-far ∙ here ∙ accepted-zero n c (length file) k m (s .clause) place (g .bytes) (tokensFrom file next) x (g .number) v same fine z;
             counted = omega (arith, counting);
             opened = refl;
             stamped = stamped-closed stamps (k + 1) (s .clause) (s .stamped);
@@ -123,7 +119,7 @@ module _ {n c : ℕ} {file : List ℕ} {from : ℕ} {stamps : List ℕ} {k m : �
         twice t =
             found (refusal 5 place)
             (here
-            ∙ refused-twice n c (length file) k m (s .clause) place (g .bytes) (tokens file next) x (g .number) v same fine z
+            ∙ refused-twice n c (length file) k m (s .clause) place (g .bytes) (tokensFrom file next) x (g .number) v same fine z
             (stamp-taken stamps (k + 1) (s .clause) x (s .stamped) (ap (λ (u : ℕ). getD stamps u 0) (sym same) ∙ t)))
 
         pub joined : n ≤ 640 → (getD stamps v 0 ≡ k + 1 → ⊥) → Checking n c file from (set stamps v (k + 1)) k (m + 1) true next
@@ -133,7 +129,7 @@ module _ {n c : ℕ} {file : List ℕ} {from : ℕ} {stamps : List ℕ} {k m : �
               clause = x ∷ s .clause;
               few = s .few;
               many = omega (arith, room-left n c k m v fine z);
-              so-far = s .so-far ∙ here ∙ accepted-literal n c (length file) k m (s .clause) place (g .bytes) (tokens file next) x (g .number) v same fine z free;
+              so-far = s .so-far ∙ here ∙ accepted-literal n c (length file) k m (s .clause) place (g .bytes) (tokensFrom file next) x (g .number) v same fine z free;
               counted = omega (arith, counting);
               opened = refl;
               stamped =

@@ -11,27 +11,27 @@ use lib.ListN.{length, set, length-set}
 use lib.Seq.{sets}
 use mir.Syntax.{w32}
 use mir.Val.{toZ, ofZ}
-use Rattle.dimacs.specs.Format.{Word, signed, element}
+use Rattle.dimacs.specs.Format.{Word, tokensFrom, signed, element}
 use Rattle.rule_tokens.specs.declared.Token as T
 use Rattle.rule_tokens.specs.Laws.{Good, token-end, token-bad, token-good}
 use Rattle.rule_tokens.specs.Token.{firstToken}
 use Rattle.rule_reader.specs.Laws.{isSome, readable}
-use Rattle.rule_reader.proofs.Checking.{tokens, number-held}
+use Rattle.rule_reader.proofs.Checking.{number-held}
 
 -- With the numbers of the tokens still to come, the list is what it is to be.
 pub record Filling (file : List ℕ) (from : ℕ) (rules₀ : List ℤ) (rules : List ℤ) (at i : ℕ) : Type 0 where
-  pub good : readable (tokens file at) ≡ true
-  pub room : i + length (tokens file at) ≤ length rules
+  pub good : readable (tokensFrom file at) ≡ true
+  pub room : i + length (tokensFrom file at) ≤ length rules
   pub long : length rules ≡ length rules₀
-  pub so-far : sets rules i (map element (tokens file at)) ≡ sets rules₀ 0 (map element (tokens file from))
+  pub so-far : sets rules i (map element (tokensFrom file at)) ≡ sets rules₀ 0 (map element (tokensFrom file from))
 
 module _ {file : List ℕ} {from : ℕ} {rules₀ rules : List ℤ} {at i : ℕ} (s : Filling file from rules₀ rules at i) where
   -- no token is left
-  pub filled : T.the-variants.End ≡ firstToken (tokens file at) → rules ≡ sets rules₀ 0 (map element (tokens file from))
+  pub filled : T.the-variants.End ≡ firstToken (tokensFrom file at) → rules ≡ sets rules₀ 0 (map element (tokensFrom file from))
   filled e = sym (ap (λ (ws : List Word). sets rules i (map element ws)) (token-end file at (sym e))) ∙ s .so-far
 
   -- none is malformed
-  pub never : (place : ℕ) → T.the-variants.Malformed place ≡ firstToken (tokens file at) → ⊥
+  pub never : (place : ℕ) → T.the-variants.Malformed place ≡ firstToken (tokensFrom file at) → ⊥
   never place e =
       let b = token-bad file at place (sym e) in
       let head : isSome (signed (b .bytes)) ≡ true =
@@ -39,7 +39,7 @@ module _ {file : List ℕ} {from : ℕ} {rules₀ rules : List ℤ} {at i : ℕ}
       false≢true (sym (ap isSome (b .malformed)) ∙ head)
 
   -- the next one gives x
-  module _ {place next : ℕ} {x : ℤ} (e : T.the-variants.Element place x next ≡ firstToken (tokens file at)) where
+  module _ {place next : ℕ} {x : ℤ} (e : T.the-variants.Element place x next ≡ firstToken (tokensFrom file at)) where
     g : Good file at place x next
     g = token-good file at place x next (sym e)
 
@@ -50,13 +50,13 @@ module _ {file : List ℕ} {from : ℕ} {rules₀ rules : List ℤ} {at i : ℕ}
     inside = omega (arith, s .room, ap length (g .split))
 
     rest : List ℤ
-    rest = map element (tokens file next)
+    rest = map element (tokensFrom file next)
 
     pub stored : Filling file from rules₀ (set rules i (toZ w32 (ofZ w32 x))) next (i + 1)
     unfolding rest
     stored =
         record {
-          good = and-eq-true-iff (isSome (signed (g .bytes))) (readable (tokens file next)) .0 (sym (ap readable (g .split)) ∙ s .good) .1;
+          good = and-eq-true-iff (isSome (signed (g .bytes))) (readable (tokensFrom file next)) .0 (sym (ap readable (g .split)) ∙ s .good) .1;
           room = omega (arith, s .room, ap length (g .split), length-set rules i (toZ w32 (ofZ w32 x)));
           long = length-set rules i (toZ w32 (ofZ w32 x)) ∙ s .long;
           so-far =

@@ -15,7 +15,7 @@ use Rattle.refusal.specs.declared.Refusal.{Refusal}
 use Rattle.refusal.specs.Reply.{Reply, refusal, refusing, answering}
 use Rattle.lent.specs.Limits.{maxVariables, maxClauses}
 use Rattle.lent.specs.Sound.{unread}
-use Rattle.dimacs.specs.Format.{pastComments, Header, header, outside, Word, words, element, badTokens, Reading, refuses, gives, readTokens, readFrom, reading}
+use Rattle.dimacs.specs.Format.{pastComments, Header, header, outside, Word, tokensFrom, element, badTokens, Reading, refuses, gives, readTokens, readFrom, reading}
 use Rattle.rule_header.specs.declared.Heading as H
 use Rattle.rule_header.specs.Heading.{headingAs}
 use Rattle.rule_reader.specs.declared.tokens.Check as C
@@ -25,7 +25,7 @@ use Rattle.rule_reader.specs.Read.{readReply, readOutput}
 -- the reading of the tokens from a place on
 abbrev pub tokensRead : ℕ → ℕ → List ℕ → ℕ → Reading
 tokensRead n c file from =
-    readTokens n c (words false from (drop from file)) (badTokens n c (length file) unread (words false from (drop from file)))
+    readTokens n c (tokensFrom file from) (badTokens n c (length file) unread (tokensFrom file from))
 
 -- what the answers of the callees tell
 module _ (o : Option Refusal) (k : ℕ) (answer : C.Check) (e : answer ≡ checkAs o k) where
@@ -56,7 +56,7 @@ answered one two reply result out e a = rw (e) a
 -- the tokens
 module _ (n c : ℕ) (file : List ℕ) (from : ℕ) (out : List ℤ) where
   abbrev ws : List Word
-  ws = words false from (drop from file)
+  ws = tokensFrom file from
 
   abbrev fault : Option Refusal
   fault = badTokens n c (length file) unread ws

@@ -6,11 +6,11 @@ ghost use mathlib.Core.Bool.{false, _||_};
 ghost use mathlib.Core.Path.{_≡_};
 ghost use Prim.Native.Nat.{ℕ, _+_, _≤_};
 ghost use lib.Dec.{ltb};
-ghost use lib.ListN.{length, getD, drop};
+ghost use lib.ListN.{length, getD};
 ghost use Rattle.lent.specs.Limits.{maxVariables, maxClauses, maxLiterals};
 ghost use Rattle.refusal.specs.Reply.{cause};
 ghost use Rattle.lent.specs.Sound.{unread};
-ghost use Rattle.dimacs.specs.Format.{words, badTokens};
+ghost use Rattle.dimacs.specs.Format.{tokensFrom, badTokens};
 ghost use Rattle.rule_reader.specs.Laws.{faultOf, checkAs};
 
 const MAX_LITERALS: usize = 31000;
@@ -50,7 +50,7 @@ fn fault_of(n: usize, count: usize, clauses: usize, literals: usize, v: Variable
 // has it.
 pub fn check_tokens(file: &[u8], from: usize, n: usize, count: usize) -> Check
     requires { ⌜ (n ≤ maxVariables) × (count ≤ maxClauses) ⌝ }
-    ensures { λ r. ⌜ r ≡ checkAs (badTokens n count (length (now (file .entry))) unread (words false from (drop from (now (file .entry))))) (length (words false from (drop from (now (file .entry))))) ⌝ }
+    ensures { λ r. ⌜ r ≡ checkAs (badTokens n count (length (now (file .entry))) unread (tokensFrom (now (file .entry)) from)) (length (tokensFrom (now (file .entry)) from)) ⌝ }
 {
     let mut stamps = no_stamps();
     let mut clauses: usize = 0;

@@ -19,7 +19,7 @@ use Rattle.decimal.specs.Decimal.{isDigit, number}
 use Rattle.decimal.specs.Laws.{numberAfter, number-by-value, number-small, digit-low, digit-high}
 use Rattle.dimacs.specs.Class.{digit, minus, classOf}
 use Rattle.dimacs.specs.Laws.{class-digit, class-other, run-inside, run-ends, run-take, run-more, words-gap, words-first}
-use Rattle.dimacs.specs.Format.{leading, isGap, inToken, Word, words, positive, negative, signed}
+use Rattle.dimacs.specs.Format.{leading, isGap, inToken, Word, words, tokensFrom, positive, negative, signed}
 use Rattle.rule_tokens.specs.declared.Token as T
 use Rattle.rule_tokens.specs.declared.number.Number as N
 use Rattle.rule_tokens.specs.declared.number.Numeral as L
@@ -146,7 +146,7 @@ module _ (p : ℕ → Bool) (s : List ℕ) (at end : ℕ) (e : end ≡ at + leng
       ∙ run-ends p (drop at s) (omega (arith, length-drop at s))
 
 -- no more tokens
-pub no-words : (s : List ℕ) (at start : ℕ) → start ≡ at + length (leading isGap (drop at s)) → length s ≤ start → words false at (drop at s) ≡ []
+pub no-words : (s : List ℕ) (at start : ℕ) → start ≡ at + length (leading isGap (drop at s)) → length s ≤ start → tokensFrom s at ≡ []
 no-words s at start e h =
     words-gap (drop at s) at
     ∙ ap₂ (λ (i : ℕ) (r : List ℕ). words false i r) (sym e) (drop-drop (length (leading isGap (drop at s))) at s ∙ ap (λ (i : ℕ). drop i s) (sym e) ∙ drop-of-length-le s h)
@@ -154,7 +154,7 @@ no-words s at start e h =
 -- the next token and what follows it
 pub next-word : (s : List ℕ) (at start end : ℕ) → start ≡ at + length (leading isGap (drop at s)) → end ≡ start + length (leading inToken (drop start s))
     → start < length s
-    → words false at (drop at s) ≡ record { place = start; bytes = take (end - start) (drop start s) } ∷ words false end (drop end s)
+    → tokensFrom s at ≡ record { place = start; bytes = take (end - start) (drop start s) } ∷ tokensFrom s end
 next-word s at start end e f h =
     let gap : ℕ = length (leading isGap (drop at s)) in
     let run : ℕ = length (leading inToken (drop start s)) in
@@ -174,16 +174,16 @@ module _ (s : List ℕ) (at start end : ℕ) (e : start ≡ at + length (leading
   abbrev bytes-of : List ℕ
   bytes-of = take (end - start) (drop start s)
 
-  first-is : (o : Option ℤ) → signed bytes-of ≡ o → firstToken (words false at (drop at s)) ≡ tokenAs start end o
+  first-is : (o : Option ℤ) → signed bytes-of ≡ o → firstToken (tokensFrom s at) ≡ tokenAs start end o
   first-is o g =
       let size : start + length bytes-of ≡ end =
       omega (arith, length-take (end - start) (drop start s), length-drop start s, run-end-inside inToken s start end f (omega arith)) in
       ap firstToken (next-word s at start end e f h) ∙ ap₂ (tokenAs start) size g
 
-  pub token-malformed : signed bytes-of ≡ none → T.the-variants.Malformed start ≡ firstToken (words false at (drop at s))
+  pub token-malformed : signed bytes-of ≡ none → T.the-variants.Malformed start ≡ firstToken (tokensFrom s at)
   token-malformed g = sym (first-is none g)
 
-  pub token-element : (x : ℤ) → signed bytes-of ≡ some x → T.the-variants.Element start (toZ w32 (ofZ w32 x)) end ≡ firstToken (words false at (drop at s))
+  pub token-element : (x : ℤ) → signed bytes-of ≡ some x → T.the-variants.Element start (toZ w32 (ofZ w32 x)) end ≡ firstToken (tokensFrom s at)
   token-element x g =
       ap (λ (z : ℤ). T.the-variants.Element start z end) (held x x refl (signed-fits bytes-of x g)) ∙ sym (first-is (some x) g)
 
@@ -191,12 +191,12 @@ module _ (s : List ℕ) (at start end : ℕ) (e : start ≡ at + length (leading
 pub record Bad (s : List ℕ) (at place : ℕ) : Type 0 where
   pub bytes : List ℕ
   pub rest : List Word
-  pub split : words false at (drop at s) ≡ record { place = place; bytes = bytes } ∷ rest
+  pub split : tokensFrom s at ≡ record { place = place; bytes = bytes } ∷ rest
   pub malformed : signed bytes ≡ none
 
 pub record Good (s : List ℕ) (at place : ℕ) (x : ℤ) (next : ℕ) : Type 0 where
   pub bytes : List ℕ
-  pub split : words false at (drop at s) ≡ record { place = place; bytes = bytes } ∷ words false next (drop next s)
+  pub split : tokensFrom s at ≡ record { place = place; bytes = bytes } ∷ tokensFrom s next
   pub number : signed bytes ≡ some x
   pub later : at < next
   pub inside : next ≤ length s
@@ -211,11 +211,11 @@ module _ (s : List ℕ) (at : ℕ) where
   found : List ℕ
   found = take (past - start) (drop start s)
 
-  some-word : start < length s → words false at (drop at s) ≡ record { place = start; bytes = found } ∷ words false past (drop past s)
+  some-word : start < length s → tokensFrom s at ≡ record { place = start; bytes = found } ∷ tokensFrom s past
   unfolding start past found
   some-word h = next-word s at start past refl refl h
 
-  unfound : length s ≤ start → words false at (drop at s) ≡ []
+  unfound : length s ≤ start → tokensFrom s at ≡ []
   unfolding start
   unfound h = no-words s at start refl h
 
@@ -232,8 +232,8 @@ module _ (s : List ℕ) (at : ℕ) where
         let begun : inToken (getD s start 0) ≡ true = ap not (run-end-stops isGap s at start refl h) in
         (omega arith, omega (arith, run-more inToken s start h begun), run-end-inside inToken s start past refl (omega arith))
 
-  pub token-end : firstToken (words false at (drop at s)) ≡ T.the-variants.End → words false at (drop at s) ≡ []
-  token-end e = go (words false at (drop at s)) e
+  pub token-end : firstToken (tokensFrom s at) ≡ T.the-variants.End → tokensFrom s at ≡ []
+  token-end e = go (tokensFrom s at) e
     where
       word : (w : Word) (o : Option ℤ) → tokenAs (w .place) (w .place + length (w .bytes)) o ≡ T.the-variants.End → ⊥
       word w none f = let z : _≡_ {A = ℕ} 0 1 = cc in omega arith
@@ -243,21 +243,21 @@ module _ (s : List ℕ) (at : ℕ) where
       go [] f = refl
       go (w ∷ ws) f = absurd (word w (signed (w .bytes)) f)
 
-  pub token-bad : (place : ℕ) → firstToken (words false at (drop at s)) ≡ T.the-variants.Malformed place → Bad s at place
-  token-bad place e = go (words false at (drop at s)) refl e
+  pub token-bad : (place : ℕ) → firstToken (tokensFrom s at) ≡ T.the-variants.Malformed place → Bad s at place
+  token-bad place e = go (tokensFrom s at) refl e
     where
-      word : (w : Word) (ws : List Word) (o : Option ℤ) → words false at (drop at s) ≡ w ∷ ws → signed (w .bytes) ≡ o
+      word : (w : Word) (ws : List Word) (o : Option ℤ) → tokensFrom s at ≡ w ∷ ws → signed (w .bytes) ≡ o
           → tokenAs (w .place) (w .place + length (w .bytes)) o ≡ T.the-variants.Malformed place → Bad s at place
       word w ws none f g k =
           let same : w .place ≡ place = cc in
           record { bytes = w .bytes; rest = ws; split = f ∙ ap (λ (p : ℕ). record { place = p; bytes = w .bytes } ∷ ws) same; malformed = g }
       word w ws (some x) f g k = let z : _≡_ {A = ℕ} 0 1 = cc in absurd (omega arith)
 
-      go : (ws : List Word) → words false at (drop at s) ≡ ws → firstToken ws ≡ T.the-variants.Malformed place → Bad s at place
+      go : (ws : List Word) → tokensFrom s at ≡ ws → firstToken ws ≡ T.the-variants.Malformed place → Bad s at place
       go [] f k = let z : _≡_ {A = ℕ} 0 1 = cc in absurd (omega arith)
       go (w ∷ ws) f k = word w ws (signed (w .bytes)) f refl k
 
-  pub token-good : (place : ℕ) (x : ℤ) (next : ℕ) → firstToken (words false at (drop at s)) ≡ T.the-variants.Element place x next → Good s at place x next
+  pub token-good : (place : ℕ) (x : ℤ) (next : ℕ) → firstToken (tokensFrom s at) ≡ T.the-variants.Element place x next → Good s at place x next
   token-good place x next e = go (ltb start (length s)) refl
     where
       word : start < length s → (o : Option ℤ) → signed found ≡ o → tokenAs start (start + length found) o ≡ T.the-variants.Element place x next → Good s at place x next
@@ -269,7 +269,7 @@ module _ (s : List ℕ) (at : ℕ) where
           let same-next : past ≡ next = sym (size h) ∙ same-end in
           record {
             bytes = found;
-            split = some-word h ∙ ap₂ (λ (p q : ℕ). record { place = p; bytes = found } ∷ words false q (drop q s)) same-place same-next;
+            split = some-word h ∙ ap₂ (λ (p q : ℕ). record { place = p; bytes = found } ∷ tokensFrom s q) same-place same-next;
             number = g ∙ same-value;
             later = omega (arith, within h);
             inside = omega (arith, within h);
@@ -279,7 +279,7 @@ module _ (s : List ℕ) (at : ℕ) where
       go true f = word (ltb-true start (length s) f) (signed found) refl (sym (ap firstToken (some-word (ltb-true start (length s) f))) ∙ e)
       go false f = nothing (unfound (ltb-false start (length s) f))
         where
-          nothing : words false at (drop at s) ≡ [] → Good s at place x next
+          nothing : tokensFrom s at ≡ [] → Good s at place x next
           nothing n =
               let k : T.the-variants.End ≡ T.the-variants.Element place x next = sym (ap firstToken n) ∙ e in
               let z : _≡_ {A = ℕ} 0 1 = cc in absurd (omega arith)

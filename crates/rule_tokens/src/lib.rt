@@ -4,11 +4,10 @@ mod number;
 pub use number::Number;
 use number::Numeral;
 pub use number::number_of;
-ghost use mathlib.Core.Bool.{false};
 ghost use mathlib.Core.Path.{_≡_};
 ghost use Prim.Native.Nat.{_+_};
 ghost use lib.ListN.{length, drop};
-ghost use Rattle.dimacs.specs.Format.{leading, isGap, inToken, words};
+ghost use Rattle.dimacs.specs.Format.{leading, isGap, inToken, tokensFrom};
 ghost use Rattle.rule_tokens.specs.Token.{firstToken};
 
 // What stands at an offset: nothing more, a malformed token at a place, or a number of the list at a
@@ -25,7 +24,7 @@ pub enum Token {
 
 // The next token from an offset on.
 pub fn token_at(file: &[u8], at: usize) -> Token
-    ensures { λ r. ⌜ r ≡ firstToken (words false at (drop at (now (file .entry)))) ⌝ }
+    ensures { λ r. ⌜ r ≡ firstToken (tokensFrom (now (file .entry)) at) ⌝ }
 {
     let start = skip_blanks(file, at);
     if file.len() <= start {

@@ -1,12 +1,11 @@
 -- `rule_reader::read_tokens` meets its contract: refused for a token, for the room, or read.
 use mathlib.Core.Path.{_≡_}
-use mathlib.Core.Bool.{false}
 use mathlib.Core.List.{List}
 use mathlib.Core.Option.{none}
 use native.Mathlib.Omega.{arith}
-use lib.ListN.{length, drop}
+use lib.ListN.{length}
 use Rattle.lent.specs.Sound.{unread}
-use Rattle.dimacs.specs.Format.{Word, words, badTokens}
+use Rattle.dimacs.specs.Format.{Word, tokensFrom, badTokens}
 use Rattle.rule_reader.specs.Answers.{check-refused, check-good, tokens-refused, tokens-short, tokens-read}
 use Rattle.rule_reader.specs.Laws.{passed-readable}
 use borrow.Author.Needs.{needs}
@@ -24,11 +23,11 @@ enum-known-needed c = search needs
 
 -- all tokens are good, and counted
 good : (c : tie.After-known-told2)
-    → (badTokens (c .before .before .before .before .before .args .n) (c .before .before .before .before .before .args .count) (length (c .before .before .before .before .before .args .file .now)) unread (words false (c .before .before .before .before .before .args .from) (drop (c .before .before .before .before .before .args .from) (c .before .before .before .before .before .args .file .now))) ≡ none)
-    × (c .before .needed .given .0 .0 ≡ length (words false (c .before .before .before .before .before .args .from) (drop (c .before .before .before .before .before .args .from) (c .before .before .before .before .before .args .file .now))))
+    → (badTokens (c .before .before .before .before .before .args .n) (c .before .before .before .before .before .args .count) (length (c .before .before .before .before .before .args .file .now)) unread (tokensFrom (c .before .before .before .before .before .args .file .now) (c .before .before .before .before .before .args .from)) ≡ none)
+    × (c .before .needed .given .0 .0 ≡ length (tokensFrom (c .before .before .before .before .before .args .file .now) (c .before .before .before .before .before .args .from)))
 good c =
     let args = c .before .before .before .before .before .args in
-    let ws : List Word = words false (args .from) (drop (args .from) (args .file .now)) in
+    let ws : List Word = tokensFrom (args .file .now) (args .from) in
     check-good (badTokens (args .n) (args .count) (length (args .file .now)) unread ws) (length ws) (c .before .before .before .check-tokens .result)
     (c .before .before .before .check-tokens .ensures) (c .before .needed .given .0 .0) (c .before .needed .given .1)
 
@@ -40,13 +39,13 @@ returns c =
 fill-rules-requires : tie.Need-fill-rules-requires
 fill-rules-requires c κs =
     let args = c .before .before .before .before .before .before .before .args in
-    let ws : List Word = words false (args .from) (drop (args .from) (args .file .now)) in
+    let ws : List Word = tokensFrom (args .file .now) (args .from) in
     (passed-readable ws (args .n) (args .count) (length (args .file .now)) unread (good (c .before .before) .0), omega (arith, good (c .before .before) .1, c .before .if1 .left))
 
 returns-2 : tie.Need-returns-2
 returns-2 c =
     let args = c .before .before .before .before .before .args in
-    let ws : List Word = words false (args .from) (drop (args .from) (args .file .now)) in
+    let ws : List Word = tokensFrom (args .file .now) (args .from) in
     let r = c .before .r .given .0 .0 in
     tokens-refused (args .n) (args .count) (args .file .now) (args .from) (args .rules .now) r
     (check-refused (badTokens (args .n) (args .count) (length (args .file .now)) unread ws) (length ws) (c .before .before .before .check-tokens .result) (c .before .before .before .check-tokens .ensures) r (c .before .r .given .1))

@@ -8,7 +8,8 @@ use Rattle.literal.specs.Literal.{variable}
 use Rattle.rule_tokens.specs.declared.Token as T
 use Rattle.rule_tokens.specs.Token.{firstToken}
 use Rattle.rule_reader.specs.Laws.{faultOf}
-use Rattle.rule_reader.proofs.Checking.{tokens, Checking, start, number-held, ended, malformed, later, faulty, closed, below, twice, joined}
+use Rattle.dimacs.specs.Format.{tokensFrom}
+use Rattle.rule_reader.proofs.Checking.{Checking, start, number-held, ended, malformed, later, faulty, closed, below, twice, joined}
 use Rattle.rule_reader.proofs.tokens.check_tokens.Statement.{statement}
 use Rattle.rule_reader.proofs.tokens.check_tokens.Tie as tie
 
@@ -55,7 +56,7 @@ fault-of-requires c κs = search needs
 
 -- the number that was found, and its variable
 found : (c : tie.After-variable-of Inv-loop μ-loop)
-    → T.the-variants.Element (c .before .before .place2 .given .0 .0) (c .before .before .place2 .given .0 .1 .0) (c .before .before .place2 .given .0 .1 .1 .0) ≡ firstToken (tokens (c .before .before .before .before .before .before .before .before .args .file .now) (c .before .before .before .before .before .loop .at))
+    → T.the-variants.Element (c .before .before .place2 .given .0 .0) (c .before .before .place2 .given .0 .1 .0) (c .before .before .place2 .given .0 .1 .1 .0) ≡ firstToken (tokensFrom (c .before .before .before .before .before .before .before .before .args .file .now) (c .before .before .before .before .before .loop .at))
 found c = sym (c .before .before .place2 .given .1) ∙ c .before .before .before .before .next-token .ensures
 
 same : (c : tie.After-variable-of Inv-loop μ-loop) → c .variable-of .result .0 ≡ variable (c .before .before .place2 .given .0 .1 .0)
