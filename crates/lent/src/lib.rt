@@ -5,6 +5,7 @@ mod range;
 mod row;
 mod rules;
 mod size;
+mod stamps;
 
 pub use choice::scan_choice;
 pub use problem::Problem;
@@ -16,3 +17,6 @@ pub use rules::RuleScan;
 pub use rules::scan_rules;
 pub use size::check_length;
 pub use size::check_size;
+pub use stamps::is_stamped;
+pub use stamps::no_stamps;
+pub use stamps::stamp;

@@ -5,7 +5,7 @@ use mathlib.Core.List.{List, [], _∷_}
 use mathlib.Core.Option.{Option, some}
 use Prim.Native.Nat.{ℕ, suc, _+_, _≤_, _<_, zero-le}
 use native.Mathlib.Omega.{arith}
-use lib.Dec.{ltb}
+use lib.Dec.{eqb, ltb}
 use lib.IntN.{ℤ}
 use lib.ListN.{length, getD, set}
 use mir.Syntax.{w32}
@@ -20,6 +20,7 @@ use Rattle.dimacs.specs.Format.{Word, tokensFrom, badTokens}
 use Rattle.rule_tokens.specs.declared.Token as T
 use Rattle.rule_tokens.specs.Laws.{Good, token-end, token-bad, token-good, held, signed-fits}
 use Rattle.rule_tokens.specs.Token.{firstToken}
+use borrow.Author.Tests.{eqb-true, eqb-false}
 use Rattle.rule_reader.specs.declared.tokens.Check as C
 use Rattle.rule_reader.specs.Laws.{faultOf, checkAs, open-clause, room-left, refused-malformed, refused-fault, accepted-zero, refused-twice, accepted-literal}
 
@@ -115,16 +116,16 @@ module _ {n c : ℕ} {file : List ℕ} {from : ℕ} {stamps : List ℕ} {k m : �
         pub below : v ≤ n
         below = room-left n c k m v fine z .1
 
-        pub twice : getD stamps v 0 ≡ k + 1 → C.the-variants.Refused (refusal 5 place) ≡ answer n c file from
+        pub twice : eqb (getD stamps v 0) (k + 1) ≡ true → C.the-variants.Refused (refusal 5 place) ≡ answer n c file from
         twice t =
             found (refusal 5 place)
             (here
             ∙ refused-twice n c (length file) k m (s .clause) place (g .bytes) (tokensFrom file next) x (g .number) v same fine z
-            (stamp-taken stamps (k + 1) (s .clause) x (s .stamped) (ap (λ (u : ℕ). getD stamps u 0) (sym same) ∙ t)))
+            (stamp-taken stamps (k + 1) (s .clause) x (s .stamped) (ap (λ (u : ℕ). getD stamps u 0) (sym same) ∙ eqb-true (getD stamps v 0) (k + 1) t)))
 
-        pub joined : n ≤ 640 → (getD stamps v 0 ≡ k + 1 → ⊥) → Checking n c file from (set stamps v (k + 1)) k (m + 1) true next
-        joined small t =
-            let free = stamp-free stamps (k + 1) (s .clause) x (s .stamped) (λ u. t (ap (λ (j : ℕ). getD stamps j 0) same ∙ u)) in
+        pub joined : n ≤ 640 → eqb (getD stamps v 0) (k + 1) ≡ false → (after : List ℕ) → after ≡ set stamps v (k + 1) → Checking n c file from after k (m + 1) true next
+        joined small t after a =
+            let free = stamp-free stamps (k + 1) (s .clause) x (s .stamped) (λ u. eqb-false (getD stamps v 0) (k + 1) t (ap (λ (j : ℕ). getD stamps j 0) same ∙ u)) in
             record {
               clause = x ∷ s .clause;
               few = s .few;
@@ -133,6 +134,6 @@ module _ {n c : ℕ} {file : List ℕ} {from : ℕ} {stamps : List ℕ} {k m : �
               counted = omega (arith, counting);
               opened = refl;
               stamped =
-                  subst (λ (j : ℕ). Stamped (set stamps j (k + 1)) (k + 1) (x ∷ s .clause)) (sym same)
+                  subst (λ (l : List ℕ). Stamped l (k + 1) (x ∷ s .clause)) (ap (λ (j : ℕ). set stamps j (k + 1)) (sym same) ∙ sym a)
                   (stamped-joined stamps (k + 1) (s .clause) x (s .stamped) (omega (arith, below)));
             }

@@ -1,12 +1,13 @@
 // The first pass over a rule file: whether its tokens are good, and how many there are.
+use literal::Clause;
 use literal::Variable;
 use refusal::Refusal;
 use rule_tokens::Token;
 ghost use mathlib.Core.Bool.{false, _||_};
 ghost use mathlib.Core.Path.{_≡_};
-ghost use Prim.Native.Nat.{ℕ, _+_, _≤_};
+ghost use Prim.Native.Nat.{_+_, _≤_};
 ghost use lib.Dec.{ltb};
-ghost use lib.ListN.{length, getD};
+ghost use lib.ListN.{length};
 ghost use Rattle.lent.specs.Limits.{maxVariables, maxClauses, maxLiterals};
 ghost use Rattle.refusal.specs.Reply.{cause};
 ghost use Rattle.lent.specs.Sound.{unread};
@@ -19,13 +20,6 @@ const MAX_LITERALS: usize = 31000;
 pub enum Check {
     Refused(Refusal),
     Good(usize),
-}
-
-// A stamp for each variable, none seen yet.
-fn no_stamps() -> [u16; 641]
-    ensures { λ r. ⌜ (length r ≡ 641) × ((v : ℕ) → getD r v 0 ≡ 0) ⌝ }
-{
-    [0; 641]
 }
 
 // The cause to refuse a number of the list, but for a variable that its clause has already: 6 where
@@ -45,14 +39,12 @@ fn fault_of(n: usize, count: usize, clauses: usize, literals: usize, v: Variable
     if n < v.0 { 4 } else { 0 }
 }
 
-// Checks the tokens from a place on, in a file of n variables and so many clauses. A stamp for each
-// variable, the number of the clause in which it was last seen, tells at once whether the open clause
-// has it.
+// Checks the tokens from a place on, in a file of n variables and so many clauses.
 pub fn check_tokens(file: &[u8], from: usize, n: usize, count: usize) -> Check
     requires { ⌜ (n ≤ maxVariables) × (count ≤ maxClauses) ⌝ }
     ensures { λ r. ⌜ r ≡ checkAs (badTokens n count (length (now (file .entry))) unread (tokensFrom (now (file .entry)) from)) (length (tokensFrom (now (file .entry)) from)) ⌝ }
 {
-    let mut stamps = no_stamps();
+    let mut stamps = lent::no_stamps();
     let mut clauses: usize = 0;
     let mut literals: usize = 0;
     let mut is_open = false;
@@ -71,16 +63,15 @@ pub fn check_tokens(file: &[u8], from: usize, n: usize, count: usize) -> Check
                 if number != 0 {
                     return Check::Refused(Refusal { number, place });
                 }
-                let index = v.0;
-                if index == 0 {
+                if v.0 == 0 {
                     clauses += 1;
                     is_open = false;
                 } else {
-                    let stamp = (clauses + 1) as u16;
-                    if stamps[index] == stamp {
+                    let clause = Clause(clauses + 1);
+                    if lent::is_stamped(&stamps, v, clause) {
                         return Check::Refused(Refusal { number: 5, place });
                     }
-                    stamps[index] = stamp;
+                    lent::stamp(&mut stamps, v, clause);
                     literals += 1;
                     is_open = true;
                 }

@@ -69,43 +69,34 @@ returns-3 : tie.Need-returns-3 Inv-loop μ-loop
 returns-3 c = faulty (c .before .before .before .before .before .before .before .loop .inv) (found (c .before .before)) (same (c .before .before)) (c .before .fault-of .result) (c .before .fault-of .ensures) (c .if1 .taken)
 
 add-clauses : tie.Need-add-clauses Inv-loop μ-loop
-add-clauses c = omega (arith, c .before .before .before .before .before .before .before .before .loop .inv .few, c .before .before .before .before .before .before .before .before .before .before .before .pre)
+add-clauses c = omega (arith, c .before .before .before .before .before .before .before .before .before .loop .inv .few, c .before .before .before .before .before .before .before .before .before .before .before .before .pre)
 
-add-stamp : tie.Need-add-stamp Inv-loop μ-loop
-add-stamp c = omega (arith, c .before .before .before .before .before .before .before .before .loop .inv .few, c .before .before .before .before .before .before .before .before .before .before .before .pre)
+add-t23 : tie.Need-add-t23 Inv-loop μ-loop
+add-t23 c = omega (arith, c .before .before .before .before .before .before .before .before .before .loop .inv .few, c .before .before .before .before .before .before .before .before .before .before .before .before .pre)
 
-cast-stamp : tie.Need-cast-stamp Inv-loop μ-loop
-cast-stamp c = omega (arith, c .before .before .before .before .before .before .before .before .loop .inv .few, c .before .before .before .before .before .before .before .before .before .before .before .pre)
-
-mul-if3 : tie.Need-mul-if3 Inv-loop μ-loop
-mul-if3 c = omega (arith, below (c .before .before .before .before .before .before .before .before .loop .inv) (found (c .before .before .before)) (same (c .before .before .before)) (fine (c .before)) (c .if2 .left), c .before .before .before .before .before .before .before .before .before .before .before .pre)
-
-array-read-if3 : tie.Need-array-read-if3 Inv-loop μ-loop
-array-read-if3 c = omega (arith, below (c .before .before .before .before .before .before .before .before .loop .inv) (found (c .before .before .before)) (same (c .before .before .before)) (fine (c .before)) (c .if2 .left), c .before .before .before .before .before .before .before .before .before .before .before .pre)
+is-stamped-requires : tie.Need-is-stamped-requires Inv-loop μ-loop
+is-stamped-requires c κs = omega (arith, below (c .before .before .before .before .before .before .before .before .before .before .loop .inv) (found (c .before .before .before .before .before)) (same (c .before .before .before .before .before)) (fine (c .before .before .before)) (c .before .if2 .left), c .before .before .before .before .before .before .before .before .before .before .before .before .before .pre)
 
 returns-4 : tie.Need-returns-4 Inv-loop μ-loop
-returns-4 c = twice (c .before .before .before .before .before .before .before .before .before .loop .inv) (found (c .before .before .before .before)) (same (c .before .before .before .before)) (fine (c .before .before)) (c .before .if2 .left) (c .if3 .taken)
+returns-4 c = twice (c .before .before .before .before .before .before .before .before .before .before .before .before .loop .inv) (found (c .before .before .before .before .before .before .before)) (same (c .before .before .before .before .before .before .before)) (fine (c .before .before .before .before .before)) (c .before .before .before .if2 .left) (sym (c .before .is-stamped .ensures) ∙ c .if3 .taken)
 
-mul-stamps : tie.Need-mul-stamps Inv-loop μ-loop
-mul-stamps c = omega (arith, below (c .before .before .before .before .before .before .before .before .before .loop .inv) (found (c .before .before .before .before)) (same (c .before .before .before .before)) (fine (c .before .before)) (c .before .if2 .left), c .before .before .before .before .before .before .before .before .before .before .before .before .pre)
-
-array-write-stamps : tie.Need-array-write-stamps Inv-loop μ-loop
-array-write-stamps c = omega (arith, below (c .before .before .before .before .before .before .before .before .before .loop .inv) (found (c .before .before .before .before)) (same (c .before .before .before .before)) (fine (c .before .before)) (c .before .if2 .left), c .before .before .before .before .before .before .before .before .before .before .before .before .pre)
+stamp-requires : tie.Need-stamp-requires Inv-loop μ-loop
+stamp-requires c κs = (omega (arith, below (c .before .before .before .before .before .before .before .before .before .before .before .before .before .loop .inv) (found (c .before .before .before .before .before .before .before .before)) (same (c .before .before .before .before .before .before .before .before)) (fine (c .before .before .before .before .before .before)) (c .before .before .before .before .if2 .left), c .before .before .before .before .before .before .before .before .before .before .before .before .before .before .before .before .pre), omega (arith, c .before .before .before .before .before .before .before .before .before .before .before .before .before .loop .inv .few, c .before .before .before .before .before .before .before .before .before .before .before .before .before .before .before .before .pre))
 
 add-literals : tie.Need-add-literals Inv-loop μ-loop
-add-literals c = omega (arith, c .before .before .before .before .before .before .before .before .before .loop .inv .many)
+add-literals c = omega (arith, c .before .before .before .before .before .before .before .before .before .before .before .before .before .before .loop .inv .many)
 
 loop-less : tie.Need-loop-less Inv-loop μ-loop
-loop-less c = omega (arith, later (c .before .before .before .before .before .before .before .before .loop .inv) (found (c .before .before .before)) (same (c .before .before .before)))
+loop-less c = omega (arith, later (c .before .before .before .before .before .before .before .before .before .loop .inv) (found (c .before .before .before .before)) (same (c .before .before .before .before)))
 
 loop-again : tie.Need-loop-again Inv-loop μ-loop
-loop-again c = closed (c .before .before .before .before .before .before .before .before .loop .inv) (found (c .before .before .before)) (same (c .before .before .before)) (fine (c .before)) (c .if2 .taken)
+loop-again c = closed (c .before .before .before .before .before .before .before .before .before .loop .inv) (found (c .before .before .before .before)) (same (c .before .before .before .before)) (fine (c .before .before)) (c .if2 .taken)
 
 loop-less-2 : tie.Need-loop-less-2 Inv-loop μ-loop
-loop-less-2 c = omega (arith, later (c .before .before .before .before .before .before .before .before .before .loop .inv) (found (c .before .before .before .before)) (same (c .before .before .before .before)))
+loop-less-2 c = omega (arith, later (c .before .before .before .before .before .before .before .before .before .before .before .before .before .before .loop .inv) (found (c .before .before .before .before .before .before .before .before .before)) (same (c .before .before .before .before .before .before .before .before .before)))
 
 loop-again-2 : tie.Need-loop-again-2 Inv-loop μ-loop
-loop-again-2 c = joined (c .before .before .before .before .before .before .before .before .before .loop .inv) (found (c .before .before .before .before)) (same (c .before .before .before .before)) (fine (c .before .before)) (c .before .if2 .left) (c .before .before .before .before .before .before .before .before .before .before .before .before .pre .0) (c .if3 .left)
+loop-again-2 c = joined (c .before .before .before .before .before .before .before .before .before .before .before .before .before .before .loop .inv) (found (c .before .before .before .before .before .before .before .before .before)) (same (c .before .before .before .before .before .before .before .before .before)) (fine (c .before .before .before .before .before .before .before)) (c .before .before .before .before .before .if2 .left) (c .before .before .before .before .before .before .before .before .before .before .before .before .before .before .before .before .before .pre .0) (sym (c .before .before .before .is-stamped .ensures) ∙ c .before .before .if3 .left) _ (c .stamp .ensures)
 
 pub check-tokens-spec : {M : Type 1} → statement M
 check-tokens-spec =
@@ -126,13 +117,10 @@ check-tokens-spec =
     fault-of-requires
     returns-3
     add-clauses
-    add-stamp
-    cast-stamp
-    mul-if3
-    array-read-if3
+    add-t23
+    is-stamped-requires
     returns-4
-    mul-stamps
-    array-write-stamps
+    stamp-requires
     add-literals
     loop-less
     loop-again

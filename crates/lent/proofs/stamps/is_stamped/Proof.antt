@@ -3,8 +3,8 @@ use mathlib.Core.Path.{ap}
 use Prim.Native.Nat.{ℕ}
 use lib.Dec.{eqb}
 use borrow.Author.Needs.{needs}
-use Rattle.lent.proofs.rules.is_stamped.Statement.{statement}
-use Rattle.lent.proofs.rules.is_stamped.Tie as tie
+use Rattle.lent.proofs.stamps.is_stamped.Statement.{statement}
+use Rattle.lent.proofs.stamps.is_stamped.Tie as tie
 
 mul-wide : tie.Need-mul-wide
 mul-wide c = search needs

@@ -2,8 +2,8 @@
 use mathlib.Core.Path.{_≡_, refl}
 use Prim.Native.Nat.{ℕ, zero, suc}
 use lib.ListN.{getD, replicate}
-use Rattle.lent.proofs.rules.no_stamps.Statement.{statement}
-use Rattle.lent.proofs.rules.no_stamps.Tie as tie
+use Rattle.lent.proofs.stamps.no_stamps.Statement.{statement}
+use Rattle.lent.proofs.stamps.no_stamps.Tie as tie
 
 zero-at : (k v : ℕ) → getD {A = ℕ} (replicate k 0) v 0 ≡ 0
 zero-at zero v = refl
