@@ -1,20 +1,22 @@
 -- The causes to refuse a search, in two runs: those that the scans of the numbers, the rules and the row find, and those after them.
-use mathlib.Core.Path.{_≡_, refl, sym, ap, ap₂, _∙_}
+use mathlib.Core.Path.{_≡_, refl, sym, ap₂, _∙_}
 use mathlib.Core.Bool.{not}
 use mathlib.Core.List.{List, [], _∷_}
 use mathlib.Core.Option.{Option, none, some}
-use Prim.Native.Nat.{ℕ}
+use Prim.Native.Nat.{ℕ, _≤_}
 use lib.Dec.{eqb}
 use lib.IntN.{ℤ}
 use lib.ListN.{length}
+use borrow.Author.Tests.{eqb-true, not-false}
 use Rattle.formula.specs.Formula.{clauses, literals}
 use Rattle.refusal.specs.declared.Refusal.{Refusal}
-use Rattle.refusal.specs.Laws.{first-late, first-last}
+use Rattle.refusal.specs.Laws.{first-late, first-last, no-first, cause-none, enough-room}
 use Rattle.refusal.specs.Reply.{refusal, first, cause, causeAt, tooShort}
 use Rattle.lent.specs.Lent.{refusalOf, outOfRange, wrongLength, oversized}
+use Rattle.lent.specs.Limits.{maxWishVariables}
 use Rattle.lent.specs.Scans.{unsound}
 use Rattle.lent.specs.Sound.{unread, badRule, badWish}
-use Rattle.searches.specs.Admitted.{lentWith}
+use Rattle.searches.specs.Admitted.{lentWith, oversized-not}
 use Rattle.searches.specs.Searches.{lentToPlain}
 
 -- 11, 12 and 15: the row's length, the size of the problem, and the room
@@ -44,6 +46,19 @@ decided-late n rules row d k m needed room sound e f =
     let short : Option Refusal = tooShort needed room in
     ap₂ (λ (i j : ℕ). first (laterCauses n (length row) i j needed room)) e f
     ∙ sym (first-late early (none ∷ wrong ∷ none ∷ large ∷ short ∷ []) sound ∙ skip wrong (large ∷ short ∷ []))
+
+-- what is known where none of the later causes applies
+pub later-none : (n long k m needed room : ℕ) → first (laterCauses n long k m needed room) ≡ none → (long ≡ n) × (n ≤ maxWishVariables) × (needed ≤ room)
+later-none n long k m needed room e =
+    let wrong : Option Refusal = cause (not (eqb long n)) 11 0 in
+    let large : Option Refusal = cause (oversized n k m) 12 0 in
+    let one = no-first wrong (large ∷ tooShort needed room ∷ []) e in
+    let two = no-first large (tooShort needed room ∷ []) (one .1) in
+    let three = no-first (tooShort needed room) [] (two .1) in (
+      eqb-true long n (not-false (eqb long n) (cause-none (not (eqb long n)) 11 0 (one .0))),
+      oversized-not n k m (cause-none (oversized n k m) 12 0 (two .0)) .0,
+      enough-room needed room (three .0),
+    )
 
 -- without wishes
 module _ (n : ℕ) (rules : List ℤ) (room : ℕ) where

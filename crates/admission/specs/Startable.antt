@@ -1,16 +1,14 @@
 -- What is known where a search was not refused.
-use mathlib.Core.Path.{_≡_, refl, sym, ap, _∙_}
+use mathlib.Core.Path.{_≡_}
 use mathlib.Core.List.{List, [], _∷_}
-use mathlib.Core.Option.{Option, none, some, Option·some-ne-none}
+use mathlib.Core.Option.{Option, none}
 use Prim.Native.Nat.{ℕ, _≤_}
-use lib.Dec.{ltb}
 use lib.IntN.{ℤ}
 use lib.ListN.{length}
-use borrow.Author.Tests.{ltb-false}
 use Rattle.formula.specs.Formula.{clauses, literals}
 use Rattle.refusal.specs.declared.Refusal.{Refusal}
-use Rattle.refusal.specs.Laws.{no-first, cause-none, causeAt-none}
-use Rattle.refusal.specs.Reply.{first, cause, causeAt}
+use Rattle.refusal.specs.Laws.{no-first, cause-none, causeAt-none, enough-room}
+use Rattle.refusal.specs.Reply.{first, cause, causeAt, tooShort}
 use Rattle.lent.specs.Laws.{in-range}
 use Rattle.lent.specs.Lent.{refusalOf, outOfRange, wrongLength, oversized}
 use Rattle.lent.specs.Limits.{maxVariables}
@@ -32,12 +30,12 @@ ends a b l z e last =
     (one .0, two .0, last (two .1))
 
 startable : (n d : ℕ) (rules : List ℤ) (room : ℕ)
-    → (cause (outOfRange n d) 14 0 ≡ none) × (causeAt 13 (badRule n unread 0 rules) ≡ none) × (cause (ltb room n) 15 n ≡ none) → Startable n rules room
+    → (cause (outOfRange n d) 14 0 ≡ none) × (causeAt 13 (badRule n unread 0 rules) ≡ none) × (tooShort n room ≡ none) → Startable n rules room
 startable n d rules room (e, f, g) =
     record {
       few = in-range n d (cause-none (outOfRange n d) 14 0 e) .1;
       sound = causeAt-none 13 (badRule n unread 0 rules) f;
-      wide = ltb-false room n (cause-none (ltb room n) 15 n g);
+      wide = enough-room n room g;
     }
 
 pub startable-wished : (n : ℕ) (rules : List ℤ) (row : List ℕ) (d room : ℕ) → refusalOf (lentToSearch n rules row d room) ≡ none → Startable n rules room
@@ -51,7 +49,7 @@ startable-wished n rules row d room e =
     large = cause (oversized n (length (clauses rules)) (literals (clauses rules))) 12 0
 
     short : Option Refusal
-    short = cause (ltb room n) 15 n
+    short = tooShort n room
 
     last : first (causeAt 13 (badWish 0 0 row) ∷ none ∷ wrong ∷ none ∷ large ∷ short ∷ []) ≡ none → short ≡ none
     last g =
@@ -62,5 +60,5 @@ startable-wished n rules row d room e =
 
 pub startable-plain : (n : ℕ) (rules : List ℤ) (room : ℕ) → refusalOf (lentToPlain n rules room) ≡ none → Startable n rules room
 startable-plain n rules room e =
-    startable n 0 rules room (ends (cause (outOfRange n 0) 14 0) (causeAt 13 (badRule n unread 0 rules)) (none ∷ none ∷ none ∷ none ∷ none ∷ cause (ltb room n) 15 n ∷ []) (cause (ltb room n) 15 n) e
-    (λ g. no-first (cause (ltb room n) 15 n) [] g .0))
+    startable n 0 rules room (ends (cause (outOfRange n 0) 14 0) (causeAt 13 (badRule n unread 0 rules)) (none ∷ none ∷ none ∷ none ∷ none ∷ tooShort n room ∷ []) (tooShort n room) e
+    (λ g. no-first (tooShort n room) [] g .0))

@@ -9,13 +9,14 @@ use lib.ListN.{length, length-replicate}
 use Rattle.formula.specs.Formula.{clauses}
 use Rattle.distance.specs.Distance.{nearest}
 use Rattle.refusal.specs.declared.Refusal.{Refusal}
-use Rattle.refusal.specs.Reply.{Reply, unless}
+use Rattle.refusal.specs.Laws.{room-enough}
+use Rattle.refusal.specs.Reply.{Reply, unless, tooShort}
 use Rattle.lent.specs.Limits.{maxLimit}
 use Rattle.walk.specs.Walk.{walk}
 use Rattle.totalizer.specs.Totalizer.{rewrittenVariables}
 use Rattle.searches.specs.Admitted.{Admitted, admitted-room}
 use Rattle.searches.specs.Searches.{found, brokenBy}
-use Rattle.agreement.specs.Causes.{short, short-fine, short-none, fine-passes, answered-past, admitted}
+use Rattle.agreement.specs.Causes.{short-fine, fine-passes, answered-past, admitted}
 use Rattle.agreement.specs.Claim.{Admissible, Agree, both-find, both-none, Unrefused, Agreement}
 use Rattle.agreement.specs.Completing.{all-completions}
 use Rattle.agreement.specs.Decided.{Reached, Decided, yes, no, search-decides}
@@ -31,22 +32,22 @@ agree Holds d first second (no e r) (yes count l f s) = absurd (r s)
 agree Holds d first second (no e r) (no f s) = both-none e f
 
 -- a search that is refused only for want of room for the choice
-module _ (n : ℕ) (choice : List ℕ) (o : Option ℕ) (reply : Reply) (e : reply ≡ unless (short (length choice) n) (found o)) where
+module _ (n : ℕ) (choice : List ℕ) (o : Option ℕ) (reply : Reply) (e : reply ≡ unless (tooShort n (length choice)) (found o)) where
   search-passes : Passes reply
-  search-passes = subst Passes (sym e) (fine-passes (short (length choice) n) (found o) (short-fine (length choice) n) (found-passes o))
+  search-passes = subst Passes (sym e) (fine-passes (tooShort n (length choice)) (found o) (short-fine n (length choice)) (found-passes o))
 
   search-answered : n ≤ length choice → Answered reply
-  search-answered h = subst Answered (sym (e ∙ ap (λ (c : Option Refusal). unless c (found o)) (short-none (length choice) n h))) (found-answered o)
+  search-answered h = subst Answered (sym (e ∙ ap (λ (c : Option Refusal). unless c (found o)) (room-enough n (length choice) h))) (found-answered o)
 
   search-found : Answered reply → reply ≡ found o
-  search-found u = e ∙ answered-past (short (length choice) n) (found o) (subst Answered e u) .0
+  search-found u = e ∙ answered-past (tooShort n (length choice)) (found o) (subst Answered e u) .0
 
 module _ (n : ℕ) (rules : List ℤ) (row : List ℕ) (ok : (d : ℕ) → d ≤ maxLimit → Admitted n rules row d) where
-  first-says : (d : ℕ) → d ≤ maxLimit → (choice : List ℕ) → firstRoute n rules row d choice ≡ unless (short (length choice) n) (found (brokenBy (walk n (clauses rules) row d .answer)))
+  first-says : (d : ℕ) → d ≤ maxLimit → (choice : List ℕ) → firstRoute n rules row d choice ≡ unless (tooShort n (length choice)) (found (brokenBy (walk n (clauses rules) row d .answer)))
   first-says d h choice =
       ap (λ (c : Option Refusal). unless c (found (brokenBy (walk n (clauses rules) row d .answer)))) (admitted-room n rules row d n (length choice) (ok d h))
 
-  nearest-says : (choice : List ℕ) → nearestRoute n rules row choice ≡ unless (short (length choice) n) (found (nearest n rules row))
+  nearest-says : (choice : List ℕ) → nearestRoute n rules row choice ≡ unless (tooShort n (length choice)) (found (nearest n rules row))
   nearest-says choice =
       ap (λ (c : Option Refusal). unless c (found (nearest n rules row))) (admitted-room n rules row 0 n (length choice) (ok 0 (omega arith)))
 

@@ -1,5 +1,5 @@
 -- What a call that is refused with 15 at most tells, and the causes of the calls along the routes.
-use mathlib.Core.Path.{_≡_, refl, ap}
+use mathlib.Core.Path.{_≡_, refl}
 use mathlib.Core.Bool.{Bool, true, false}
 use mathlib.Core.List.{List, [], _∷_}
 use mathlib.Core.Option.{Option, none, some, Option·some-ne-none}
@@ -11,7 +11,7 @@ use lib.ListN.{length}
 use borrow.Author.Tests.{le-ltb, ne-eqb}
 use Rattle.formula.specs.Formula.{clauses, literals}
 use Rattle.refusal.specs.declared.Refusal.{Refusal}
-use Rattle.refusal.specs.Reply.{Reply, first, cause, causeAt, answering, unless}
+use Rattle.refusal.specs.Reply.{Reply, first, cause, causeAt, tooShort, answering, unless}
 use Rattle.refusal.specs.Laws.{first-last, causeAt-none}
 use Rattle.lent.specs.Lent.{refusalOf, outOfRange, wrongLength, oversized}
 use Rattle.lent.specs.Limits.{maxVariables, maxLimit}
@@ -30,18 +30,12 @@ Fine none = Unit {0}
 Fine (some r) = r .number ≡ 15
 
 -- the cause of a lent output that is too short
-abbrev pub short : ℕ → ℕ → Option Refusal
-short room needed = cause (ltb room needed) 15 needed
-
-pub short-fine : (room needed : ℕ) → Fine (short room needed)
-short-fine room needed = go (ltb room needed)
+pub short-fine : (needed room : ℕ) → Fine (tooShort needed room)
+short-fine needed room = go (ltb room needed)
   where
     go : (b : Bool) → Fine (cause b 15 needed)
     go true = refl
     go false = tt
-
-pub short-none : (room needed : ℕ) → needed ≤ room → short room needed ≡ none
-short-none room needed h = ap (λ (b : Bool). cause b 15 needed) (le-ltb room needed h)
 
 -- the reply of a call with a cause or without one
 passes-fine : (o : Option Refusal) (v x y z : ℕ) → Passes (unless o (answering v x y z)) → Fine o
@@ -74,7 +68,7 @@ module _ (n : ℕ) (rules : List ℤ) (row : List ℕ) where
   admitted-with : (d room : ℕ) → Fine (refusalOf (lentToRewrite n rules row d room)) → Admitted n rules row d
   admitted-with d room h =
       let size : Bool = oversized n (length (clauses rules)) (literals (clauses rules)) in
-      let last : Option Refusal = short room (length (rewritten n rules row d)) in
+      let last : Option Refusal = tooShort (length (rewritten n rules row d)) room in
       let c₁₁ : Option Refusal = cause (wrongLength n row) 11 0 in
       let c₁₂ : Option Refusal = cause size 12 0 in
       let later : List (Option Refusal) = none ∷ c₁₁ ∷ none ∷ c₁₂ ∷ last ∷ [] in
@@ -109,7 +103,7 @@ module _ (n : ℕ) (rules : List ℤ) (row : List ℕ) where
 
 -- plain search on a sound list is refused only for want of room
 pub plain-room : (n : ℕ) (list : List ℤ) (room : ℕ) → 0 < n → n ≤ maxVariables → badRule n unread 0 list ≡ none
-    → refusalOf (lentToPlain n list room) ≡ short room n
+    → refusalOf (lentToPlain n list room) ≡ tooShort n room
 plain-room n list room h k e =
     let range : outOfRange n 0 ≡ false = rw (ne-eqb n 0 (λ z. omega arith), le-ltb maxVariables n k) in
-    rw (range, e) (first-last (short room n))
+    rw (range, e) (first-last (tooShort n room))

@@ -12,6 +12,7 @@ use lib.Seq.{take-append-seam}
 use borrow.Author.Tests.{le-ltb, ne-eqb}
 use Rattle.formula.specs.Formula.{clauses}
 use Rattle.refusal.specs.declared.Refusal.{Refusal}
+use Rattle.refusal.specs.Laws.{room-enough}
 use Rattle.refusal.specs.Reply.{Reply, cause, answering, unless, filled, tooShort}
 use Rattle.lent.specs.Lent.{refusalOf, outOfRange}
 use Rattle.lent.specs.Limits.{maxVariables}
@@ -28,7 +29,7 @@ use Rattle.rewriting.specs.Rewrite.{lentToRewrite, rewriteOutput}
 use Rattle.rule_writer.specs.Laws.{by-room}
 use Rattle.rule_writer.specs.Write.{lentToWrite, writeOutput}
 use Rattle.rule_reader.specs.Read.{readReply, readOutput}
-use Rattle.agreement.specs.Causes.{short, short-fine, short-none, fine-passes, answered-past, plain-room}
+use Rattle.agreement.specs.Causes.{short-fine, fine-passes, answered-past, plain-room}
 use Rattle.agreement.specs.Routes.{onAnswer, Buffers, fromSearch, fromReader, fromWriter, secondRoute, Answered, Passes}
 
 on-unless : (o : Option Refusal) (v x y z : ℕ) (next : ℕ → ℕ → ℕ → ℕ → Reply) → onAnswer (unless o (answering v x y z)) next ≡ unless o (next v x y z)
@@ -73,10 +74,10 @@ module _ (n : ℕ) (rules : List ℤ) (row : List ℕ) (d : ℕ) (a : Admitted n
   most = rewritten-variables n row (a .small) (a .soundRow)
 
   module _ (b : Buffers) where
-    search-says : fromSearch b N R ≡ unless (short (length (b .choice)) N) (outcome n rules row d)
+    search-says : fromSearch b N R ≡ unless (tooShort N (length (b .choice))) (outcome n rules row d)
     search-says = ap (λ (o : Option Refusal). unless o (outcome n rules row d)) (plain-room N R (length (b .choice)) positive most sound)
 
-    reader-says : fromReader b W ≡ unless (short (length (b .list)) (length R)) (fromSearch b N R)
+    reader-says : fromReader b W ≡ unless (tooShort (length R) (length (b .list))) (fromSearch b N R)
     reader-says =
         ap
         (λ (g : Reading). onAnswer (readReply g (b .list)) (λ (v n c size : ℕ). fromSearch b n (take size (readOutput g (b .list)))))
@@ -85,7 +86,7 @@ module _ (n : ℕ) (rules : List ℤ) (row : List ℕ) (d : ℕ) (a : Admitted n
         (λ (v n c size : ℕ). fromSearch b n (take size (filled (tooShort (length R) (length (b .list))) R (b .list))))
         ∙ take-filled (tooShort (length R) (length (b .list))) R (b .list) (fromSearch b N)
 
-    writer-says : fromWriter b N R ≡ unless (short (length (b .file)) (length W)) (fromReader b W)
+    writer-says : fromWriter b N R ≡ unless (tooShort (length W) (length (b .file))) (fromReader b W)
     writer-says =
         let o : Option Refusal = refusalOf (lentToWrite N R (length (b .file))) in
         let range : outOfRange N 0 ≡ false = rw (ne-eqb N 0 (λ z. omega (arith, positive)), le-ltb maxVariables N most) in
@@ -93,7 +94,7 @@ module _ (n : ℕ) (rules : List ℤ) (row : List ℕ) (d : ℕ) (a : Admitted n
         ∙ take-filled o W (b .file) (fromReader b)
         ∙ ap (λ (p : Option Refusal). unless p (fromReader b W)) (by-room N R (b .file) (ap (λ (t : Bool). cause t 14 0) range) sound)
 
-    rewriting-says : secondRoute n rules row d b ≡ unless (short (length (b .rewritten)) (length R)) (fromWriter b N R)
+    rewriting-says : secondRoute n rules row d b ≡ unless (tooShort (length R) (length (b .rewritten))) (fromWriter b N R)
     rewriting-says =
         let o : Option Refusal = refusalOf (lentToRewrite n rules row d (length (b .rewritten))) in
         on-unless o 1 N (length R) 0 (λ (v variables size z : ℕ). fromWriter b variables (take size (rewriteOutput n rules row d (b .rewritten))))
@@ -102,32 +103,32 @@ module _ (n : ℕ) (rules : List ℤ) (row : List ℕ) (d : ℕ) (a : Admitted n
 
     -- the whole route: the refusals for want of room, in the order of the calls, and then the answer of plain search
     pub second-says : secondRoute n rules row d b
-        ≡ unless (short (length (b .rewritten)) (length R))
-        (unless (short (length (b .file)) (length W))
-        (unless (short (length (b .list)) (length R))
-        (unless (short (length (b .choice)) N) (outcome n rules row d))))
+        ≡ unless (tooShort (length R) (length (b .rewritten)))
+        (unless (tooShort (length W) (length (b .file)))
+        (unless (tooShort (length R) (length (b .list)))
+        (unless (tooShort N (length (b .choice))) (outcome n rules row d))))
     second-says =
         rewriting-says
-        ∙ ap (λ (r : Reply). unless (short (length (b .rewritten)) (length R)) r)
+        ∙ ap (λ (r : Reply). unless (tooShort (length R) (length (b .rewritten))) r)
         (writer-says
-        ∙ ap (λ (r : Reply). unless (short (length (b .file)) (length W)) r)
-        (reader-says ∙ ap (λ (r : Reply). unless (short (length (b .list)) (length R)) r) search-says))
+        ∙ ap (λ (r : Reply). unless (tooShort (length W) (length (b .file))) r)
+        (reader-says ∙ ap (λ (r : Reply). unless (tooShort (length R) (length (b .list))) r) search-says))
 
     pub second-passes : Passes (secondRoute n rules row d b)
     second-passes =
         subst Passes (sym second-says)
-        (fine-passes (short (length (b .rewritten)) (length R)) _ (short-fine (length (b .rewritten)) (length R))
-        (fine-passes (short (length (b .file)) (length W)) _ (short-fine (length (b .file)) (length W))
-        (fine-passes (short (length (b .list)) (length R)) _ (short-fine (length (b .list)) (length R))
-        (fine-passes (short (length (b .choice)) N) (outcome n rules row d) (short-fine (length (b .choice)) N)
+        (fine-passes (tooShort (length R) (length (b .rewritten))) _ (short-fine (length R) (length (b .rewritten)))
+        (fine-passes (tooShort (length W) (length (b .file))) _ (short-fine (length W) (length (b .file)))
+        (fine-passes (tooShort (length R) (length (b .list))) _ (short-fine (length R) (length (b .list)))
+        (fine-passes (tooShort N (length (b .choice))) (outcome n rules row d) (short-fine N (length (b .choice)))
         (found-passes (brokenBy (plainWalk N (clauses R) .answer)))))))
 
     pub second-outcome : Answered (secondRoute n rules row d b) → secondRoute n rules row d b ≡ outcome n rules row d
     second-outcome h =
-        let one = answered-past (short (length (b .rewritten)) (length R)) _ (subst Answered second-says h) in
-        let two = answered-past (short (length (b .file)) (length W)) _ (one .1) in
-        let three = answered-past (short (length (b .list)) (length R)) _ (two .1) in
-        let four = answered-past (short (length (b .choice)) N) (outcome n rules row d) (three .1) in
+        let one = answered-past (tooShort (length R) (length (b .rewritten))) _ (subst Answered second-says h) in
+        let two = answered-past (tooShort (length W) (length (b .file))) _ (one .1) in
+        let three = answered-past (tooShort (length R) (length (b .list))) _ (two .1) in
+        let four = answered-past (tooShort N (length (b .choice))) (outcome n rules row d) (three .1) in
         second-says ∙ one .0 ∙ two .0 ∙ three .0 ∙ four .0
 
   abbrev off : List ℕ
@@ -141,10 +142,10 @@ module _ (n : ℕ) (rules : List ℤ) (row : List ℕ) (d : ℕ) (a : Admitted n
   second-enough =
       let all : secondRoute n rules row d enough ≡ outcome n rules row d =
       second-says enough
-      ∙ ap (λ (o : Option Refusal). unless o (unless (short (length W) (length W)) (unless o (unless (short (length off) N) (outcome n rules row d)))))
-      (short-none (length R) (length R) (le-refl (length R)))
-      ∙ ap (λ (o : Option Refusal). unless o (unless (short (length off) N) (outcome n rules row d)))
-      (short-none (length W) (length W) (le-refl (length W)))
-      ∙ ap (λ (o : Option Refusal). unless o (outcome n rules row d)) (short-none (length off) N (omega (arith, length-replicate {A = ℕ} N 0)))
+      ∙ ap (λ (o : Option Refusal). unless o (unless (tooShort (length W) (length W)) (unless o (unless (tooShort N (length off)) (outcome n rules row d)))))
+      (room-enough (length R) (length R) (le-refl (length R)))
+      ∙ ap (λ (o : Option Refusal). unless o (unless (tooShort N (length off)) (outcome n rules row d)))
+      (room-enough (length W) (length W) (le-refl (length W)))
+      ∙ ap (λ (o : Option Refusal). unless o (outcome n rules row d)) (room-enough N (length off) (omega (arith, length-replicate {A = ℕ} N 0)))
       in
       subst Answered (sym all) (found-answered (brokenBy (plainWalk N (clauses R) .answer)))

@@ -1,6 +1,6 @@
 -- What is known of a file that reading accepts, and of one in the writer's form: "a file in the writer's form, read and written, is that file" (document 01, "The rule file").
 use mathlib.Core.Path.{_≡_, refl, sym, ap, _∙_}
-use mathlib.Core.Bool.{Bool, true, false, cond, not, _&&_, _||_, true≢false}
+use mathlib.Core.Bool.{Bool, true, false, cond, not, _&&_, _||_}
 use mathlib.Core.List.{List, [], _∷_, map}
 use mathlib.Core.Option.{Option, none, some, Option·getD, Option·some-ne-none, Option·none-ne-some, Option·some-injective}
 use Prim.Native.Nat.{ℕ, zero, suc, _+_, _≤_, _<_}
@@ -13,7 +13,7 @@ use borrow.Author.Tests.{lt-ltb, le-leb, leb-false, ltb-false, eqb-false, not-fa
 use Rattle.literal.specs.Literal.{variable}
 use Rattle.formula.specs.Formula.{closes, clauses}
 use Rattle.refusal.specs.declared.Refusal.{Refusal}
-use Rattle.refusal.specs.Laws.{first-last, cause-none, no-first}
+use Rattle.refusal.specs.Laws.{first-last, cause-none, no-first, neither}
 use Rattle.refusal.specs.Reply.{refusal, first, cause}
 use Rattle.lent.specs.Limits.{maxVariables, maxClauses, maxLiterals}
 use Rattle.lent.specs.Laws.{zeros, zeros-clauses}
@@ -24,10 +24,6 @@ use Rattle.dimacs.specs.Class.{classOf}
 use Rattle.dimacs.specs.Format.{pastComments, Header, header, numbered, outside, Word, tokensFrom, positive, negative, signed, element, badToken, badTokens, refuses, gives, reading, readTokens, readFrom}
 use Rattle.dimacs.specs.RoundTrip.{unsigned, tokensOf, words-written, header-fields, heading-joined, heading-length}
 use Rattle.dimacs.specs.Written.{numeral, body, heading, written}
-
-or-false : (a b : Bool) → a || b ≡ false → (a ≡ false) × (b ≡ false)
-or-false true b e = absurd (true≢false e)
-or-false false b e = (refl, e)
 
 -- a token that is not refused is a number that may come next, in a file with clauses to come
 good-next : (n c : ℕ) (s : Scan) (at : ℕ) (x : ℤ) → c ≤ maxClauses → badToken n c s at (some x) ≡ none → (s .clauses < c) × (stands n s x ≡ true)
@@ -84,7 +80,7 @@ good-next n c s at x h e = go (closes x) refl
 sound-words : (ws : List Word) (n c size : ℕ) (s : Scan) (i : ℕ) → c ≤ maxClauses → s .clauses ≤ c → badTokens n c size s ws ≡ none
     → (badRule n s i (map element ws) ≡ none) × (c ≡ s .clauses + zeros (map element ws))
 sound-words [] n c size s i h k e =
-    let parts = or-false (ltb (s .clauses) c) (unclosed (s .clause)) (cause-none (ltb (s .clauses) c || unclosed (s .clause)) 6 size e) in
+    let parts = neither (ltb (s .clauses) c) (unclosed (s .clause)) (cause-none (ltb (s .clauses) c || unclosed (s .clause)) 6 size e) in
     (rw (parts .1), omega (arith, ltb-false (s .clauses) c (parts .0)))
 sound-words (w ∷ ws) n c size s i h k e =
     token (signed (w .bytes)) refl (parts .0) (λ m. sound-words ws n c size (after s (element w)) (suc i) h m (sym (first-last later) ∙ parts .1))
@@ -125,8 +121,8 @@ pub record Accepted (n c : ℕ) (l : List ℤ) : Type 0 where
 
 ranges : (n c : ℕ) → outside n c ≡ false → (1 ≤ n) × (n ≤ maxVariables) × (c ≤ maxClauses)
 ranges n c e =
-    let p = or-false (eqb n 0) (ltb maxVariables n || ltb maxClauses c) e in
-    let q = or-false (ltb maxVariables n) (ltb maxClauses c) (p .1) in
+    let p = neither (eqb n 0) (ltb maxVariables n || ltb maxClauses c) e in
+    let q = neither (ltb maxVariables n) (ltb maxClauses c) (p .1) in
     (above n (eqb-false n 0 (p .0)), ltb-false maxVariables n (q .0), ltb-false maxClauses c (q .1))
   where
     above : (n : ℕ) → (n ≡ 0 → ⊥) → 1 ≤ n

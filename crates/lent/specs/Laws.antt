@@ -1,6 +1,6 @@
 -- The equations by which proofs scan lent lists, element by element.
 use mathlib.Core.Path.{_≡_, refl, sym, ap, _∙_}
-use mathlib.Core.Bool.{Bool, true, false, cond, _||_, true≢false}
+use mathlib.Core.Bool.{Bool, true, false, cond, _||_}
 use mathlib.Core.List.{List, [], _∷_}
 use mathlib.Core.Option.{none, some, Option·some-ne-none}
 use Prim.Native.Nat.{ℕ, suc, _+_, _≤_, _<_}
@@ -15,6 +15,7 @@ use borrow.Author.Tests.{lt-ltb, le-ltb, le-leb, lt-leb, eq-eqb, ne-eqb, eqb-fal
 use Rattle.literal.specs.Literal.{variable}
 use Rattle.formula.specs.Formula.{closes, onto, clauses, literals}
 use Rattle.distance.specs.Distance.{weight, wishes}
+use Rattle.refusal.specs.Laws.{neither}
 use Rattle.lent.specs.Lent.{outOfRange}
 use Rattle.lent.specs.Limits.{maxVariables, maxClauses, maxLiterals, maxWishes, maxLimit}
 use Rattle.lent.specs.Sound.{Scan, mayJoin, stands, unclosed, badRule, badWish, badChoice}
@@ -155,13 +156,9 @@ zeros-end list i h = (rw (drop-of-length-le list h), rw (drop-of-length-le list 
 -- the numbers of a call that is not refused with 14
 pub in-range : (n d : ℕ) → outOfRange n d ≡ false → (0 < n) × (n ≤ maxVariables) × (d ≤ maxLimit)
 in-range n d e =
-    let none = or-false (eqb n 0) (ltb maxVariables n || ltb maxLimit d) e in
-    let rest = or-false (ltb maxVariables n) (ltb maxLimit d) (none .1) in
+    let none = neither (eqb n 0) (ltb maxVariables n || ltb maxLimit d) e in
+    let rest = neither (ltb maxVariables n) (ltb maxLimit d) (none .1) in
     (positive n (eqb-false n 0 (none .0)), ltb-false maxVariables n (rest .0), ltb-false maxLimit d (rest .1))
   where
-    or-false : (a b : Bool) → a || b ≡ false → (a ≡ false) × (b ≡ false)
-    or-false true b e = absurd (true≢false e)
-    or-false false b e = (refl, e)
-
     positive : (n : ℕ) → (n ≡ 0 → ⊥) → 0 < n
     positive n z = omega arith

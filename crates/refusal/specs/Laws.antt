@@ -1,11 +1,13 @@
 -- The equations by which proofs find the first cause.
-use mathlib.Core.Path.{_≡_, refl, sym}
-use mathlib.Core.Bool.{Bool, true, false}
+use mathlib.Core.Path.{_≡_, refl, sym, ap}
+use mathlib.Core.Bool.{Bool, true, false, _||_, true≢false}
 use mathlib.Core.List.{List, [], _∷_, _++_}
 use mathlib.Core.Option.{Option, none, some, Option·some-ne-none}
-use Prim.Native.Nat.{ℕ}
+use Prim.Native.Nat.{ℕ, _≤_}
+use lib.Dec.{ltb}
+use borrow.Author.Tests.{le-ltb, ltb-false}
 use Rattle.refusal.specs.declared.Refusal.{Refusal}
-use Rattle.refusal.specs.Reply.{refusal, first, cause, causeAt}
+use Rattle.refusal.specs.Reply.{refusal, first, cause, causeAt, tooShort}
 
 pub first-some : (o : Option Refusal) (causes : List (Option Refusal)) (r : Refusal) → o ≡ some r → first (o ∷ causes) ≡ some r
 first-some o causes r e = rw e
@@ -41,3 +43,15 @@ causeAt-none number (some place) e = absurd (Option·some-ne-none (refusal numbe
 pub no-first : (o : Option Refusal) (causes : List (Option Refusal)) → first (o ∷ causes) ≡ none → (o ≡ none) × (first causes ≡ none)
 no-first none causes e = (refl, e)
 no-first (some r) causes e = absurd (Option·some-ne-none r e)
+
+-- of two tests neither applies
+pub neither : (a b : Bool) → a || b ≡ false → (a ≡ false) × (b ≡ false)
+neither true b e = absurd (true≢false e)
+neither false b e = (refl, e)
+
+-- an output with room enough, and what it is not to be refused for want of it
+pub room-enough : (needed room : ℕ) → needed ≤ room → tooShort needed room ≡ none
+room-enough needed room h = ap (λ (b : Bool). cause b 15 needed) (le-ltb room needed h)
+
+pub enough-room : (needed room : ℕ) → tooShort needed room ≡ none → needed ≤ room
+enough-room needed room e = ltb-false room needed (cause-none (ltb room needed) 15 needed e)

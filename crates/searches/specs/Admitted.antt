@@ -1,6 +1,6 @@
 -- What is known of lent values that are not refused, but perhaps for want of room.
 use mathlib.Core.Path.{_≡_, refl, sym, ap, _∙_}
-use mathlib.Core.Bool.{Bool, true, false, not, _||_, true≢false}
+use mathlib.Core.Bool.{Bool, false, not, _||_}
 use mathlib.Core.List.{List, [], _∷_, _++_}
 use mathlib.Core.Option.{Option, none, some}
 use Prim.Native.Nat.{ℕ, _≤_, _<_}
@@ -11,8 +11,8 @@ use lib.ListN.{length}
 use borrow.Author.Tests.{eqb-true, not-false, ltb-false, le-ltb, eq-eqb, ne-eqb}
 use Rattle.formula.specs.Formula.{clauses, literals}
 use Rattle.refusal.specs.declared.Refusal.{Refusal}
-use Rattle.refusal.specs.Laws.{first-some, first-none, first-early, first-late, first-last, no-first, cause-none, causeAt-none}
-use Rattle.refusal.specs.Reply.{first, cause, causeAt}
+use Rattle.refusal.specs.Laws.{first-some, first-none, first-early, first-late, first-last, no-first, cause-none, causeAt-none, neither}
+use Rattle.refusal.specs.Reply.{first, cause, causeAt, tooShort}
 use Rattle.lent.specs.Laws.{in-range}
 use Rattle.lent.specs.Lent.{Lent, refusalOf, outOfRange, wrongLength, oversized}
 use Rattle.lent.specs.Limits.{maxVariables, maxLimit, maxWishVariables, maxWishClauses, maxWishLiterals}
@@ -35,14 +35,10 @@ pub record Admitted (n : ℕ) (rules : List ℤ) (row : List ℕ) (d : ℕ) : Ty
 abbrev pub lentWith : ℕ → List ℤ → List ℕ → ℕ → ℕ → ℕ → Lent
 lentWith n rules row d needed room = record { n = n; d = d; rules = rules; row = some row; choice = none; needed = needed; room = room }
 
-or-false : (a b : Bool) → a || b ≡ false → (a ≡ false) × (b ≡ false)
-or-false true b e = absurd (true≢false e)
-or-false false b e = (refl, e)
-
-oversized-not : (n k m : ℕ) → oversized n k m ≡ false → (n ≤ maxWishVariables) × (k ≤ maxWishClauses) × (m ≤ maxWishLiterals)
+pub oversized-not : (n k m : ℕ) → oversized n k m ≡ false → (n ≤ maxWishVariables) × (k ≤ maxWishClauses) × (m ≤ maxWishLiterals)
 oversized-not n k m e =
-    let one = or-false (ltb maxWishVariables n) (ltb maxWishClauses k || ltb maxWishLiterals m) e in
-    let two = or-false (ltb maxWishClauses k) (ltb maxWishLiterals m) (one .1) in
+    let one = neither (ltb maxWishVariables n) (ltb maxWishClauses k || ltb maxWishLiterals m) e in
+    let two = neither (ltb maxWishClauses k) (ltb maxWishLiterals m) (one .1) in
     (ltb-false maxWishVariables n (one .0), ltb-false maxWishClauses k (two .0), ltb-false maxWishLiterals m (two .1))
 
 module _ (n : ℕ) (rules : List ℤ) (row : List ℕ) (d needed room : ℕ) where
@@ -56,7 +52,7 @@ module _ (n : ℕ) (rules : List ℤ) (row : List ℕ) (d needed room : ℕ) whe
   large₁₂ = cause (oversized n (length (clauses rules)) (literals (clauses rules))) 12 0
 
   abbrev room₁₅ : Option Refusal
-  room₁₅ = cause (ltb room needed) 15 needed
+  room₁₅ = tooShort needed room
 
   in-two : refusalOf (lentWith n rules row d needed room) ≡ first (early ++ (none ∷ short₁₁ ∷ none ∷ large₁₂ ∷ room₁₅ ∷ []))
   in-two = refl

@@ -1,6 +1,6 @@
 -- "It too is written, and one meaning has one file." (document 01, "The wish file")
 use mathlib.Core.Path.{_≡_, refl, sym, ap, ap₂, _∙_}
-use mathlib.Core.Bool.{Bool, true, false, cond, _||_, true≢false}
+use mathlib.Core.Bool.{Bool, true, false, cond, _||_}
 use mathlib.Core.List.{List, [], _∷_, _++_}
 use mathlib.Core.Option.{Option, none, some, Option·getD, Option·some-ne-none}
 use Prim.Native.Nat.{ℕ, zero, suc, _+_, _*_, _≤_, _<_, zero-le}
@@ -12,7 +12,7 @@ use borrow.Author.Tests.{ne-eqb, le-ltb, lt-leb, eqb-false, ltb-false, leb-false
 use Rattle.distance.specs.Distance.{wishes}
 use Rattle.distance.specs.Laws.{weight-most}
 use Rattle.refusal.specs.declared.Refusal.{Refusal}
-use Rattle.refusal.specs.Laws.{first-last, cause-none, no-first}
+use Rattle.refusal.specs.Laws.{first-last, cause-none, no-first, neither}
 use Rattle.refusal.specs.Reply.{refusal, first, cause}
 use Rattle.lent.specs.Limits.{maxWishVariables, maxWishes, maxLimit}
 use Rattle.lent.specs.Sound.{badWish}
@@ -26,15 +26,11 @@ use Rattle.wish_file.specs.Wishes.{Wish, wishList, rowOf}
 pub fitting : (n last : ℕ) (w : Wish) → last < w .variable → w .variable ≤ n → w .mark < 2 → misfit n last w ≡ false
 fitting n last w h k l = rw (lt-leb (w .variable) last h, le-ltb n (w .variable) k, le-ltb 1 (w .mark) (omega arith))
 
-or-false : (a b : Bool) → a || b ≡ false → (a ≡ false) × (b ≡ false)
-or-false true b e = absurd (true≢false e)
-or-false false b e = (refl, e)
-
 pub fitted : (n last : ℕ) (w : Wish) → misfit n last w ≡ false → (last < w .variable) × (w .variable ≤ n) × (w .mark < 2)
 fitted n last w e =
     let v : ℕ = w .variable in
-    let rise = or-false (leb v last) (ltb n v || ltb 1 (w .mark)) e in
-    let rest = or-false (ltb n v) (ltb 1 (w .mark)) (rise .1) in
+    let rise = neither (leb v last) (ltb n v || ltb 1 (w .mark)) e in
+    let rest = neither (ltb n v) (ltb 1 (w .mark)) (rise .1) in
     (leb-false v last (rise .0), ltb-false n v (rest .0), omega (arith, ltb-false 1 (w .mark) (rest .1)))
 
 -- a written wish line
@@ -188,10 +184,10 @@ pub record Accepted (file : List ℕ) (n m d : ℕ) (row : List ℕ) : Type 0 wh
 
 ranges : (n m d : ℕ) → outside n m d ≡ false → (1 ≤ n) × (n ≤ maxWishVariables) × (m ≤ maxWishes) × (d ≤ maxLimit)
 ranges n m d e =
-    let p = or-false (eqb n 0) (ltb maxWishVariables n || (ltb n m || (ltb maxWishes m || ltb maxLimit d))) e in
-    let q = or-false (ltb maxWishVariables n) (ltb n m || (ltb maxWishes m || ltb maxLimit d)) (p .1) in
-    let r = or-false (ltb n m) (ltb maxWishes m || ltb maxLimit d) (q .1) in
-    let s = or-false (ltb maxWishes m) (ltb maxLimit d) (r .1) in
+    let p = neither (eqb n 0) (ltb maxWishVariables n || (ltb n m || (ltb maxWishes m || ltb maxLimit d))) e in
+    let q = neither (ltb maxWishVariables n) (ltb n m || (ltb maxWishes m || ltb maxLimit d)) (p .1) in
+    let r = neither (ltb n m) (ltb maxWishes m || ltb maxLimit d) (q .1) in
+    let s = neither (ltb maxWishes m) (ltb maxLimit d) (r .1) in
     (positive n (eqb-false n 0 (p .0)), ltb-false maxWishVariables n (q .0), ltb-false maxWishes m (s .0), ltb-false maxLimit d (s .1))
   where
     positive : (n : ℕ) → (n ≡ 0 → ⊥) → 1 ≤ n

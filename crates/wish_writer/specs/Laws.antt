@@ -13,7 +13,7 @@ use lib.Seq.{sets, sets-eq, drop-cons}
 use borrow.Author.Tests.{lt-ltb, le-ltb, ltb-false, eqb-true, not-false}
 use Rattle.distance.specs.Distance.{wishes}
 use Rattle.refusal.specs.declared.Refusal.{Refusal}
-use Rattle.refusal.specs.Laws.{cause-none, no-first}
+use Rattle.refusal.specs.Laws.{cause-none, no-first, enough-room}
 use Rattle.refusal.specs.Reply.{Reply, refusal, first, cause, causeAt, tooShort, refusing, answering}
 use Rattle.lent.specs.Laws.{in-range}
 use Rattle.lent.specs.Lent.{refusalOf, outOfRange, oversized}
@@ -182,7 +182,7 @@ writable n row d room e =
       most = ltb-false maxWishVariables n (few (ltb maxWishVariables n) (cause-none (oversized n 0 0) 12 0 (small .0)));
       size = eqb-true (length row) n (not-false (eqb (length row) n) (cause-none (not (eqb (length row) n)) 11 0 (same .0)));
       limit = in-range n d (cause-none (outOfRange n d) 14 0 (range .0)) .2;
-      space = ltb-false room (fileSize (wishes row)) (cause-none (ltb room (fileSize (wishes row))) 15 (fileSize (wishes row)) (last .0));
+      space = enough-room (fileSize (wishes row)) room (last .0);
     }
 
 -- the file in its two parts, and with what stays behind it
