@@ -1,12 +1,10 @@
 // The range of the numbers that a call takes.
+use crate::limits::MAX_LIMIT;
+use crate::limits::MAX_VARIABLES;
 use refusal::Verdict;
 ghost use mathlib.Core.Path.{_≡_};
 ghost use Rattle.refusal.specs.Reply.{refused, cause};
 ghost use Rattle.lent.specs.Lent.{outOfRange};
-
-const MAX_VARIABLES: usize = 640;
-
-const MAX_LIMIT: usize = 64;
 
 // Whether n is 1 to 640 and d at most 64.
 pub fn check_range(n: usize, d: usize) -> Verdict

@@ -1,9 +1,8 @@
 // The soundness of a wish row.
+use crate::limits::MAX_WISHES;
 ghost use mathlib.Core.Path.{_≡_};
 ghost use Rattle.lent.specs.Sound.{badWish};
 ghost use Rattle.lent.specs.Scans.{rowScan};
-
-const MAX_WISHES: usize = 64;
 
 // A row's first bad index, or how many wishes a sound row has.
 pub enum RowScan {

@@ -1,4 +1,6 @@
 // The soundness of a rule list.
+use crate::limits::MAX_CLAUSES;
+use crate::limits::MAX_LITERALS;
 use crate::stamps::is_stamped;
 use crate::stamps::no_stamps;
 use crate::stamps::stamp;
@@ -8,10 +10,6 @@ ghost use Prim.Native.Nat.{_+_, _≤_};
 ghost use Rattle.lent.specs.Limits.{maxVariables};
 ghost use Rattle.lent.specs.Sound.{unread, badRule};
 ghost use Rattle.lent.specs.Scans.{ruleScan};
-
-const MAX_CLAUSES: usize = 9000;
-
-const MAX_LITERALS: usize = 31000;
 
 // A list's first bad index, or what a sound list holds.
 pub enum RuleScan {

@@ -1,16 +1,13 @@
 // The length of a row or a choice, and the size of a problem with wishes.
+use crate::limits::MAX_WISH_CLAUSES;
+use crate::limits::MAX_WISH_LITERALS;
+use crate::limits::MAX_WISH_VARIABLES;
 use refusal::Verdict;
 ghost use mathlib.Core.Path.{_≡_};
 ghost use mathlib.Core.Bool.{not};
 ghost use lib.Dec.{eqb};
 ghost use Rattle.refusal.specs.Reply.{refused, cause};
 ghost use Rattle.lent.specs.Lent.{oversized};
-
-const MAX_WISH_VARIABLES: usize = 256;
-
-const MAX_WISH_CLAUSES: usize = 4096;
-
-const MAX_WISH_LITERALS: usize = 16384;
 
 // Whether a row or a choice has a byte for each of n variables.
 pub fn check_length(n: usize, given: usize) -> Verdict

@@ -3,6 +3,8 @@
 mod fill;
 mod tokens;
 
+use lent::MAX_CLAUSES;
+use lent::MAX_VARIABLES;
 use refusal::Refusal;
 use rule_header::Heading;
 use tokens::Check;
@@ -12,10 +14,6 @@ ghost use Rattle.lent.specs.Limits.{maxVariables, maxClauses};
 ghost use Rattle.dimacs.specs.Format.{reading, outside};
 ghost use Rattle.rule_reader.specs.Answers.{tokensRead};
 ghost use Rattle.rule_reader.specs.Read.{readReply, readOutput, replyOf};
-
-const MAX_VARIABLES: usize = 640;
-
-const MAX_CLAUSES: usize = 9000;
 
 // What a file holds: N, C and the length of its list.
 pub struct RuleCounts {

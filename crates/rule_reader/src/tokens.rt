@@ -1,4 +1,5 @@
 // The first pass over a rule file: whether its tokens are good, and how many there are.
+use lent::MAX_LITERALS;
 use literal::Clause;
 use literal::Variable;
 use refusal::Refusal;
@@ -13,8 +14,6 @@ ghost use Rattle.refusal.specs.Reply.{cause};
 ghost use Rattle.lent.specs.Sound.{unread};
 ghost use Rattle.dimacs.specs.Format.{tokensFrom, badTokens};
 ghost use Rattle.rule_reader.specs.Laws.{faultOf, checkAs};
-
-const MAX_LITERALS: usize = 31000;
 
 // Refused, or how many numbers the list has.
 pub enum Check {

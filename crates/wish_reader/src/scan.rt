@@ -1,4 +1,7 @@
 // The first cause to refuse a wish file, found before anything is written.
+use lent::MAX_LIMIT;
+use lent::MAX_WISH_VARIABLES;
+use lent::MAX_WISHES;
 use literal::Variable;
 use refusal::Refusal;
 use refusal::Verdict;
@@ -15,12 +18,6 @@ ghost use Rattle.wish_reader.specs.Read.{fileScan};
 const HEADER_COLUMNS: usize = 3;
 
 const WISH_COLUMNS: usize = 2;
-
-const MAX_WISH_VARIABLES: usize = 256;
-
-const MAX_WISHES: usize = 64;
-
-const MAX_LIMIT: usize = 64;
 
 // Refused, or the numbers of line one.
 pub enum FileScan {
