@@ -28,9 +28,9 @@ pub fn put_decimal(v: usize, out: &mut [u8], at: usize) -> usize
     let mut rest = v;
     while 10 <= rest {
         i -= 1;
-        out[i] = 48 + (rest % 10) as u8;
+        out[i] = b'0' + (rest % 10) as u8;
         rest = rest / 10;
     }
-    out[at] = 48 + (rest % 10) as u8;
+    out[at] = b'0' + (rest % 10) as u8;
     end
 }

@@ -7,7 +7,7 @@ ghost use lib.ListN.{length, drop};
 ghost use Rattle.dimacs.specs.Format.{pastComments, preamble, startsWith, before, header};
 ghost use Rattle.rule_header.specs.Heading.{headingAs};
 
-const PREAMBLE: [u8; 6] = [112, 32, 99, 110, 102, 32];
+const PREAMBLE: [u8; 6] = [b'p', b' ', b'c', b'n', b'f', b' '];
 
 // A header's two numbers and the place past it.
 pub enum Heading {
@@ -27,7 +27,7 @@ pub fn past_comments(file: &[u8]) -> usize
     let mut i = 0;
     while i < file.len() {
         if inside {
-            inside = file[i] != 10;
+            inside = file[i] != b'\n';
         } else {
             if dimacs::class_of(file[i]) != dimacs::LETTER_C {
                 return i;
@@ -80,9 +80,9 @@ pub fn heading_at(file: &[u8], at: usize) -> Heading
         return Heading::Malformed;
     }
     let n_from = at + 6;
-    let n_end = field_end(file, n_from, 32);
+    let n_end = field_end(file, n_from, b' ');
     let c_from = n_end + 1;
-    let c_end = field_end(file, c_from, 10);
+    let c_end = field_end(file, c_from, b'\n');
     if file.len() <= c_end {
         return Heading::Malformed;
     }

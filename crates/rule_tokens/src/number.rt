@@ -82,5 +82,5 @@ fn digit_value(b: u8) -> usize
     requires { ⌜ 48 ≤ b ⌝ }
     ensures { λ r. ⌜ r ≡ b - 48 ⌝ }
 {
-    (b - 48) as usize
+    (b - b'0') as usize
 }

@@ -25,7 +25,7 @@ fn put_number(v: usize, after: u8, out: &mut [u8], at: usize) -> usize
 fn separator_of(v: Variable) -> u8
     ensures { λ r. ⌜ r ≡ cond (eqb (v .0) 0) 10 32 ⌝ }
 {
-    if v.0 == 0 { 10 } else { 32 }
+    if v.0 == 0 { b'\n' } else { b' ' }
 }
 
 // Writes an element of the list and what follows it.
@@ -36,7 +36,7 @@ fn put_element(x: i32, out: &mut [u8], at: usize) -> usize
     let v = literal::variable_of(x);
     let after = separator_of(v);
     if literal::wanted_by(x) == 0 {
-        out[at] = 45;
+        out[at] = b'-';
         put_number(v.0, after, out, at + 1)
     } else {
         put_number(v.0, after, out, at)
@@ -62,12 +62,12 @@ fn put_preamble(out: &mut [u8])
     requires { ⌜ 6 ≤ length (now out) ⌝ }
     ensures { λ _. ⌜ now (out .exit) ≡ sets (now (out .entry)) 0 preamble ⌝ }
 {
-    out[0] = 112;
-    out[1] = 32;
-    out[2] = 99;
-    out[3] = 110;
-    out[4] = 102;
-    out[5] = 32;
+    out[0] = b'p';
+    out[1] = b' ';
+    out[2] = b'c';
+    out[3] = b'n';
+    out[4] = b'f';
+    out[5] = b' ';
 }
 
 // Writes the header and its line feed.
@@ -76,6 +76,6 @@ pub fn put_heading(n: usize, clauses: usize, out: &mut [u8]) -> usize
     ensures { λ r. ⌜ (r ≡ length (heading n clauses)) × (now (out .exit) ≡ sets (now (out .entry)) 0 (heading n clauses)) ⌝ }
 {
     put_preamble(out);
-    let at = put_number(n, 32, out, 6);
-    put_number(clauses, 10, out, at)
+    let at = put_number(n, b' ', out, 6);
+    put_number(clauses, b'\n', out, at)
 }
