@@ -3,11 +3,13 @@ use mathlib.Core.Path.{_≡_, refl}
 use mathlib.Core.List.{List, [], _∷_}
 use mathlib.Core.Option.{none, some}
 use Prim.Native.Nat.{ℕ}
+use native.Mathlib.Omega.{arith}
 use lib.IntN.{ℤ, pos}
 use lib.ListN.{replicate}
 use Rattle.decimal.specs.Decimal.{decimal, digits}
 use Rattle.dimacs.specs.Class.{classOf}
 use Rattle.searches.specs.Searches.{found}
+use Rattle.agreement.specs.Claim.{Admissible}
 use Rattle.agreement.specs.Routes.{firstRoute, Buffers, secondRoute, nearestRoute}
 
 abbrev rules : List ℤ
@@ -29,3 +31,7 @@ example-found = (refl, refl)
 
 example-nearest : nearestRoute 2 rules row (lent .choice) ≡ found (some 1)
 example-nearest = refl
+
+-- it is admitted, so the claim speaks of it
+example-admitted : Admissible 2 rules row
+example-admitted = record { d = 1; limited = omega arith; room = 25; passes = tt }

@@ -7,7 +7,7 @@ use native.Mathlib.Nat.{le-refl, lt-of-not-le}
 use native.Mathlib.Omega.{arith}
 use lib.IntN.{ℤ}
 use Rattle.formula.specs.Formula.{clauses}
-use Rattle.distance.specs.Distance.{disagreement, nearest}
+use Rattle.distance.specs.Distance.{wishes, disagreement, nearest}
 use Rattle.choices.specs.Choices as choices
 use Rattle.choices.specs.Choices.{Model, nearest-some, nearest-none}
 use Rattle.refusal.specs.Reply.{Reply}
@@ -73,16 +73,16 @@ module _ (n : ℕ) (rules : List ℤ) (row : List ℕ) (ok : (d : ℕ) → d ≤
     none-beyond : FindsNone n rules row d → Reached n rules row d → ⊥
     none-beyond f = no-decided (Reached n rules row d) (secondRoute n rules row d lent) (second-decides d h lent unrefused) (f lent unrefused)
 
-  -- no choice breaks more than 64 wishes
-  limited : (a : List ℕ) → disagreement row a ≤ maxLimit
-  limited a = omega (arith, disagreement-wishes row a, sound-wishes row (ok 0 (omega arith) .soundRow))
+  few : wishes row ≤ maxLimit
+  few = omega (arith, sound-wishes row (ok 0 (omega arith) .soundRow))
 
   nearest-first : (k : ℕ) → choices.Nearest n (clauses rules) row k → First n rules row k
   nearest-first k c =
       let (a, model, count) = c .attained in
-      let h : k ≤ maxLimit = omega (arith, limited a) in
+      let w : k ≤ wishes row = omega (arith, disagreement-wishes row a) in
+      let h : k ≤ maxLimit = omega (arith, few) in
       record {
-        limited = h;
+        limited = w;
         finds = within k h (a, model, omega arith);
         before = λ d l. beyond d (omega arith) (λ r. omega (arith, c .below (r .0) (r .1), r .2));
       }
@@ -91,19 +91,19 @@ module _ (n : ℕ) (rules : List ℤ) (row : List ℕ) (ok : (d : ℕ) → d ≤
   first-nearest k f = record { attained = (reached .0, reached .1, omega (arith, reached .2, below (reached .0) (reached .1))); below = below }
     where
       reached : Reached n rules row k
-      reached = finds-within k (f .limited) (f .finds)
+      reached = finds-within k (omega (arith, f .limited, few)) (f .finds)
 
       below : (a : List ℕ) → Model n (clauses rules) a → k ≤ disagreement row a
       below a m =
           let fewer : disagreement row a < k → ⊥ =
-          λ l. none-beyond (disagreement row a) (limited a) (f .before (disagreement row a) l) (a, m, le-refl (disagreement row a)) in
+          λ l. none-beyond (disagreement row a) (omega (arith, disagreement-wishes row a, few)) (f .before (disagreement row a) l) (a, m, le-refl (disagreement row a)) in
           omega (arith, lt-of-not-le fewer)
 
-  none-first : ((a : List ℕ) → Model n (clauses rules) a → ⊥) → (d : ℕ) → d ≤ maxLimit → FindsNone n rules row d
-  none-first g d h = beyond d h (λ r. g (r .0) (r .1))
+  none-first : ((a : List ℕ) → Model n (clauses rules) a → ⊥) → (d : ℕ) → d ≤ wishes row → FindsNone n rules row d
+  none-first g d h = beyond d (omega (arith, few)) (λ r. g (r .0) (r .1))
 
-  first-none : ((d : ℕ) → d ≤ maxLimit → FindsNone n rules row d) → (a : List ℕ) → Model n (clauses rules) a → ⊥
-  first-none g a m = none-beyond maxLimit (le-refl maxLimit) (g maxLimit (le-refl maxLimit)) (a, m, limited a)
+  first-none : ((d : ℕ) → d ≤ wishes row → FindsNone n rules row d) → (a : List ℕ) → Model n (clauses rules) a → ⊥
+  first-none g a m = none-beyond (wishes row) few (g (wishes row) (le-refl (wishes row))) (a, m, disagreement-wishes row a)
 
   pub nearest-is-first : (reply : Reply) → reply ≡ found (nearest n rules row) → Nearest n rules row reply
   nearest-is-first reply e =
