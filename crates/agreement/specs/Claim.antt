@@ -13,7 +13,7 @@ use Rattle.distance.specs.Distance.{wishes, disagreement}
 use Rattle.choices.specs.Choices.{Choice, Model}
 use Rattle.refusal.specs.Reply.{Reply}
 use Rattle.lent.specs.Limits.{maxLimit}
-use Rattle.totalizer.specs.Totalizer.{leaves, tree, rewrittenVariables, rewritten, Right}
+use Rattle.totalizer.specs.Totalizer.{leaves, tree, rewrittenVariables, rewritten, AllCount}
 use Rattle.searches.specs.Searches.{found}
 use Rattle.rewriting.specs.Rewrite.{rewriteReply}
 use Rattle.agreement.specs.Routes.{firstRoute, Buffers, secondRoute, nearestRoute, Answered, Passes}
@@ -48,7 +48,7 @@ module _ (n : ℕ) (rules : List ℤ) (row : List ℕ) where
     -- no other choice has one
     pub given : (a e : List ℕ) → Completing d a e → Model n (clauses rules) a × (disagreement row a ≤ d)
     -- "The one completion that meets every rewritten rule has r(k) of a group on exactly when at least k of that group's leaves hold."
-    pub counts : (a e : List ℕ) → Completing d a e → Right (holds e) n (tree (leaves row))
+    pub counts : (a e : List ℕ) → Completing d a e → AllCount (holds e) n (tree (leaves row))
     -- "where nothing was added it is the choice itself"
     pub alone : (a e : List ℕ) → Completion a e → rewrittenVariables n row ≡ n → e ≡ a
 

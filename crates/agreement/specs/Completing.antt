@@ -10,7 +10,7 @@ use Rattle.formula.specs.Formula.{clauses}
 use Rattle.distance.specs.Distance.{disagreement}
 use Rattle.choices.specs.Choices.{Choice, Model}
 use Rattle.totalizer.specs.Choice.{choice-take}
-use Rattle.totalizer.specs.Totalizer.{leaves, tree, rewrittenVariables, completion, Right}
+use Rattle.totalizer.specs.Totalizer.{leaves, tree, rewrittenVariables, completion, AllCount}
 use Rattle.totalizer.specs.Theorems as totalizer
 use Rattle.searches.specs.Admitted.{Admitted}
 use Rattle.agreement.specs.Claim.{Completing, Completions}
@@ -31,10 +31,10 @@ module _ (n : ℕ) (rules : List ℤ) (row : List ℕ) (d : ℕ) (ok : Admitted 
         meets = totalizer.within-found n rules row d a (ok .soundRules) (ok .long) (m .choice) (m .satisfies) near;
       }
 
-  counts : (a e : List ℕ) → Completing n rules row d a e → Right (holds e) n (tree (leaves row))
+  counts : (a e : List ℕ) → Completing n rules row d a e → AllCount (holds e) n (tree (leaves row))
   counts a e c =
       let (model, near, same) = says a e c in
-      subst (λ (l : List ℕ). Right (holds l) n (tree (leaves row))) (sym same) (totalizer.completion-counts n row a (ok .long) (model .choice))
+      subst (λ (l : List ℕ). AllCount (holds l) n (tree (leaves row))) (sym same) (totalizer.completion-counts n row a (ok .long) (model .choice))
 
   pub all-completions : Completions n rules row d
   all-completions =

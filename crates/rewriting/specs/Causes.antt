@@ -28,7 +28,7 @@ use Rattle.rewriting.specs.Rewrite.{lentToRewrite, rewriteReply, rewrite
 use Rattle.rewriting.specs.declared.Rewritten.{Rewritten}
 
 -- What holds of lent values for which there is no cause to refuse.
-pub record Admitted (n : ℕ) (rules : List ℤ) (row : List ℕ) (d : ℕ) (out : List ℤ) : Type 0 where
+pub record Writable (n : ℕ) (rules : List ℤ) (row : List ℕ) (d : ℕ) (out : List ℤ) : Type 0 where
   pub small : n ≤ maxWishVariables
   pub long : length row ≡ n
   pub few : length (leaves row) ≤ maxWishes
@@ -98,7 +98,7 @@ module _ (n : ℕ) (rules : List ℤ) (row : List ℕ) (d : ℕ) (out : List ℤ
           → (replyOf r ≡ rewriteReply n rules row d (length out)) × (result ≡ rewriteOutput n rules row d out)
       answered r result a b = answers (replyOf r) result none (all ∙ ap refused f) (ap replyOf a, b)
 
-      pub admitted : Admitted n rules row d out
-      admitted =
+      pub writable : Writable n rules row d out
+      writable =
           let (long, small, room) = later-none n (length row) k m h (length out) (sym e ∙ ap refused f) in
           record { small = small; long = long; few = few-leaves s; room = omega (arith, room, hs) }

@@ -18,7 +18,7 @@ use Rattle.totalizer.specs.Rows.{leaves-length, leaves-within}
 use Rattle.totalizer.specs.Sizes.{added-most}
 use Rattle.groups.specs.Groups.{Within}
 use Rattle.rewriting.specs.Rewrite.{done}
-use Rattle.rewriting.specs.Causes.{Admitted}
+use Rattle.rewriting.specs.Causes.{Writable}
 
 -- literals of the variables 1 to n are within the limit, if n is
 within : (n : ℕ) (l : List ℤ) → n ≤ maxVariables → trees.Within n l → Within l
@@ -32,7 +32,7 @@ pub counted : (n : ℕ) (rules : List ℤ) (row : List ℕ) (d m r : ℕ) → m 
 counted n rules row d m r e f =
     omega (arith, f n (leaves row) (leaves-length row ∙ sym e), length-append rules (flat (atMost n (leaves row) d)))
 
-module _ (n : ℕ) (rules : List ℤ) (row : List ℕ) (d : ℕ) (out : List ℤ) (ok : Admitted n rules row d out) where
+module _ (n : ℕ) (rules : List ℤ) (row : List ℕ) (d : ℕ) (out : List ℤ) (ok : Writable n rules row d out) where
   abbrev own : List ℤ → List ℤ
   own l = flat (atMost n l d)
 

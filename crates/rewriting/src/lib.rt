@@ -10,7 +10,7 @@ ghost use mathlib.Core.Path.{_≡_};
 ghost use lib.ListN.{length};
 ghost use Rattle.refusal.specs.Reply.{filled};
 ghost use Rattle.totalizer.specs.Totalizer.{rewrittenVariables, rewritten};
-ghost use Rattle.rewriting.specs.Causes.{Admitted};
+ghost use Rattle.rewriting.specs.Causes.{Writable};
 ghost use Rattle.rewriting.specs.Rewrite.{rewriteReply, rewriteOutput, replyOf, done};
 
 // Refused, or the number of variables and the length of the rewritten list.
@@ -48,7 +48,7 @@ pub fn rewrite(n: usize, rules: &[i32], row: &[u8], d: usize, out: &mut [i32]) -
 
 // Writes the rewritten list where it has room.
 fn write(n: usize, rules: &[i32], row: &[u8], d: usize, out: &mut [i32]) -> Rewritten
-    requires { ⌜ Admitted n (now rules) (now row) d (now out) ⌝ }
+    requires { ⌜ Writable n (now rules) (now row) d (now out) ⌝ }
     ensures reply { λ r. ⌜ r ≡ done (rewrittenVariables n (now (row .entry))) (length (rewritten n (now (rules .entry)) (now (row .entry)) d)) ⌝ }
     ensures output { λ r. ⌜ now (out .exit) ≡ filled none (rewritten n (now (rules .entry)) (now (row .entry)) d) (now (out .entry)) ⌝ }
 {

@@ -13,7 +13,7 @@ use Rattle.formula.specs.Formula.{all}
 use Rattle.soundness.specs.Laws.{and-both, all-append}
 use Rattle.choices.specs.Choices.{Choice}
 use Rattle.totalizer.specs.Choice.{binary, choice-of}
-use Rattle.totalizer.specs.Totalizer.{Tree, leaf, node, tree, size, added, leaves, rewrittenVariables, count, tally, counters, completion, Over}
+use Rattle.totalizer.specs.Totalizer.{Tree, leaf, node, tree, size, added, leaves, rewrittenVariables, count, unary, counters, completion, Over}
 use Rattle.totalizer.specs.Trees.{held, Within, tree-over}
 use Rattle.totalizer.specs.Counters.{segment, length-counters}
 use Rattle.totalizer.specs.Choice.{holds-take}
@@ -33,19 +33,19 @@ module _ (n : ℕ) (g h : ℤ → Bool) (same : (x : ℤ) → variable x ≤ n �
   counters-over (node s t) o =
       ap₂ _++_
       (ap₂ _++_ (counters-over s (o .0)) (counters-over t (o .1)))
-      (ap (tally (size s + size t)) (ap₂ _+_ (count-same s (o .0)) (count-same t (o .1))))
+      (ap (unary (size s + size t)) (ap₂ _+_ (count-same s (o .0)) (count-same t (o .1))))
 
   pub counters-same : (l : List ℤ) → Within n l → counters g (tree l) ≡ counters h (tree l)
   counters-same [] w = refl
   counters-same (x ∷ l) w = counters-over (tree (x ∷ l)) (tree-over n (x ∷ l) (omega arith) w)
 
 -- every counter is 0 or 1
-tally-binary : (m c : ℕ) → all (λ (b : ℕ). ltb b 2) (tally m c) ≡ true
-tally-binary zero c = refl
-tally-binary (suc m) c =
+unary-binary : (m c : ℕ) → all (λ (b : ℕ). ltb b 2) (unary m c) ≡ true
+unary-binary zero c = refl
+unary-binary (suc m) c =
     let last : List ℕ = cond (ltb m c) 1 0 ∷ [] in
-    all-append (λ (b : ℕ). ltb b 2) (tally m c) last
-    ∙ and-both (all (λ (b : ℕ). ltb b 2) (tally m c)) (all (λ (b : ℕ). ltb b 2) last) (tally-binary m c) (one (ltb m c))
+    all-append (λ (b : ℕ). ltb b 2) (unary m c) last
+    ∙ and-both (all (λ (b : ℕ). ltb b 2) (unary m c)) (all (λ (b : ℕ). ltb b 2) last) (unary-binary m c) (one (ltb m c))
   where
     one : (b : Bool) → ltb (cond b 1 0) 2 && true ≡ true
     one true = refl
@@ -54,13 +54,13 @@ tally-binary (suc m) c =
 counters-binary : (h : ℤ → Bool) (t : Tree) → all (λ (b : ℕ). ltb b 2) (counters h t) ≡ true
 counters-binary h (leaf x) = refl
 counters-binary h (node s t) =
-    let own : List ℕ = tally (size s + size t) (count h s + count h t) in
+    let own : List ℕ = unary (size s + size t) (count h s + count h t) in
     let binary : List ℕ → Bool = all (λ (b : ℕ). ltb b 2) in
     all-append (λ (b : ℕ). ltb b 2) (counters h s ++ counters h t) own
     ∙ and-both (binary (counters h s ++ counters h t)) (binary own)
     (all-append (λ (b : ℕ). ltb b 2) (counters h s) (counters h t)
     ∙ and-both (binary (counters h s)) (binary (counters h t)) (counters-binary h s) (counters-binary h t))
-    (tally-binary (size s + size t) (count h s + count h t))
+    (unary-binary (size s + size t) (count h s + count h t))
 
 -- so the completion of a choice is a choice
 pub completion-choice : (n : ℕ) (row a : List ℕ) → Choice n a → Choice (rewrittenVariables n row) (completion row a)

@@ -14,39 +14,39 @@ use Rattle.literal.specs.Literal.{value, holds}
 use Rattle.formula.specs.Formula.{satisfied, models}
 use Rattle.soundness.specs.Laws.{and-left, and-right, and-both, all-append}
 use Rattle.choices.specs.Choices.{Choice}
-use Rattle.totalizer.specs.Totalizer.{Tree, leaf, node, tree, size, added, output, totalizer, limit, atMost, count, tally, counters, Over, Counts, Right}
+use Rattle.totalizer.specs.Totalizer.{Tree, leaf, node, tree, size, added, output, totalizer, limit, atMost, count, unary, counters, Over, Counts, AllCount}
 use Rattle.totalizer.specs.Meaning.{count-most, right-counts, signed, totalizer-right, right-totalizer}
 use Rattle.totalizer.specs.Trees.{held, Within, tree-size, tree-count, tree-over}
 use Rattle.totalizer.specs.Choice.{choice-value, choice-opposite}
 
-pub length-tally : (m c : ℕ) → length (tally m c) ≡ m
-length-tally zero c = refl
-length-tally (suc m) c = omega (arith, length-append (tally m c) (cond (ltb m c) 1 0 ∷ []), length-tally m c)
+pub length-unary : (m c : ℕ) → length (unary m c) ≡ m
+length-unary zero c = refl
+length-unary (suc m) c = omega (arith, length-append (unary m c) (cond (ltb m c) 1 0 ∷ []), length-unary m c)
 
--- byte k of a tally of c is on exactly when k < c
-pub getD-tally : (m c k d : ℕ) → k < m → getD (tally m c) k d ≡ cond (ltb k c) 1 0
-getD-tally zero c k d h = absurd (not-suc-le-zero h)
-getD-tally (suc m) c k d h = go (eqb k m) refl (getD-tally m c k d)
+-- byte k of c in unary is on exactly when k < c
+pub getD-unary : (m c k d : ℕ) → k < m → getD (unary m c) k d ≡ cond (ltb k c) 1 0
+getD-unary zero c k d h = absurd (not-suc-le-zero h)
+getD-unary (suc m) c k d h = go (eqb k m) refl (getD-unary m c k d)
   where
     less : (k ≡ m → ⊥) → k < m
     less ne = omega arith
 
-    go : (b : Bool) → eqb k m ≡ b → (k < m → getD (tally m c) k d ≡ cond (ltb k c) 1 0) → getD (tally m c ++ cond (ltb m c) 1 0 ∷ []) k d ≡ cond (ltb k c) 1 0
+    go : (b : Bool) → eqb k m ≡ b → (k < m → getD (unary m c) k d ≡ cond (ltb k c) 1 0) → getD (unary m c ++ cond (ltb m c) 1 0 ∷ []) k d ≡ cond (ltb k c) 1 0
     go true e ih =
         let q : k ≡ m = eqb-true k m e in
-        getD-at (tally m c) (cond (ltb m c) 1 0) [] d k (length-tally m c ∙ sym q) ∙ ap (λ (j : ℕ). cond (ltb j c) 1 0) (sym q)
+        getD-at (unary m c) (cond (ltb m c) 1 0) [] d k (length-unary m c ∙ sym q) ∙ ap (λ (j : ℕ). cond (ltb j c) 1 0) (sym q)
     go false e ih =
         let l : k < m = less (eqb-false k m e) in
-        List·getD-append (tally m c) (cond (ltb m c) 1 0 ∷ []) d k (omega (arith, length-tally m c)) ∙ ih l
+        List·getD-append (unary m c) (cond (ltb m c) 1 0 ∷ []) d k (omega (arith, length-unary m c)) ∙ ih l
 
 pub length-counters : (h : ℤ → Bool) (t : Tree) → length (counters h t) ≡ added t
 length-counters h (leaf x) = refl
 length-counters h (node s t) =
     omega (
       arith,
-      length-append (counters h s ++ counters h t) (tally (size s + size t) (count h s + count h t)),
+      length-append (counters h s ++ counters h t) (unary (size s + size t) (count h s + count h t)),
       length-append (counters h s) (counters h t),
-      length-tally (size s + size t) (count h s + count h t),
+      length-unary (size s + size t) (count h s + count h t),
       length-counters h s,
       length-counters h t,
     )
@@ -86,19 +86,19 @@ module _ (N : ℕ) (e : List ℕ) (ch : Choice N e) where
   at : (n k : ℕ) → value e (n + suc k) ≡ getD e (n + k) 2
   at n k = ap (value e) (add-suc n k)
 
-  counts-tally : (n m c : ℕ) → n + m ≤ N → Counts (holds e) (λ (k : ℕ). pos (n + k)) m c → segment e n m ≡ tally m c
-  counts-tally n m c h r =
-      ext-getD 2 (segment e n m) (tally m c) (omega (arith, length-segment e n m (omega (arith, ch .size)), length-tally m c))
+  counts-unary : (n m c : ℕ) → n + m ≤ N → Counts (holds e) (λ (k : ℕ). pos (n + k)) m c → segment e n m ≡ unary m c
+  counts-unary n m c h r =
+      ext-getD 2 (segment e n m) (unary m c) (omega (arith, length-segment e n m (omega (arith, ch .size)), length-unary m c))
       (λ (k : ℕ) (l : k < length (segment e n m)).
       let hk : k < m = omega (arith, length-segment e n m (omega (arith, ch .size))) in
       getD-segment e n m k hk
       ∙ sym (at n k)
       ∙ bit-byte (value e (n + suc k)) (ltb k c) (choice-value N e ch (n + suc k) (omega arith) (omega arith)) (r k hk)
-      ∙ sym (getD-tally m c k 2 hk))
+      ∙ sym (getD-unary m c k 2 hk))
 
-  tally-counts : (n m c : ℕ) → segment e n m ≡ tally m c → Counts (holds e) (λ (k : ℕ). pos (n + k)) m c
-  tally-counts n m c q k h =
-      ap (λ (w : ℕ). eqb w 1) (at n k ∙ sym (getD-segment e n m k h) ∙ ap (λ (l : List ℕ). getD l k 2) q ∙ getD-tally m c k 2 h) ∙ byte-bit (ltb k c)
+  unary-counts : (n m c : ℕ) → segment e n m ≡ unary m c → Counts (holds e) (λ (k : ℕ). pos (n + k)) m c
+  unary-counts n m c q k h =
+      ap (λ (w : ℕ). eqb w 1) (at n k ∙ sym (getD-segment e n m k h) ∙ ap (λ (l : List ℕ). getD l k 2) q ∙ getD-unary m c k 2 h) ∙ byte-bit (ltb k c)
 
   -- the bytes of a group are those of its parts and its own
   segment-node : (n : ℕ) (s t : Tree)
@@ -108,18 +108,18 @@ module _ (N : ℕ) (e : List ℕ) (ch : Choice N e) where
       ∙ ap (λ (l : List ℕ). l ++ segment e (n + (added s + added t)) (size s + size t)) (segment-add e n (added s) (added t))
 
   -- they are right exactly when they are the counters
-  pub right-segment : (n : ℕ) (t : Tree) → n + added t ≤ N → Right (holds e) n t → segment e n (added t) ≡ counters (holds e) t
+  pub right-segment : (n : ℕ) (t : Tree) → n + added t ≤ N → AllCount (holds e) n t → segment e n (added t) ≡ counters (holds e) t
   right-segment n (leaf x) h r = refl
   right-segment n (node s t) h r =
       segment-node n s t
       ∙ ap₂ _++_
       (ap₂ _++_ (right-segment n s (omega arith) (r .0)) (right-segment (n + added s) t (omega arith) (r .1)))
-      (counts-tally (n + (added s + added t)) (size s + size t) (count (holds e) s + count (holds e) t) (omega arith) (r .2))
+      (counts-unary (n + (added s + added t)) (size s + size t) (count (holds e) s + count (holds e) t) (omega arith) (r .2))
 
-  pub segment-right : (n : ℕ) (t : Tree) → n + added t ≤ N → segment e n (added t) ≡ counters (holds e) t → Right (holds e) n t
+  pub segment-right : (n : ℕ) (t : Tree) → n + added t ≤ N → segment e n (added t) ≡ counters (holds e) t → AllCount (holds e) n t
   segment-right n (leaf x) h q = tt
   segment-right n (node s t) h q =
-      let own : List ℕ = tally (size s + size t) (count (holds e) s + count (holds e) t) in
+      let own : List ℕ = unary (size s + size t) (count (holds e) s + count (holds e) t) in
       let ls : length (segment e n (added s)) ≡ added s = length-segment e n (added s) (omega (arith, ch .size)) in
       let lt : length (segment e (n + added s) (added t)) ≡ added t = length-segment e (n + added s) (added t) (omega (arith, ch .size)) in
       let whole : (segment e n (added s) ++ segment e (n + added s) (added t) ≡ counters (holds e) s ++ counters (holds e) t)
@@ -139,11 +139,11 @@ module _ (N : ℕ) (e : List ℕ) (ch : Choice N e) where
       (ls ∙ sym (length-counters (holds e) s)) (whole .0) in (
         segment-right n s (omega arith) (two .0),
         segment-right (n + added s) t (omega arith) (two .1),
-        tally-counts (n + (added s + added t)) (size s + size t) (count (holds e) s + count (holds e) t) (whole .1),
+        unary-counts (n + (added s + added t)) (size s + size t) (count (holds e) s + count (holds e) t) (whole .1),
       )
 
   -- the limit clause of a group that is right: at most d of its leaves hold
-  pub limit-says : (n : ℕ) (l : List ℤ) (d : ℕ) → 0 < length l → Over n (tree l) → n + added (tree l) ≤ N → Right (holds e) n (tree l)
+  pub limit-says : (n : ℕ) (l : List ℤ) (d : ℕ) → 0 < length l → Over n (tree l) → n + added (tree l) ≤ N → AllCount (holds e) n (tree l)
       → (models e (limit n l d) ≡ true → held (holds e) l ≤ d) × (held (holds e) l ≤ d → models e (limit n l d) ≡ true)
   limit-says n l d z o h r = go (ltb d (length l)) refl
     where
@@ -174,7 +174,7 @@ module _ (N : ℕ) (e : List ℕ) (ch : Choice N e) where
   atMost-says n (x ∷ l) d w h m =
       let u : models e (totalizer n (tree (x ∷ l))) && models e (limit n (x ∷ l) d) ≡ true = sym (all-append (satisfied e) (totalizer n (tree (x ∷ l))) (limit n (x ∷ l) d)) ∙ m in
       let o : Over n (tree (x ∷ l)) = tree-over n (x ∷ l) (omega arith) w in
-      let r : Right (holds e) n (tree (x ∷ l)) =
+      let r : AllCount (holds e) n (tree (x ∷ l)) =
       totalizer-right (holds e) N (choice-opposite N e ch) n (tree (x ∷ l)) h o (and-left (models e (totalizer n (tree (x ∷ l)))) (models e (limit n (x ∷ l) d)) u) in (
         limit-says n (x ∷ l) d (omega arith) o h r .0 (and-right (models e (totalizer n (tree (x ∷ l)))) (models e (limit n (x ∷ l) d)) u),
         right-segment n (tree (x ∷ l)) h r,
@@ -185,7 +185,7 @@ module _ (N : ℕ) (e : List ℕ) (ch : Choice N e) where
   atMost-met n [] d w h m q = rw (le-ltb d 0 (omega arith))
   atMost-met n (x ∷ l) d w h m q =
       let o : Over n (tree (x ∷ l)) = tree-over n (x ∷ l) (omega arith) w in
-      let r : Right (holds e) n (tree (x ∷ l)) = segment-right n (tree (x ∷ l)) h q in
+      let r : AllCount (holds e) n (tree (x ∷ l)) = segment-right n (tree (x ∷ l)) h q in
       all-append (satisfied e) (totalizer n (tree (x ∷ l))) (limit n (x ∷ l) d)
       ∙ and-both (models e (totalizer n (tree (x ∷ l)))) (models e (limit n (x ∷ l) d))
       (right-totalizer (holds e) N (choice-opposite N e ch) n (tree (x ∷ l)) h o r)

@@ -11,7 +11,7 @@ use borrow.Author.Tests.{ltb-true, ltb-false, lt-ltb, le-ltb, eqb-true, eqb-fals
 use Rattle.literal.specs.Literal.{variable}
 use Rattle.formula.specs.Formula.{any, all}
 use Rattle.soundness.specs.Laws.{and-left, and-right, and-both, all-append}
-use Rattle.totalizer.specs.Totalizer.{Tree, leaf, node, size, added, output, lower, upper, up, down, below, adder, totalizer, on, count, Over, Counts, Right}
+use Rattle.totalizer.specs.Totalizer.{Tree, leaf, node, size, added, output, lower, upper, up, down, below, adder, totalizer, on, count, Over, Counts, AllCount}
 
 -- An assignment h says of every literal whether it holds. Here opposite literals of the variables 1 to n have opposite truth.
 abbrev pub Opposite : (ℤ → Bool) → ℕ → Type 0
@@ -230,7 +230,7 @@ count-most h (leaf x) = one (h x)
 count-most h (node s t) = omega (arith, count-most h s, count-most h t)
 
 -- the outputs of a group that is right count its leaves
-pub right-counts : (h : ℤ → Bool) (n : ℕ) (t : Tree) → Right h n t → Counts h (output n t) (size t) (count h t)
+pub right-counts : (h : ℤ → Bool) (n : ℕ) (t : Tree) → AllCount h n t → Counts h (output n t) (size t) (count h t)
 right-counts h n (leaf x) r zero l = one (h x)
   where
     one : (b : Bool) → b ≡ ltb 0 (cond b 1 0)
@@ -266,7 +266,7 @@ parts p n s t =
 
 -- The clauses of a group hold exactly when every output of every group in it is right, whatever the leaves, repeated or not, and whatever n.
 module _ (h : ℤ → Bool) (m : ℕ) (u : Opposite h m) where
-  pub totalizer-right : (n : ℕ) (t : Tree) → n + added t ≤ m → Over n t → all (any h) (totalizer n t) ≡ true → Right h n t
+  pub totalizer-right : (n : ℕ) (t : Tree) → n + added t ≤ m → Over n t → all (any h) (totalizer n t) ≡ true → AllCount h n t
   totalizer-right n (leaf x) l o e = tt
   totalizer-right n (node s t) l o e =
       let own : Bool = all (any h) (adder (output n s) (size s) (output (n + added s) t) (size t) (output n (node s t))) in
@@ -275,8 +275,8 @@ module _ (h : ℤ → Bool) (m : ℕ) (u : Opposite h m) where
       let f : left && right && own ≡ true = sym (parts (any h) n s t) ∙ e in
       let g : left && right ≡ true = and-left (left && right) own f in
       let ot : Over (n + added s) t = over-more n (n + added s) t (omega arith) (o .1) in
-      let rs : Right h n s = totalizer-right n s (omega arith) (o .0) (and-left left right g) in
-      let rt : Right h (n + added s) t = totalizer-right (n + added s) t (omega arith) ot (and-right left right g) in (
+      let rs : AllCount h n s = totalizer-right n s (omega arith) (o .0) (and-left left right g) in
+      let rt : AllCount h (n + added s) t = totalizer-right (n + added s) t (omega arith) ot (and-right left right g) in (
         rs,
         rt,
         adder-counts h (output n s) (output (n + added s) t) (output n (node s t)) (size s) (size t) (count h s) (count h t) (count-most h s) (count-most h t)
@@ -288,7 +288,7 @@ module _ (h : ℤ → Bool) (m : ℕ) (u : Opposite h m) where
             (and-right (left && right) own f),
       )
 
-  pub right-totalizer : (n : ℕ) (t : Tree) → n + added t ≤ m → Over n t → Right h n t → all (any h) (totalizer n t) ≡ true
+  pub right-totalizer : (n : ℕ) (t : Tree) → n + added t ≤ m → Over n t → AllCount h n t → all (any h) (totalizer n t) ≡ true
   right-totalizer n (leaf x) l o r = refl
   right-totalizer n (node s t) l o r =
       let own : Bool = all (any h) (adder (output n s) (size s) (output (n + added s) t) (size t) (output n (node s t))) in

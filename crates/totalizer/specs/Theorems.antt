@@ -17,7 +17,7 @@ use Rattle.soundness.specs.Flat.{joining, wellFormed}
 use Rattle.soundness.specs.Laws.{and-both, all-append, literals-append, wellFormed-more}
 use Rattle.soundness.specs.Soundness.{sound, flat-sound, behind}
 use Rattle.choices.specs.Choices.{Choice}
-use Rattle.totalizer.specs.Totalizer.{Tree, on, leaves, tree, added, totalizer, atMost, rewrittenVariables, rewritten, completion, Over, Right}
+use Rattle.totalizer.specs.Totalizer.{Tree, on, leaves, tree, added, totalizer, atMost, rewrittenVariables, rewritten, completion, Over, AllCount}
 use Rattle.totalizer.specs.Meaning.{on-opposite, totalizer-right, right-totalizer}
 use Rattle.totalizer.specs.Rows.{leaves-length, sound-wishes}
 use Rattle.totalizer.specs.Choice.{choice-take}
@@ -27,7 +27,7 @@ use Rattle.totalizer.specs.Sizes.{added-most, added-64, added-3, added-1
 use Rattle.totalizer.specs.Rewritten.{row-within, row-formed, rewritten-clauses, rewritten-says, rewritten-met}
 
 -- Of any assignment of the variables, the clauses of a group hold exactly when every output of every group in it is right. The leaves may be any literals of the variables 1 to n, repeated or not.
-pub meaning : (σ : ℕ → Bool) (n : ℕ) (t : Tree) → Over n t → (all (any (on σ)) (totalizer n t) ≡ true) ↔ Right (on σ) n t
+pub meaning : (σ : ℕ → Bool) (n : ℕ) (t : Tree) → Over n t → (all (any (on σ)) (totalizer n t) ≡ true) ↔ AllCount (on σ) n t
 meaning σ n t o = (
   totalizer-right (on σ) (n + added t) (on-opposite σ (n + added t)) n t (omega arith) o,
   right-totalizer (on σ) (n + added t) (on-opposite σ (n + added t)) n t (omega arith) o,
@@ -38,7 +38,7 @@ pub completion-completes : (n : ℕ) (row a : List ℕ) → Choice n a → Choic
 completion-completes n row a c = (completion-choice n row a c, completion-take n row a c)
 
 -- It "has r(k) of a group on exactly when at least k of that group's leaves hold".
-pub completion-counts : (n : ℕ) (row a : List ℕ) → length row ≡ n → Choice n a → Right (holds (completion row a)) n (tree (leaves row))
+pub completion-counts : (n : ℕ) (row a : List ℕ) → length row ≡ n → Choice n a → AllCount (holds (completion row a)) n (tree (leaves row))
 completion-counts n row a long c =
     let e : List ℕ = completion row a in
     let ch : Choice (rewrittenVariables n row) e = completion-choice n row a c in

@@ -115,15 +115,15 @@ abbrev pub count : (ℤ → Bool) → Tree → ℕ
 count h (leaf x) = cond (h x) 1 0
 count h (node s t) = count h s + count h t
 
--- m bytes, the first c of them 1 and the others 0
-abbrev pub tally : ℕ → ℕ → List ℕ
-tally zero c = []
-tally (suc m) c = tally m c ++ cond (ltb m c) 1 0 ∷ []
+-- the number c in unary: m bytes, the first c of them 1 and the others 0
+abbrev pub unary : ℕ → ℕ → List ℕ
+unary zero c = []
+unary (suc m) c = unary m c ++ cond (ltb m c) 1 0 ∷ []
 
 -- the added counters by rising variable, those of a group showing how many of its leaves hold
 abbrev pub counters : (ℤ → Bool) → Tree → List ℕ
 counters h (leaf x) = []
-counters h (node s t) = counters h s ++ counters h t ++ tally (size s + size t) (count h s + count h t)
+counters h (node s t) = counters h s ++ counters h t ++ unary (size s + size t) (count h s + count h t)
 
 -- "The one completion that meets every rewritten rule": the choice, and then the added counters
 abbrev pub completion : List ℕ → List ℕ → List ℕ
@@ -134,9 +134,9 @@ abbrev pub Counts : (ℤ → Bool) → (ℕ → ℤ) → ℕ → ℕ → Type 0
 Counts h a m c = (k : ℕ) → k < m → h (a (suc k)) ≡ ltb k c
 
 -- every group in a group, and itself, counts its leaves that hold
-abbrev pub Right : (ℤ → Bool) → ℕ → Tree → Type 0
-Right h n (leaf x) = Unit {0}
-Right h n (node s t) = Right h n s × Right h (n + added s) t × Counts h (output n (node s t)) (size s + size t) (count h s + count h t)
+abbrev pub AllCount : (ℤ → Bool) → ℕ → Tree → Type 0
+AllCount h n (leaf x) = Unit {0}
+AllCount h n (node s t) = AllCount h n s × AllCount h (n + added s) t × Counts h (output n (node s t)) (size s + size t) (count h s + count h t)
 
 -- every leaf is a literal of the variables 1 to n
 abbrev pub Over : ℕ → Tree → Type 0

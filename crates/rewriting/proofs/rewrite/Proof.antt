@@ -4,7 +4,7 @@ use Prim.Native.Nat.{_+_}
 use lib.ListN.{length}
 use borrow.Author.Needs.{needs}
 use Rattle.totalizer.specs.Totalizer.{rewritten}
-use Rattle.rewriting.specs.Causes.{Scanned, scanned, few-wishes, refused-early, refused-late, answered, admitted}
+use Rattle.rewriting.specs.Causes.{Scanned, scanned, few-wishes, refused-early, refused-late, answered, writable}
 use Rattle.rewriting.specs.Writing.{counted}
 use Rattle.rewriting.proofs.rewrite.Statement.{statement}
 use Rattle.rewriting.proofs.rewrite.Tie as tie
@@ -51,7 +51,7 @@ enum-told c = search needs
 write-requires : tie.Need-write-requires
 write-requires c κs =
     let args = c .before .before .before .before .before .before .before .before .before .before .args in
-    admitted (args .n) (args .rules .now) (args .row .now) (args .d) (args .out .now) (sound (c .before .before .before .before .before)) (length (args .rules .now) + c .before .before .before .before .length-of .result) (needed (c .before .before .before .before)) (c .before .before .before .check-rest .result) (c .before .before .before .check-rest .ensures) (c .before .enum-told .given .1)
+    writable (args .n) (args .rules .now) (args .row .now) (args .d) (args .out .now) (sound (c .before .before .before .before .before)) (length (args .rules .now) + c .before .before .before .before .length-of .result) (needed (c .before .before .before .before)) (c .before .before .before .check-rest .result) (c .before .before .before .check-rest .ensures) (c .before .enum-told .given .1)
 
 returns : tie.Need-returns
 returns c =
