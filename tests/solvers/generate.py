@@ -10,7 +10,7 @@ EVERY, FEW = 65, 4
 
 
 class Shelf:
-    """The books of a kind, named by it and numbered."""
+    """The books of a kind, named by it and numbered. The kind is also the seed."""
 
     def __init__(self, kind):
         self.kind, self.draw, self.books = kind, Draw(kind), []
@@ -24,13 +24,11 @@ class Shelf:
         self.books.append(books.Book(name, limits, file, books.wish_file(n, wishes, limit)))
 
     def loose(self, name, file):
-        """A file with comments, and with other blanks after its header."""
-        header, *tokens = file.split(b'\n', 1)
-        tokens = tokens[0].split()
+        """The same file with comments, and with other blanks after its header."""
+        header, body = file.split(b'\n', 1)
         blanks = b' ', b'  ', b'\t', b'\n', b'\r\n', b' \n'
-        return b'c %s\nc\n' % name.encode('ascii') + header + b'\n' + b''.join(
-            token + self.draw.choice(blanks) for token in tokens
-        )
+        body = b''.join(token + self.draw.choice(blanks) for token in body.split())
+        return b'c %s\nc\n%s\n%s' % (name.encode('ascii'), header, body)
 
     def wishes(self, n, count, marks=(0, 1)):
         """So many wishes, their marks by chance."""
@@ -80,7 +78,7 @@ def mixed():
     shelf = Shelf('mixed')
     for _ in range(40):
         n = shelf.draw.choice((1, 2, 3, 5, 8, 13, 21, 34, 55))
-        count, singles = n * shelf.draw.between(5, 25) // 10, shelf.draw.between(0, 1 + n // 5)
+        count, singles = n * shelf.draw.between(5, 30) // 10, shelf.draw.between(0, 1 + n // 3)
         shelf.turn(kinds.mixed(shelf.draw, n, count, singles))
     return shelf
 
@@ -107,7 +105,8 @@ def maker():
     shelf = Shelf('maker')
     for _ in range(40):
         groups, size = shelf.draw.choice(((2, 2), (4, 3), (6, 4), (8, 5), (10, 6), (12, 4), (16, 3)))
-        shelf.turn(kinds.maker(shelf.draw, groups, size, 2 * groups, 3 * groups))
+        needs, clashes = groups * shelf.draw.between(2, 4), groups * shelf.draw.between(3, 15)
+        shelf.turn(kinds.maker(shelf.draw, groups, size, needs, clashes))
     return shelf
 
 

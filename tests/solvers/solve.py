@@ -16,7 +16,7 @@ import rewriting
 
 SATISFIABLE, UNSATISFIABLE = '+', '-'
 
-# What each solver is asked, and with which words it is run on a file.
+# With which words each solver is run on a file.
 CLASP, CADICAL, MINISAT = ['clasp', '--quiet=1,0'], ['cadical', '-q', '-n'], ['minisat', '-verb=0']
 
 # The exit statuses of the SAT competitions.

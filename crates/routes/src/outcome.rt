@@ -13,8 +13,8 @@ pub enum Outcome {
     Refused(Refusal),
 }
 
-// The outcome of a search that says how many wishes its choice breaks.
-pub fn counted(
+// The outcome of a search that is lent wishes, and says how many of them its choice breaks.
+pub fn wished(
     n: usize,
     rules: &[i32],
     row: &[u8],
@@ -25,22 +25,12 @@ pub fn counted(
     match answer {
         Searched::Refused(r) => Outcome::Refused(r),
         Searched::Nothing => Outcome::Nothing,
-        Searched::Found(broken) => match checked(n, rules, row, choice) {
-            Checked::Refused(r) => Outcome::Refused(r),
-            Checked::Unmet(_) => Outcome::Unmet,
-            Checked::Met(count) => {
-                if count == broken {
-                    within(count, d)
-                } else {
-                    Outcome::Miscounted
-                }
-            }
-        },
+        Searched::Found(broken) => counted(checked(n, rules, row, choice), broken, d),
     }
 }
 
-// The outcome of a search that is lent no wishes.
-pub fn uncounted(
+// The outcome of plain search, which is lent no wishes and so must say that none is broken.
+pub fn plain(
     n: usize,
     rules: &[i32],
     row: &[u8],
@@ -51,11 +41,12 @@ pub fn uncounted(
     match answer {
         Searched::Refused(r) => Outcome::Refused(r),
         Searched::Nothing => Outcome::Nothing,
-        Searched::Found(_) => match checked(n, rules, row, choice) {
-            Checked::Refused(r) => Outcome::Refused(r),
-            Checked::Unmet(_) => Outcome::Unmet,
-            Checked::Met(count) => within(count, d),
-        },
+        Searched::Found(broken) => {
+            if 0 < broken {
+                return Outcome::Miscounted;
+            }
+            judged(checked(n, rules, row, choice), d)
+        }
     }
 }
 
@@ -67,9 +58,24 @@ fn checked(n: usize, rules: &[i32], row: &[u8], choice: &[u8]) -> Checked {
     checking::check(n, rules, row, &choice[0..n])
 }
 
-fn within(count: usize, d: usize) -> Outcome {
-    if d < count {
-        return Outcome::PastLimit;
+fn counted(checked: Checked, broken: usize, d: usize) -> Outcome {
+    if let Checked::Met(count) = checked {
+        if count != broken {
+            return Outcome::Miscounted;
+        }
     }
-    Outcome::Found
+    judged(checked, d)
+}
+
+fn judged(checked: Checked, d: usize) -> Outcome {
+    match checked {
+        Checked::Refused(r) => Outcome::Refused(r),
+        Checked::Unmet(_) => Outcome::Unmet,
+        Checked::Met(count) => {
+            if d < count {
+                return Outcome::PastLimit;
+            }
+            Outcome::Found
+        }
+    }
 }

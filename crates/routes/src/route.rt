@@ -13,14 +13,14 @@ use searches::Searched;
 pub fn first(n: usize, rules: &[i32], row: &[u8], d: usize) -> Outcome {
     let mut choice = unset::choice();
     let answer = wish_search::search(n, rules, row, d, &mut choice);
-    outcome::counted(n, rules, row, d, answer, &choice)
+    outcome::wished(n, rules, row, d, answer, &choice)
 }
 
 // Rewriting, the writer, the reader and plain search.
 pub fn second(n: usize, rules: &[i32], row: &[u8], d: usize) -> Outcome {
     let mut choice = unset::choice();
     let answer = rewritten(n, rules, row, d, &mut choice);
-    outcome::uncounted(n, rules, row, d, answer, &choice)
+    outcome::plain(n, rules, row, d, answer, &choice)
 }
 
 fn rewritten(n: usize, rules: &[i32], row: &[u8], d: usize, choice: &mut [u8]) -> Searched {

@@ -18,6 +18,7 @@ fn nearest_into(n: usize, rules: &[i32], row: &[u8], choice: &mut [u8]) {
     let answer = nearest_search::search(n, rules, row, choice);
     match answer {
         Searched::Refused(r) => {
+            report::words(b"; nearest");
             report::refused(r.number, r.place);
         }
         Searched::Nothing => {
@@ -26,7 +27,7 @@ fn nearest_into(n: usize, rules: &[i32], row: &[u8], choice: &mut [u8]) {
         }
         Searched::Found(count) => {
             report::value(b"; nearest ", count);
-            report::outcome(outcome::counted(n, rules, row, count, answer, choice));
+            report::outcome(outcome::wished(n, rules, row, count, answer, choice));
             around(n, rules, row, count);
         }
     }
@@ -50,5 +51,5 @@ pub fn plain(n: usize, rules: &[i32], row: &[u8]) {
     let mut choice = unset::choice();
     let answer = plain_search::search(n, rules, &mut choice);
     report::words(b"; plain");
-    report::outcome(outcome::uncounted(n, rules, row, GREATEST, answer, &choice));
+    report::outcome(outcome::plain(n, rules, row, GREATEST, answer, &choice));
 }
