@@ -1,0 +1,68 @@
+// One book: its two files are read, and all searches are run on what was read.
+use crate::report;
+use crate::single;
+use crate::survey;
+use rule_reader::ReadRules;
+use wish_reader::ReadWishes;
+
+pub fn run(rule_file: &[u8], wish_file: &[u8], limits: usize) {
+    let mut rules = casefile::numbers();
+    let mut row = casefile::bytes();
+    read(rule_file, wish_file, limits, &mut rules, &mut row);
+    report::line_feed();
+}
+
+fn read(rule_file: &[u8], wish_file: &[u8], limits: usize, rules: &mut [i32], row: &mut [u8]) {
+    match rule_reader::read_rules(rule_file, rules) {
+        ReadRules::Refused(r) => {
+            report::refused(r.number, r.place);
+        }
+        ReadRules::Read(counts) => {
+            report::value(b": settings ", counts.variables);
+            report::value(b" rules ", counts.clauses);
+            ruled(
+                counts.variables,
+                rules,
+                counts.length,
+                wish_file,
+                limits,
+                row,
+            );
+        }
+    }
+}
+
+fn ruled(n: usize, rules: &[i32], end: usize, wish_file: &[u8], limits: usize, row: &mut [u8]) {
+    if rules.len() < end {
+        report::words(b" no room");
+        return;
+    }
+    match wish_reader::read_wishes(wish_file, row) {
+        ReadWishes::Refused(r) => {
+            report::refused(r.number, r.place);
+        }
+        ReadWishes::Read(header) => {
+            report::value(b" wishes ", header.wishes);
+            report::value(b" limit ", header.limit);
+            wished(
+                n,
+                &rules[0..end],
+                row,
+                header.variables,
+                header.limit,
+                limits,
+            );
+        }
+    }
+}
+
+fn wished(n: usize, rules: &[i32], row: &[u8], end: usize, limit: usize, limits: usize) {
+    if row.len() < end {
+        report::words(b" no room");
+        return;
+    }
+    single::nearest(n, rules, &row[0..end]);
+    single::wished(n, rules, &row[0..end], limit);
+    single::plain(n, rules, &row[0..end]);
+    survey::every(n, rules, &row[0..end], limits);
+}

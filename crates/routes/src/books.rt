@@ -1,0 +1,60 @@
+// The books of the input. Each has a line `book LIMITS RULES WISHES NAME`: how many limits the routes
+// are run with, the lengths of its two files, and its name. The rule file follows, the wish file, and a
+// line feed.
+use crate::book;
+use crate::report;
+ghost use Prim.Native.Nat.{_≤_};
+ghost use lib.ListN.{length};
+
+// What the first line of a book says. The name is the rest of the line from a place.
+struct Heading {
+    limits: usize,
+    rules: usize,
+    wishes: usize,
+    name: usize,
+}
+
+pub fn run(input: &[u8]) {
+    let mut from = 0;
+    while from < input.len() {
+        let end = casefile::line_end(input, from);
+        let heading = heading_of(&input[from..end]);
+        let rules = past(input, end, 1);
+        let wishes = past(input, rules, heading.rules);
+        let next = past(input, wishes, heading.wishes);
+        name(&input[from..end], heading.name);
+        book::run(&input[rules..wishes], &input[wishes..next], heading.limits);
+        from = next + 1;
+    }
+}
+
+fn heading_of(line: &[u8]) -> Heading {
+    let limits = casefile::read_number(line, casefile::past_word(line, b"book"));
+    let rules = casefile::read_number(line, limits.next);
+    let wishes = casefile::read_number(line, rules.next);
+    Heading {
+        limits: limits.value,
+        rules: rules.value,
+        wishes: wishes.value,
+        name: casefile::past_byte(line, wishes.next, b' '),
+    }
+}
+
+// The place after a part of some size, or the end of an input that is cut.
+fn past(input: &[u8], from: usize, size: usize) -> usize
+    requires { ⌜ from ≤ length (now input) ⌝ }
+    ensures { λ r. ⌜ (from ≤ r) × (r ≤ length (now (input .entry))) ⌝ }
+{
+    if size <= input.len() - from {
+        return from + size;
+    }
+    input.len()
+}
+
+fn name(line: &[u8], from: usize) {
+    if from <= line.len() {
+        report::words(&line[from..]);
+    } else {
+        report::words(b"bad book");
+    }
+}

@@ -1,0 +1,55 @@
+// The searches, each on its own.
+use crate::outcome;
+use crate::report;
+use crate::route;
+use crate::unset;
+use searches::Searched;
+
+// The greatest limit, and the greatest number of wishes.
+const GREATEST: usize = 64;
+
+// Nearest, and the wish search at its count and at one below; at the greatest limit where it finds none.
+pub fn nearest(n: usize, rules: &[i32], row: &[u8]) {
+    let mut choice = unset::choice();
+    nearest_into(n, rules, row, &mut choice);
+}
+
+fn nearest_into(n: usize, rules: &[i32], row: &[u8], choice: &mut [u8]) {
+    let answer = nearest_search::search(n, rules, row, choice);
+    match answer {
+        Searched::Refused(r) => {
+            report::words(b"; nearest");
+            report::refused(r.number, r.place);
+        }
+        Searched::Nothing => {
+            report::words(b"; nearest none");
+            wished(n, rules, row, GREATEST);
+        }
+        Searched::Found(count) => {
+            report::value(b"; nearest ", count);
+            report::outcome(outcome::wished(n, rules, row, count, answer, choice));
+            around(n, rules, row, count);
+        }
+    }
+}
+
+fn around(n: usize, rules: &[i32], row: &[u8], count: usize) {
+    wished(n, rules, row, count);
+    if 0 < count {
+        wished(n, rules, row, count - 1);
+    }
+}
+
+// The wish search at a limit.
+pub fn wished(n: usize, rules: &[i32], row: &[u8], d: usize) {
+    report::value(b"; limit ", d);
+    report::outcome(route::first(n, rules, row, d));
+}
+
+// Plain search on the given rules, whatever wishes its choice breaks.
+pub fn plain(n: usize, rules: &[i32], row: &[u8]) {
+    let mut choice = unset::choice();
+    let answer = plain_search::search(n, rules, &mut choice);
+    report::words(b"; plain");
+    report::outcome(outcome::plain(n, rules, row, GREATEST, answer, &choice));
+}
