@@ -4,9 +4,10 @@ use crate::answers::Answer;
 use searches::Searched;
 ghost use mathlib.Core.Path.{_≡_};
 ghost use lib.ListN.{length};
-ghost use Rattle.searches.specs.Answers.{replyOf};
+ghost use Rattle.searches.specs.Answers.{replyOf, SearchMeans, PlainMeans, NearestMeans};
 ghost use Rattle.searches.specs.Searches.{searchReply, searchChoice, plainReply, plainChoice, nearestReply, nearestChoice};
 ghost use Rattle.powhanire.specs.Answers.{answerOf};
+ghost use Rattle.powhanire.specs.Meaning.{Says};
 
 fn answer_of(s: Searched) -> Answer
     ensures { λ r. ⌜ r ≡ answerOf (replyOf s) ⌝ }
@@ -29,6 +30,7 @@ pub extern "C" fn powhanire_search(
 ) -> Answer
     ensures answer { λ r. ⌜ r ≡ answerOf (searchReply n (now (rules .entry)) (now (row .entry)) d (length (now (choice .entry)))) ⌝ }
     ensures output { λ r. ⌜ now (choice .exit) ≡ searchChoice n (now (rules .entry)) (now (row .entry)) d (now (choice .entry)) ⌝ }
+    ensures meaning { λ r. ⌜ Says (SearchMeans n (now (rules .entry)) (now (row .entry)) d (now (choice .exit))) r ⌝ }
 {
     answer_of(wish_search::search(n, rules, row, d, choice))
 }
@@ -38,6 +40,7 @@ pub extern "C" fn powhanire_search(
 pub extern "C" fn powhanire_plain(n: usize, rules: &[i32], choice: &mut [u8]) -> Answer
     ensures answer { λ r. ⌜ r ≡ answerOf (plainReply n (now (rules .entry)) (length (now (choice .entry)))) ⌝ }
     ensures output { λ r. ⌜ now (choice .exit) ≡ plainChoice n (now (rules .entry)) (now (choice .entry)) ⌝ }
+    ensures meaning { λ r. ⌜ Says (PlainMeans n (now (rules .entry)) (now (choice .exit))) r ⌝ }
 {
     answer_of(plain_search::search(n, rules, choice))
 }
@@ -52,6 +55,7 @@ pub extern "C" fn powhanire_nearest(
 ) -> Answer
     ensures answer { λ r. ⌜ r ≡ answerOf (nearestReply n (now (rules .entry)) (now (row .entry)) (length (now (choice .entry)))) ⌝ }
     ensures output { λ r. ⌜ now (choice .exit) ≡ nearestChoice n (now (rules .entry)) (now (row .entry)) (now (choice .entry)) ⌝ }
+    ensures meaning { λ r. ⌜ Says (NearestMeans n (now (rules .entry)) (now (row .entry)) (now (choice .exit))) r ⌝ }
 {
     answer_of(nearest_search::search(n, rules, row, choice))
 }
