@@ -13,7 +13,7 @@ use Rattle.refusal.specs.Reply.{refusal}
 use Rattle.lent.specs.Limits.{maxLiterals}
 use Rattle.lent.specs.Sound.{Scan, mayJoin, after, unread, unclosed}
 use Rattle.dimacs.specs.Format as rule-file
-use Rattle.dimacs.specs.Format.{Word, Header}
+use Rattle.dimacs.specs.Format.{Word, Header, tokensFrom}
 use Rattle.wish_file.specs.Format as wish-file
 use Rattle.wish_file.specs.Layout.{lineSize, lineNumbers}
 use Rattle.rule_reader.specs.Read as rules
@@ -52,7 +52,7 @@ module _ (out : List ℤ) where
   told-from file at none = told-refusal (refusal 1 at) (some-cause 0 at)
   told-from file at (some h) =
       let next : ℕ = at + h .size in
-      let ws : List Word = rule-file.words false next (drop next file) in
+      let ws : List Word = rule-file.tokensFrom file next in
       told-range (rule-file.outside (h .variables) (h .clauses)) at _
       (told-tokens (h .variables) (h .clauses) ws _ (tokens-numbered (h .variables) (h .clauses) (length file) unread ws))
 
