@@ -17,7 +17,11 @@ pub fn refuse<T>(number: u64, place: usize) -> Result<T, Refusal> {
 
 /// 14; a call without a limit gives d = 0.
 pub fn n_and_d(n: u64, d: u64) -> Result<(), Refusal> {
-    if n < 1 || n > MAX_N || d > 64 { refuse(14, 0) } else { Ok(()) }
+    if !(1..=MAX_N).contains(&n) || d > 64 {
+        refuse(14, 0)
+    } else {
+        Ok(())
+    }
 }
 
 /// 13 for a rule list, with n already known to be at most 640.
@@ -36,7 +40,11 @@ pub fn rules(n: u64, list: &[i32]) -> Result<(), Refusal> {
             return refuse(13, at);
         }
     }
-    if start < list.len() { refuse(13, list.len()) } else { Ok(()) }
+    if start < list.len() {
+        refuse(13, list.len())
+    } else {
+        Ok(())
+    }
 }
 
 /// 13 for a wish row.
@@ -61,18 +69,30 @@ pub fn choice(choice: &[u8]) -> Result<(), Refusal> {
 
 /// 11
 pub fn length(n: u64, bytes: &[u8]) -> Result<(), Refusal> {
-    if bytes.len() as u64 != n { refuse(11, 0) } else { Ok(()) }
+    if bytes.len() as u64 != n {
+        refuse(11, 0)
+    } else {
+        Ok(())
+    }
 }
 
 /// 12
 pub fn small(n: u64, list: &[i32]) -> Result<(), Refusal> {
     let rules = list.iter().filter(|&&e| e == 0).count();
-    if n > 256 || rules > 4_096 || list.len() - rules > 16_384 { refuse(12, 0) } else { Ok(()) }
+    if n > 256 || rules > 4_096 || list.len() - rules > 16_384 {
+        refuse(12, 0)
+    } else {
+        Ok(())
+    }
 }
 
 /// 15
 pub fn room<T>(output: &mut [T], needed: usize) -> Result<&mut [T], Refusal> {
-    if output.len() < needed { refuse(15, needed) } else { Ok(output) }
+    if output.len() < needed {
+        refuse(15, needed)
+    } else {
+        Ok(output)
+    }
 }
 
 pub fn wish_count(row: &[u8]) -> u64 {

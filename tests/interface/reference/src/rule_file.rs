@@ -55,7 +55,7 @@ pub fn read(file: &[u8]) -> Result<Book, Refusal> {
         Some(pair) if ended => pair,
         _ => return refuse(1, at),
     };
-    if n < 1 || n > MAX_N || c > MAX_RULES as u64 {
+    if !(1..=MAX_N).contains(&n) || c > MAX_RULES as u64 {
         return refuse(2, at);
     }
     at += text.len() + 1;

@@ -11,21 +11,31 @@ pub struct Outcome {
 }
 
 pub fn search(list: &[i32], row: &[u8], d: u64) -> Outcome {
-    Walk::new(list, row, d).run()
+    search_within(list, row, d, u64::MAX).unwrap()
+}
+
+pub fn nearest(list: &[i32], row: &[u8]) -> Outcome {
+    nearest_within(list, row, u64::MAX).unwrap()
+}
+
+/// The search, unless it makes more than `most` forks: for a test or a timing to pass over a book that is
+/// out of the walk's reach.
+pub fn search_within(list: &[i32], row: &[u8], d: u64, most: u64) -> Option<Outcome> {
+    Walk::new(list, row, d).run(most)
 }
 
 /// The first limit at which the walk finds. No choice breaks more wishes than there are.
-pub fn nearest(list: &[i32], row: &[u8]) -> Outcome {
+pub fn nearest_within(list: &[i32], row: &[u8], most: u64) -> Option<Outcome> {
     let (mut forks, mut deepest) = (0, 0);
     for d in 0..=wish_count(row) {
-        let outcome = search(list, row, d);
+        let outcome = search_within(list, row, d, most - forks)?;
         forks += outcome.forks;
         deepest = deepest.max(outcome.deepest);
         if outcome.choice.is_some() {
-            return Outcome { forks, deepest, ..outcome };
+            return Some(Outcome { forks, deepest, ..outcome });
         }
     }
-    Outcome { choice: None, forks, deepest }
+    Some(Outcome { choice: None, forks, deepest })
 }
 
 /// Whether a choice meets all rules.
@@ -84,20 +94,25 @@ impl<'a> Walk<'a> {
         Walk { rules: rules_of(list), row, d, value: vec![UNSETTLED; row.len()], trail: Vec::new(), broken: 0 }
     }
 
-    fn run(mut self) -> Outcome {
+    fn run(mut self, most: u64) -> Option<Outcome> {
         let mut path: Vec<Fork> = Vec::new();
         let (mut forks, mut deepest) = (0, 0);
         loop {
             match self.try_state() {
-                State::Answer(choice) => return Outcome { choice: Some(choice), forks, deepest },
+                State::Answer(choice) => return Some(Outcome { choice: Some(choice), forks, deepest }),
                 State::Fork { setting, first } => {
+                    if forks == most {
+                        return None;
+                    }
                     forks += 1;
                     path.push(Fork { setting, other: Some(1 - first), settled: self.trail.len() });
                     deepest = deepest.max(path.len());
                     self.assign(setting, first);
                 }
                 State::DeadEnd => loop {
-                    let Some(fork) = path.last_mut() else { return Outcome { choice: None, forks, deepest } };
+                    let Some(fork) = path.last_mut() else {
+                        return Some(Outcome { choice: None, forks, deepest });
+                    };
                     self.undo(fork.settled);
                     match fork.other.take() {
                         Some(value) => {

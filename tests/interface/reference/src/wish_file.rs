@@ -25,12 +25,16 @@ fn columns<const K: usize>(file: &[u8], at: usize) -> Result<[u64; K], Refusal> 
     for (value, text) in values.iter_mut().zip(line.chunks(5)) {
         *value = column(text).ok_or(Refusal { number: 8, place: at as u64 })?;
     }
-    if line[5 * K] != b'\n' { refuse(8, at) } else { Ok(values) }
+    if line[5 * K] != b'\n' {
+        refuse(8, at)
+    } else {
+        Ok(values)
+    }
 }
 
 pub fn read(file: &[u8]) -> Result<Wishes, Refusal> {
     let [n, m, d] = columns(file, 0)?;
-    if n < 1 || n > 256 || m > n || m > MAX_WISHES || d > 64 {
+    if !(1..=256).contains(&n) || m > n || m > MAX_WISHES || d > 64 {
         return refuse(9, 0);
     }
     let mut row = vec![2; n as usize];
@@ -44,7 +48,11 @@ pub fn read(file: &[u8]) -> Result<Wishes, Refusal> {
         last = setting;
         at += 11;
     }
-    if at < file.len() { refuse(8, at) } else { Ok(Wishes { row, d }) }
+    if at < file.len() {
+        refuse(8, at)
+    } else {
+        Ok(Wishes { row, d })
+    }
 }
 
 pub fn write(row: &[u8], d: u64) -> Vec<u8> {

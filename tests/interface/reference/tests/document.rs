@@ -159,7 +159,8 @@ fn completions_are_unique() {
         for choice in choices(n as usize) {
             let mut expected = choice.clone();
             for (leaves, _) in &found {
-                let holding = leaves.iter().filter(|&&e| (choice[e.unsigned_abs() as usize - 1] == 1) == (e > 0)).count();
+                let holding =
+                    leaves.iter().filter(|&&e| (choice[e.unsigned_abs() as usize - 1] == 1) == (e > 0)).count();
                 expected.extend((1..=leaves.len()).map(|k| (holding >= k) as u8));
             }
             let all: Vec<Vec<u8>> = choices(settings as usize - n as usize)
