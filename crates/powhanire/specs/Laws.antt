@@ -1,0 +1,31 @@
+-- How an export answers what the call below it replied.
+use mathlib.Core.Path.{_≡_, ap, sym, subst, _∙_}
+use mathlib.Core.Bool.{true≢false}
+use native.Mathlib.Omega.{arith}
+use Rattle.refusal.specs.declared.Refusal.{Refusal}
+use Rattle.refusal.specs.Reply.{Reply, refusing}
+use Rattle.searches.specs.Answers.{replyOf}
+use Rattle.searches.specs.declared.Searched.{Searched}
+use Rattle.searches.specs.declared.Searched.the-variants.{Refused, Found, Nothing}
+use Rattle.powhanire.specs.declared.answers.Answer.{Answer}
+use Rattle.powhanire.specs.Answers.{answerOf}
+use Rattle.powhanire.specs.Meaning.{Says}
+use Rattle.powhanire.specs.Replies.{Told}
+
+-- the answer x of a call is the variant y, the export gives y's numbers, and x's reply is known
+module _ {A : Type 0} (reply-of : A → Reply) where
+  pub passed-on : {x y : A} {a : Answer} {reply : Reply} → x ≡ y → a ≡ answerOf (reply-of y) → reply-of x ≡ reply → a ≡ answerOf reply
+  passed-on e given replied = given ∙ ap (λ (z : A). answerOf (reply-of z)) (sym e) ∙ ap answerOf replied
+
+-- what a search's answer means, its numbers say
+module _ (Means : Searched → Type 0) where
+  refusal-says : (r : Refusal) → Told (refusing r) → Says Means (answerOf (refusing r))
+  refusal-says r told = record { found = λ e. absurd (omega arith); none = λ e f. absurd (true≢false (sym (told .answered e))) }
+
+  numbers-say : (s : Searched) → Told (replyOf s) → Means s → Says Means (answerOf (replyOf s))
+  numbers-say (Refused r) told meant = refusal-says r told
+  numbers-say (Found broken) told meant = record { found = λ e. meant; none = λ e f. absurd (omega arith) }
+  numbers-say Nothing told meant = record { found = λ e. absurd (omega arith); none = λ e f. meant }
+
+  pub says : (s : Searched) {a : Answer} {reply : Reply} → a ≡ answerOf (replyOf s) → replyOf s ≡ reply → Told reply → Means s → Says Means a
+  says s given replied told meant = subst (Says Means) (sym given) (numbers-say s (subst Told (sym replied) told) meant)

@@ -1,0 +1,6 @@
+pub mod Answers
+pub mod Laws
+pub mod Meaning
+pub mod Numbers
+pub mod Readings
+pub mod Replies
