@@ -17,7 +17,8 @@
  *
  * Lending
  *   Every buffer is a pointer and a length in elements (bytes for uint8_t, numbers for int32_t).
- *   `const` buffers are read, the last buffer of a call is written; no two may overlap.
+ *   `const` buffers are read, the last buffer of a call is written (check writes none); no two may overlap.
+ *   A pointer lent with length 0 is not followed and may be NULL.
  *   A refusal leaves every buffer as it was. So does "none". On success only the part that the call fills
  *   changes, and what lies past it stays. A longer output buffer than needed is accepted.
  *   These sizes always suffice:
@@ -30,6 +31,9 @@
  *   A call that refuses with 15 says in `place` how many elements it needs.
  *
  * The calls keep no state and use no heap, so several threads may call at once on separate buffers.
+ * Stack, measured by tests/interface/run at the deepest inputs there are: plain up to 335,600 bytes
+ * (496 for each fork on a path, of which 640 settings allow 639), search and nearest up to 144,528,
+ * the other calls up to 3,400. A thread with 512 KB suffices for all.
  */
 #ifndef POWHANIRE_H
 #define POWHANIRE_H

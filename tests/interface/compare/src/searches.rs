@@ -9,6 +9,8 @@ use reference::{totalizer, walk};
 pub const GROUPS: &[crate::Group] = &[
     ("searches: tiny books, every d", 4_000, tiny),
     ("searches: small books, every d", 400, small),
+    ("searches: long and short rules", 300, long_rules),
+    ("searches: thousands of forks", 20, many_forks),
     ("searches: 64 wishes, d from 0 to 65", 8, many_wishes),
     ("searches: books of the file's size", 40, plain_large),
     ("searches: 256 settings, 64 wishes", 60, wished_large),
@@ -73,6 +75,26 @@ fn small(both: &mut Both, random: &mut Random) {
     let longest = 2 + random.below(5);
     let (list, row) = (random.book(n, rules, 2, longest), random.row(n, wishes));
     routes(both, random, n, &list, &row, &every_d(&row));
+}
+
+/// Rules around ten entries, where the weights stop falling, beside a few short ones.
+fn long_rules(both: &mut Both, random: &mut Random) {
+    let n = 14 + random.below(20);
+    let mut list = random.book(n, 2 * n, 8, 13);
+    list.extend(random.book(n, n, 2, 4));
+    let wishes = random.below(n + 1);
+    let row = random.row(n, wishes);
+    both.plain(n as u64, &list, n);
+    both.nearest(n as u64, &list, &row, n);
+    for d in 0..4 {
+        both.search(n as u64, &list, &row, d, n);
+    }
+}
+
+/// Every setting wished, and rules enough to break many wishes.
+fn many_forks(both: &mut Both, random: &mut Random) {
+    let (list, row) = (random.book(64, 180, 3, 3), random.row(64, 64));
+    both.nearest(64, &list, &row, 64);
 }
 
 /// A book and a row on which nearest makes few enough forks for a test.
