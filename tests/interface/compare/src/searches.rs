@@ -77,13 +77,18 @@ fn small(both: &mut Both, random: &mut Random) {
     routes(both, random, n, &list, &row, &every_d(&row));
 }
 
-/// Rules around ten entries, where the weights stop falling, beside a few short ones.
+/// Rules around ten entries, where the weights stop falling, some with a few short ones beside them. Most
+/// entries are positive, or the first completion would meet them all.
 fn long_rules(both: &mut Both, random: &mut Random) {
     let n = 14 + random.below(20);
-    let mut list = random.book(n, 2 * n, 8, 13);
-    list.extend(random.book(n, n, 2, 4));
+    let rules = 1 + random.below(2 * n);
+    let mut list = random.book(n, rules, 9, 13);
+    list.iter_mut().for_each(|e| *e = if random.once_in(8) { *e } else { e.abs() });
+    if random.once_in(3) {
+        list.extend(random.book(n, n, 2, 4));
+    }
     let wishes = random.below(n + 1);
-    let row = random.row(n, wishes);
+    let row: Vec<u8> = random.row(n, wishes).iter().map(|&w| if random.once_in(4) { w } else { w & 2 }).collect();
     both.plain(n as u64, &list, n);
     both.nearest(n as u64, &list, &row, n);
     for d in 0..4 {

@@ -10,6 +10,7 @@ pub const GROUPS: &[crate::Group] = &[
     ("values: some faults", 60_000, faults),
     ("values: huge n and d", 1, huge),
     ("values: limits", 1, limits),
+    ("values: very long buffers", 1, very_long),
     ("values: empty buffers", 1, empty),
 ];
 
@@ -151,6 +152,30 @@ fn limits(both: &mut Both, random: &mut Random) {
             row.reverse();
             every_call(both, random, n.min(640) as u64, &[1, 0], &row, 64, &vec![0; n.min(640)]);
         }
+    }
+}
+
+/// Far past every limit.
+fn very_long(both: &mut Both, random: &mut Random) {
+    let (zeros, bytes) = (vec![0; 200_000], vec![2; 200_000]);
+    let ones: Vec<i32> = (0..200_000).map(|k| k % 2).collect();
+    for n in [1, 256, 640] {
+        let few = vec![2; n as usize];
+        for list in [&zeros, &ones] {
+            every_call(both, random, n, list, &few, 0, &few);
+        }
+        every_call(both, random, n, &[1, 0], &bytes, 0, &few);
+        every_call(both, random, n, &[1, 0], &few, 0, &vec![1; 200_000]);
+        both.plain(n, &[1, 0], 200_000);
+        both.search(n, &[1, 0], &few, 0, 200_000);
+    }
+    for byte in *b" \nc0" {
+        let body = vec![byte; 500_000];
+        both.read_rules(&body, 10);
+        both.read_rules(&[b"p cnf 1 1\n1 0", &body[..]].concat(), 10);
+        both.read_rules(&[b"c", &body[..], b"\np cnf 1 1\n1 0"].concat(), 10);
+        both.read_wishes(&body, 10);
+        both.read_wishes(&[b"    1    0    0\n", &body[..]].concat(), 10);
     }
 }
 
