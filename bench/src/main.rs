@@ -1,0 +1,186 @@
+//! walks table                     this library's nearest beside two Rust walks, as a table
+//! walks write FOLDER              the books of the process table: FOLDER/CLASS/SEED.cnf, .wish, .opb
+//! walks rewrite CNF WISH D OUT    the rewritten rule file at limit D
+
+mod books;
+mod counted;
+
+use books::Book;
+use reference::{rule_file, totalizer, walk, wish_file};
+use std::fmt::Write;
+
+/// Kind, settings, rules, wishes, books timed.
+type Class = (&'static str, usize, usize, usize, usize);
+
+const TIMED: [Class; 8] = [
+    ("random", 64, 180, 64, 20),
+    ("random", 256, 300, 64, 20),
+    ("terminal", 40, 100, 20, 20),
+    ("terminal", 80, 250, 30, 20),
+    ("terminal", 120, 500, 40, 20),
+    ("terminal", 250, 600, 64, 10),
+    ("terminal", 250, 900, 64, 10),
+    ("terminal", 250, 1500, 64, 10),
+];
+
+/// The last two are there because a solver that learns is better at them.
+const PROCESSES: [Class; 7] = [
+    ("terminal", 40, 100, 20, 5),
+    ("terminal", 80, 250, 30, 5),
+    ("terminal", 120, 500, 40, 5),
+    ("terminal", 250, 1500, 64, 5),
+    ("random", 64, 180, 64, 5),
+    ("terminal", 250, 600, 64, 5),
+    ("random", 256, 400, 64, 5),
+];
+
+/// A book on which the walk makes more forks is left out of the table, and counted there.
+const MOST_FORKS: u64 = 50_000;
+
+fn book((kind, n, rules, wishes, _): Class, seed: u64) -> Book {
+    match kind {
+        "random" => books::random(seed, n, rules, wishes),
+        _ => books::terminal(seed, n, rules, wishes),
+    }
+}
+
+fn name((kind, n, rules, wishes, _): Class) -> String {
+    format!("{kind}-{n}-{rules}-{wishes}")
+}
+
+/// Seconds of processor time, which other work on the machine alters less than the clock on the wall.
+fn now() -> f64 {
+    #[repr(C)]
+    struct Time {
+        seconds: i64,
+        nanoseconds: i64,
+    }
+    extern "C" {
+        fn clock_gettime(clock: i32, time: *mut Time) -> i32;
+    }
+    let mut time = Time { seconds: 0, nanoseconds: 0 };
+    // 2 is CLOCK_PROCESS_CPUTIME_ID
+    assert_eq!(unsafe { clock_gettime(2, &mut time) }, 0);
+    time.seconds as f64 + time.nanoseconds as f64 * 1e-9
+}
+
+/// Seconds a call: the median of three, each a mean over 10 ms; one call where it is slow.
+fn seconds<T>(mut call: impl FnMut() -> T) -> f64 {
+    let mut sample = || {
+        let (start, mut calls) = (now(), 0.0);
+        loop {
+            std::hint::black_box(call());
+            calls += 1.0;
+            let taken = now() - start;
+            if taken > 0.01 {
+                return taken / calls;
+            }
+        }
+    };
+    let first = sample();
+    if first > 0.2 {
+        first
+    } else {
+        quartiles(&mut [first, sample(), sample()])[1]
+    }
+}
+
+fn quartiles(values: &mut [f64]) -> [f64; 3] {
+    values.sort_by(f64::total_cmp);
+    [1, 2, 3].map(|k| values[(values.len() - 1) * k / 4])
+}
+
+/// Three digits that count.
+fn short(value: f64) -> String {
+    let digits = (2 - value.abs().log10().floor() as i32).clamp(0, 7) as usize;
+    format!("{value:.digits$}")
+}
+
+fn cell(forks: &[f64], times: &mut [f64]) -> String {
+    let rate = forks.iter().sum::<f64>() / times.iter().sum::<f64>();
+    let [low, middle, high] = quartiles(times).map(|t| short(t * 1000.0));
+    format!("{middle} ({low} to {high}) | {:.0}", rate)
+}
+
+fn table() {
+    println!("| books | timed (left out) | forks a call | library: ms a call | forks/s | plain Rust: ms a call | forks/s | Rust with counts: ms a call | forks/s |");
+    println!("|---|---|---|---|---|---|---|---|---|");
+    for class in TIMED {
+        let (mut forks, mut times, mut left_out) = (Vec::new(), [(); 3].map(|_| Vec::new()), 0);
+        let mut seed = 0;
+        while forks.len() < class.4 {
+            let book = book(class, seed);
+            seed += 1;
+            let Some(right) = walk::nearest_within(&book.list, &book.row, MOST_FORKS) else {
+                left_out += 1;
+                continue;
+            };
+            let mut choice = vec![0; book.row.len()];
+            let n = choice.len() as u64;
+            let answer = powhanire::nearest(n, &book.list, &book.row, &mut choice);
+            assert_eq!((answer.verdict == 1).then_some(&choice), right.choice.as_ref(), "not the same walk");
+            assert_eq!(counted::nearest(&book.list, &book.row), (right.choice, right.forks), "not the same walk");
+            forks.push(right.forks as f64);
+            times[0].push(seconds(|| powhanire::nearest(n, &book.list, &book.row, &mut choice)));
+            times[1].push(seconds(|| walk::nearest(&book.list, &book.row)));
+            times[2].push(seconds(|| counted::nearest(&book.list, &book.row)));
+        }
+        let cells: Vec<String> = times.iter_mut().map(|t| cell(&forks, t)).collect();
+        let [low, middle, high] = quartiles(&mut forks);
+        println!("| {} | {} ({left_out}) | {middle} ({low} to {high}) | {} |", name(class), class.4, cells.join(" | "));
+    }
+}
+
+/// The rules with the broken wishes to be made fewest, for a pseudo-Boolean solver. A wish for on costs 1 less
+/// the setting, and that 1 is left out, so the wishes for on are to be added to the optimum.
+fn opb(book: &Book) -> String {
+    let rules = book.list.iter().filter(|&&e| e == 0).count();
+    let mut text = format!("* #variable= {} #constraint= {rules}\nmin:", book.row.len());
+    for (at, &wish) in book.row.iter().enumerate().filter(|(_, &w)| w != 2) {
+        write!(text, " {}1 x{}", ["+", "-"][wish as usize], at + 1).unwrap();
+    }
+    text += " ;\n";
+    let mut least = 1;
+    for &e in &book.list {
+        if e == 0 {
+            writeln!(text, ">= {least} ;").unwrap();
+            least = 1;
+        } else {
+            write!(text, "{}1 x{} ", if e > 0 { "+" } else { "-" }, e.abs()).unwrap();
+            least -= (e < 0) as i32;
+        }
+    }
+    text
+}
+
+fn write(folder: &str) {
+    for class in PROCESSES {
+        let folder = format!("{folder}/{}", name(class));
+        std::fs::create_dir_all(&folder).unwrap();
+        for seed in 0..class.4 as u64 {
+            let book = book(class, seed);
+            let rules = rule_file::write(book.row.len() as u64, &book.list);
+            std::fs::write(format!("{folder}/{seed}.cnf"), rules).unwrap();
+            std::fs::write(format!("{folder}/{seed}.wish"), wish_file::write(&book.row, 0)).unwrap();
+            std::fs::write(format!("{folder}/{seed}.opb"), opb(&book)).unwrap();
+        }
+        println!("{}", name(class));
+    }
+}
+
+fn rewrite(cnf: &str, wish: &str, d: u64, out: &str) {
+    let rules = rule_file::read(&std::fs::read(cnf).unwrap()).unwrap();
+    let wishes = wish_file::read(&std::fs::read(wish).unwrap()).unwrap();
+    let (settings, list) = totalizer::rewrite(rules.n, &rules.list, &wishes.row, d);
+    std::fs::write(out, rule_file::write(settings, &list)).unwrap();
+}
+
+fn main() {
+    let words: Vec<String> = std::env::args().skip(1).collect();
+    match words.iter().map(String::as_str).collect::<Vec<_>>()[..] {
+        ["table"] => table(),
+        ["write", folder] => write(folder),
+        ["rewrite", cnf, wish, d, out] => rewrite(cnf, wish, d.parse().unwrap(), out),
+        _ => panic!("walks table | write FOLDER | rewrite CNF WISH D OUT"),
+    }
+}

@@ -1,0 +1,222 @@
+//! The calls that read and write files.
+
+use crate::both::Both;
+use crate::random::Random;
+
+pub const GROUPS: &[crate::Group] = &[
+    ("rule files: sound", 3_000, sound_rule_file),
+    ("rule files: damaged", 30_000, damaged_rule_file),
+    ("rule files: headers", 1, headers),
+    ("rule files: every byte at every place", 1, every_byte),
+    ("rule files: random bytes", 20_000, random_bytes),
+    ("rule files: limits", 1, limits),
+    ("wish files: numbers", 20_000, wish_numbers),
+    ("wish files: damaged", 20_000, damaged_wish_file),
+    ("wish files: every byte at every place", 1, every_wish_byte),
+    ("wish files: every length", 1, every_length),
+];
+
+/// Output lengths around the one needed.
+pub fn rooms(random: &mut Random, needed: usize) -> [usize; 4] {
+    [needed, needed.saturating_sub(1), needed + 1 + random.below(70), random.below(needed + 1)]
+}
+
+pub fn a_room(random: &mut Random, needed: usize) -> usize {
+    let rooms = rooms(random, needed);
+    random.of(&rooms)
+}
+
+/// Reads the file with a long buffer, and with others around the length needed; then writes what was read.
+fn read_and_write(both: &mut Both, random: &mut Random, file: &[u8]) {
+    let (answer, list) = both.read_rules(file, file.len() + 3);
+    if answer.refusal != 0 {
+        both.read_rules(file, 0);
+        return;
+    }
+    let length = answer.value[2] as usize;
+    for room in rooms(random, length) {
+        both.read_rules(file, room);
+    }
+    let list = &list[..length];
+    let (written, text) = both.write_rules(answer.value[0], list, 5 * length + 15);
+    let text = &text[..written.value[0] as usize];
+    for room in rooms(random, text.len()) {
+        both.write_rules(answer.value[0], list, room);
+    }
+    let (again, back) = both.read_rules(text, length);
+    let same = again == answer && back[..length] == *list;
+    both.hold(same, || "a written list does not come back".to_string());
+}
+
+fn sound_rule_file(both: &mut Both, random: &mut Random) {
+    let n = random.of(&[1, 2, 3, 9, 10, 11, 99, 100, 640]);
+    let rules = random.below(30);
+    let longest = 1 + random.below(n.min(20));
+    let book = random.book(n, rules, 0, longest);
+    let file = random.rule_file(n, &book);
+    read_and_write(both, random, &file);
+}
+
+fn damaged_rule_file(both: &mut Both, random: &mut Random) {
+    let n = random.of(&[1, 2, 3, 10, 640]);
+    let rules = random.below(6);
+    let book = random.book(n, rules, 0, 4.min(n));
+    let mut file = random.rule_file(n, &book);
+    random.damage_rule_file(&mut file);
+    read_and_write(both, random, &file);
+}
+
+fn headers(both: &mut Both, random: &mut Random) {
+    let numbers = [
+        "", "0", "1", "00", "01", "-1", "2", "640", "641", "9000", "9001", "12345", "99999", "123456", "1x", "+1", "1 ",
+    ];
+    let befores =
+        ["", "c\n", "c", "c x", "c x\nc\n", "\n", " ", "c\n\n", "c\nx\n", "d\n", "p\n", "C\n", "\r\n", "c\r", "c\r\n"];
+    for before in befores {
+        for n in numbers {
+            for c in numbers {
+                for after in ["", "\n", " \n", "\r\n", "\n0", "\n1 0\n", "\n1 2 0 0"] {
+                    read_and_write(both, random, format!("{before}p cnf {n} {c}{after}").as_bytes());
+                }
+            }
+        }
+    }
+    for header in
+        ["p", "p ", "p cnf", "p cnf ", "p  cnf 1 0\n", "p cnf  1 0\n", "p cnf 1  0\n", "p\tcnf 1 0\n", "p cnf\t1 0\n"]
+    {
+        read_and_write(both, random, header.as_bytes());
+    }
+    for header in [
+        " p cnf 1 0\n",
+        "P cnf 1 0\n",
+        "p CNF 1 0\n",
+        "p cnf 1 0 \n",
+        "p cnf 1\n0\n",
+        "p cnf 1 0 0\n",
+        "p cnff 1 0\n",
+        "pcnf 1 0\n",
+    ] {
+        read_and_write(both, random, header.as_bytes());
+    }
+}
+
+/// Each byte value put over, and in before, each byte of a file.
+fn bytes_everywhere(file: &[u8], mut judge: impl FnMut(&[u8])) {
+    for at in 0..=file.len() {
+        for byte in 0..=255 {
+            let (before, after) = file.split_at(at);
+            judge(&[before, &[byte], after].concat());
+            if at < file.len() {
+                judge(&[before, &[byte], &after[1..]].concat());
+            }
+        }
+    }
+}
+
+fn every_byte(both: &mut Both, random: &mut Random) {
+    bytes_everywhere(b"c x\np cnf 12 3\n1 -2 0\t0\r\n-12 3 0", |file| read_and_write(both, random, file));
+}
+
+fn random_bytes(both: &mut Both, random: &mut Random) {
+    let length = random.below(60);
+    let any = random.once_in(3);
+    let header = random.of(&["", "p cnf 3 2\n", "c\np cnf 9 4\n", "p cnf 640 9000\n"]);
+    let tail: Vec<u8> =
+        (0..length).map(|_| if any { random.next() as u8 } else { random.of(b"0123456789-   \n\r\tcp") }).collect();
+    read_and_write(both, random, &[header.as_bytes(), &tail].concat());
+}
+
+/// The text of a list, with a header that need not fit it.
+fn text(n: usize, c: usize, list: &[i32]) -> Vec<u8> {
+    let written = reference::rule_file::write(0, list);
+    let body = written.iter().position(|&b| b == b'\n').unwrap() + 1;
+    [format!("p cnf {n} {c}\n").as_bytes(), &written[body..]].concat()
+}
+
+fn limits(both: &mut Both, random: &mut Random) {
+    for (n, rules) in [(640, 0), (641, 0), (640, 9_000), (1, 9_000), (640, 9_001), (640, 99_999)] {
+        for given in [rules.min(9_001), 8_999] {
+            read_and_write(both, random, &text(n, rules, &vec![0; given]));
+        }
+    }
+    // 31,000 entries in 9,000 rules: the longest list, the longest file
+    let rule = |length: i32| (0..length).map(|k| -640 + k).chain([0]);
+    let full: Vec<i32> = (0..9_000).flat_map(|r| rule(3 + (r < 4_000) as i32)).collect();
+    assert_eq!(full.len(), 40_000);
+    let file = text(640, 9_000, &full);
+    read_and_write(both, random, &file);
+    for more in ["0", "1", "641", "x", "-0", "c x"] {
+        read_and_write(both, random, &[&file[..], more.as_bytes()].concat());
+    }
+    for cut in [1, 2, 3, 4] {
+        read_and_write(both, random, &file[..file.len() - cut]);
+    }
+    // 31,000 entries and one more, which may have other faults too; the rule is still open or not
+    for entries in [30_999, 31_000, 31_001] {
+        for last in [vec![], vec![0], vec![700, 0], vec![5, 5, 0], vec![5, 0, 6, 0]] {
+            let mut list: Vec<i32> =
+                (1..=entries).flat_map(|k| if k % 500 == 0 { vec![500, 0] } else { vec![k % 500] }).collect();
+            list.extend(last);
+            let closed = list.iter().filter(|&&e| e == 0).count();
+            for c in [closed, closed - 1, closed + 1] {
+                let mut file = text(640, c, &list);
+                read_and_write(both, random, &file);
+                file.extend(random.of(&[&b"x"[..], b"-0", b"1", b"999", b"0"]));
+                read_and_write(both, random, &file);
+            }
+            both.write_rules(640, &list, 173_015);
+            both.plain(640, &list, 640);
+        }
+    }
+}
+
+/// Reads a wish file with a long buffer and others; then writes what was read.
+fn read_and_write_wishes(both: &mut Both, random: &mut Random, file: &[u8]) {
+    let (answer, row) = both.read_wishes(file, 300);
+    if answer.refusal != 0 {
+        both.read_wishes(file, 0);
+        return;
+    }
+    let [n, _, d] = answer.value;
+    for room in rooms(random, n as usize) {
+        both.read_wishes(file, room);
+    }
+    let row = &row[..n as usize];
+    for room in rooms(random, file.len()) {
+        both.write_wishes(n, row, d, room);
+    }
+    let (_, text) = both.write_wishes(n, row, d, file.len());
+    both.hold(text == file, || "a wish file does not come back".to_string());
+}
+
+fn wish_numbers(both: &mut Both, random: &mut Random) {
+    let file = random.wish_file();
+    read_and_write_wishes(both, random, &file);
+}
+
+fn damaged_wish_file(both: &mut Both, random: &mut Random) {
+    let mut file = random.wish_file();
+    for _ in 0..1 + random.below(2) {
+        random.damage_bytes(&mut file, b" 0123456789\n\r\t-+");
+    }
+    read_and_write_wishes(both, random, &file);
+}
+
+const WISHES: &[u8] = b"   12    3    2\n    1    0\n    9    1\n   12    0\n";
+
+fn every_wish_byte(both: &mut Both, random: &mut Random) {
+    bytes_everywhere(WISHES, |file| read_and_write_wishes(both, random, file));
+}
+
+fn every_length(both: &mut Both, random: &mut Random) {
+    let mut row = vec![1; 64];
+    row.resize(256, 2);
+    for file in [WISHES, &reference::wish_file::write(&row, 64)] {
+        for length in 0..=file.len() {
+            read_and_write_wishes(both, random, &file[..length]);
+        }
+        for more in [&b"\n"[..], b"0", b"    1    0\n"] {
+            read_and_write_wishes(both, random, &[file, more].concat());
+        }
+    }
+}

@@ -1,0 +1,63 @@
+//! Compares the library with the reference. Without an argument every group runs; `compare GROUP` runs one.
+
+mod both;
+mod files;
+mod page;
+mod random;
+mod searches;
+mod values;
+
+use both::Both;
+
+/// A group's name, its runs, and one run from its own seed.
+type Group = (&'static str, u64, fn(&mut Both, &mut random::Random));
+
+fn main() {
+    let only = std::env::args().nth(1);
+    let groups: Vec<Group> = [files::GROUPS, values::GROUPS, searches::GROUPS].concat();
+    let mut both = Both::new();
+    for (name, runs, run) in groups.iter().filter(|g| only.as_deref().map_or(true, |o| o == g.0)) {
+        let (before, start) = (both.passed, std::time::Instant::now());
+        let seed = name.bytes().fold(0u64, |sum, b| sum.wrapping_mul(31).wrapping_add(b as u64));
+        for k in 0..*runs {
+            both.label = format!("{name}, run {k}");
+            run(&mut both, &mut random::Random(seed.wrapping_add(k << 32)));
+        }
+        println!("{name:<42} {:>9} passed {:>7.1} s", both.passed - before, start.elapsed().as_secs_f64());
+    }
+    if only.is_none() {
+        every_answer_was_seen(&mut both);
+    }
+    println!("{} passed, {} failed", both.passed, both.failed);
+    std::process::exit((both.failed > 0) as i32);
+}
+
+/// The refusals and verdicts that each call can give; one that never came was never compared.
+fn every_answer_was_seen(both: &mut Both) {
+    let expected: [(&str, &[u64], &[u64]); 9] = [
+        ("read_rules", &[1, 2, 3, 4, 5, 6, 7, 15], &[1]),
+        ("write_rules", &[13, 14, 15], &[1]),
+        ("read_wishes", &[8, 9, 10, 15], &[1]),
+        ("write_wishes", &[11, 12, 13, 14, 15], &[1]),
+        ("check", &[11, 12, 13, 14], &[0, 1]),
+        ("search", &[11, 12, 13, 14, 15], &[0, 1]),
+        ("plain", &[13, 14, 15], &[0, 1]),
+        ("nearest", &[11, 12, 13, 14, 15], &[0, 1]),
+        ("rewrite", &[11, 12, 13, 14, 15], &[1]),
+    ];
+    println!("\nanswers seen: refusal number or verdict, and how often");
+    for (call, refusals, verdicts) in expected {
+        let answers = refusals.iter().map(|&r| (r, 0)).chain(verdicts.iter().map(|&v| (0, v)));
+        let mut line = String::new();
+        for (refusal, verdict) in answers {
+            let times = both.seen.remove(&(call, refusal, verdict)).unwrap_or(0);
+            let name = if refusal > 0 { refusal.to_string() } else { ["no", "yes"][verdict as usize].to_string() };
+            line += &format!("  {name}: {times}");
+            both.label = "answers seen".to_string();
+            both.hold(times > 0, || format!("{call} never gave {name}"));
+        }
+        println!("{call:<13}{line}");
+    }
+    let others = format!("{:?}", both.seen);
+    both.hold(both.seen.is_empty(), || format!("answers that document 01 does not have: {others}"));
+}

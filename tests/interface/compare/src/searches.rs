@@ -1,0 +1,189 @@
+//! The searches and rewriting on sound books: the same verdict, count and choice, and both routes alike.
+
+use crate::both::Both;
+use crate::files::rooms;
+use crate::random::{ladder, Random};
+use reference::lent::wish_count;
+use reference::{totalizer, walk};
+
+pub const GROUPS: &[crate::Group] = &[
+    ("searches: tiny books, every d", 4_000, tiny),
+    ("searches: small books, every d", 400, small),
+    ("searches: long and short rules", 300, long_rules),
+    ("searches: thousands of forks", 20, many_forks),
+    ("searches: 64 wishes, d from 0 to 65", 8, many_wishes),
+    ("searches: books of the file's size", 40, plain_large),
+    ("searches: 256 settings, 64 wishes", 60, wished_large),
+    ("searches: the deepest paths", 1, deepest),
+    ("rewriting: every number of wishes", 1, every_count),
+];
+
+/// Rewriting, the writer, the reader and plain search, each on what the one before it left.
+fn second_route(both: &mut Both, n: u64, rules: &[i32], row: &[u8], d: u64) -> bool {
+    let (made, list) = both.rewrite(n, rules, row, d, rules.len() + 18_434);
+    let length = made.value[1] as usize;
+    let (written, file) = both.write_rules(made.value[0], &list[..length], 15 + 5 * length);
+    let (read, list) = both.read_rules(&file[..written.value[0] as usize], length);
+    let (found, choice) = both.plain(read.value[0], &list[..read.value[2] as usize], read.value[0] as usize);
+    let none_refused = [made, written, read, found].iter().all(|a| a.refusal == 0);
+    both.hold(none_refused, || "the second route was refused".to_string());
+    if found.verdict == 1 {
+        let checked = both.check(n, rules, row, &choice[..n as usize]);
+        both.hold(checked.verdict == 1 && checked.value[0] <= d, || {
+            "the second route's choice is not permitted".to_string()
+        });
+    }
+    found.verdict == 1
+}
+
+/// Both routes at each d, and nearest.
+fn routes(both: &mut Both, random: &mut Random, n: usize, rules: &[i32], row: &[u8], ds: &[u64]) {
+    let (near, _) = both.nearest(n as u64, rules, row, n + random.below(3));
+    for &d in ds {
+        let (first, choice) = both.search(n as u64, rules, row, d, n + random.below(3));
+        if first.verdict == 1 {
+            let checked = both.check(n as u64, rules, row, &choice[..n]);
+            both.hold(checked == first, || "the choice found is not what the search says".to_string());
+        }
+        let second = second_route(both, n as u64, rules, row, d);
+        let within = near.verdict == 1 && near.value[0] <= d;
+        both.hold((first.verdict == 1) == within && second == within, || format!("routes differ at d {d}"));
+    }
+}
+
+fn every_d(row: &[u8]) -> Vec<u64> {
+    (0..=wish_count(row) + 1).chain([64]).collect()
+}
+
+fn tiny(both: &mut Both, random: &mut Random) {
+    let n = 1 + random.below(6);
+    let (rules, wishes) = (random.below(4 * n), random.below(n + 1));
+    let (list, row) = (random.book(n, rules, (rules % 7 != 0) as usize, 3.min(n)), random.row(n, wishes));
+    routes(both, random, n, &list, &row, &every_d(&row));
+    let choice = random.choice(n);
+    both.check(n as u64, &list, &row, &choice);
+    for room in rooms(random, n) {
+        both.plain(n as u64, &list, room);
+        both.search(n as u64, &list, &row, 1, room);
+        both.nearest(n as u64, &list, &row, room);
+    }
+}
+
+fn small(both: &mut Both, random: &mut Random) {
+    let n = 7 + random.below(12);
+    let (rules, wishes) = (n * (10 + random.below(40)) / 10, random.below(n + 1));
+    let longest = 2 + random.below(5);
+    let (list, row) = (random.book(n, rules, 2, longest), random.row(n, wishes));
+    routes(both, random, n, &list, &row, &every_d(&row));
+}
+
+/// Rules around ten entries, where the weights stop falling, some with a few short ones beside them. Most
+/// entries are positive, or the first completion would meet them all.
+fn long_rules(both: &mut Both, random: &mut Random) {
+    let n = 14 + random.below(20);
+    let rules = 1 + random.below(2 * n);
+    let mut list = random.book(n, rules, 9, 13);
+    list.iter_mut().for_each(|e| *e = if random.once_in(8) { *e } else { e.abs() });
+    if random.once_in(3) {
+        list.extend(random.book(n, n, 2, 4));
+    }
+    let wishes = random.below(n + 1);
+    let row: Vec<u8> = random.row(n, wishes).iter().map(|&w| if random.once_in(4) { w } else { w & 2 }).collect();
+    both.plain(n as u64, &list, n);
+    both.nearest(n as u64, &list, &row, n);
+    for d in 0..4 {
+        both.search(n as u64, &list, &row, d, n);
+    }
+}
+
+/// Every setting wished, and rules enough to break many wishes.
+fn many_forks(both: &mut Both, random: &mut Random) {
+    let (list, row) = (random.book(64, 180, 3, 3), random.row(64, 64));
+    both.nearest(64, &list, &row, 64);
+}
+
+/// A book and a row on which nearest makes few enough forks for a test.
+fn within_reach(
+    random: &mut Random,
+    most: u64,
+    mut book: impl FnMut(&mut Random) -> (Vec<i32>, Vec<u8>),
+) -> (Vec<i32>, Vec<u8>) {
+    loop {
+        let (list, row) = book(random);
+        if walk::nearest_within(&list, &row, most).is_some() {
+            return (list, row);
+        }
+    }
+}
+
+fn many_wishes(both: &mut Both, random: &mut Random) {
+    let n = random.of(&[64, 70, 100]);
+    let (list, row) = within_reach(random, 1_000, |r| (r.book(n, 2 * n, 3, 4), r.row(n, 64)));
+    both.nearest(n as u64, &list, &row, n);
+    for d in 0..=65 {
+        both.search(n as u64, &list, &row, d, n);
+        both.rewrite(n as u64, &list, &row, d, 38_914);
+    }
+    // plain search may take very long with the counters, so only where it does not
+    let quick = |&d: &u64| {
+        let (settings, rewritten) = totalizer::rewrite(n as u64, &list, &row, d);
+        walk::search_within(&rewritten, &vec![2; settings as usize], 0, 500).is_some()
+    };
+    let ds: Vec<u64> = (0..10).chain([63, 64]).filter(quick).collect();
+    routes(both, random, n, &list, &row, &ds);
+}
+
+fn plain_large(both: &mut Both, random: &mut Random) {
+    let n = random.of(&[300, 640]);
+    let (rules, longest) = random.of(&[(9_000, 5), (6_000, 7), (2_000, 20), (900, 3)]);
+    let mut list = random.book(n, rules, 2.max(longest - 3), longest);
+    while list.len() - rules > 31_000 {
+        list = random.book(n, rules, 2, longest - 1);
+    }
+    both.plain(n as u64, &list, n);
+}
+
+fn wished_large(both: &mut Both, random: &mut Random) {
+    let n = 256;
+    let rules = random.of(&[200, 250, 300, 350]);
+    let (list, row) = within_reach(random, 1_000, |r| (r.book(n, rules, 3, 5), r.row(n, 64)));
+    let (near, _) = both.nearest(n as u64, &list, &row, n);
+    for d in near.value[0].saturating_sub(2)..near.value[0] + 2 {
+        both.search(n as u64, &list, &row, d, n);
+    }
+    let dense = random.book(n, 4_096, 3, 5);
+    for d in 0..2 {
+        both.search(n as u64, &dense, &row, d, n);
+    }
+    let choice = random.choice(n);
+    both.check(n as u64, &dense, &row, &choice);
+    both.check(n as u64, &list, &row, &choice);
+}
+
+fn deepest(both: &mut Both, _: &mut Random) {
+    let list = ladder(640);
+    let made = walk::search(&list, &[2; 640], 0);
+    both.hold(made.deepest == 639, || format!("{} forks on a path, not 639", made.deepest));
+    both.plain(640, &list, 640);
+    // with a row: 64 wishes that the path breaks, and that it keeps
+    let list = ladder(256);
+    for (wish, d) in [(0, 64), (1, 0), (2, 0)] {
+        let mut row = vec![2; 256];
+        row[..64].fill(wish);
+        let made = walk::search(&list, &row, d);
+        both.hold(made.deepest == 255, || format!("{} forks on a path, not 255", made.deepest));
+        both.search(256, &list, &row, d, 256);
+        if d == 0 {
+            both.nearest(256, &list, &row, 256);
+        }
+    }
+}
+
+fn every_count(both: &mut Both, random: &mut Random) {
+    for wishes in 0..=64 {
+        let row = random.row(64 + wishes, wishes);
+        for d in [0, 1, wishes.saturating_sub(1), wishes, 64] {
+            both.rewrite(row.len() as u64, &[1, -2, 0, 0], &row, d as u64, 18_434 + 4);
+        }
+    }
+}

@@ -1,0 +1,203 @@
+//! Lent values: every fault, and several at once, so that their order is compared.
+
+use crate::both::Both;
+use crate::files::a_room;
+use crate::random::Random;
+
+pub const GROUPS: &[crate::Group] = &[
+    ("values: all lists to length 5", 1, all_lists),
+    ("values: all rows to length 4", 1, all_rows),
+    ("values: some faults", 60_000, faults),
+    ("values: huge n and d", 1, huge),
+    ("values: limits", 1, limits),
+    ("values: very long buffers", 1, very_long),
+    ("values: empty buffers", 1, empty),
+];
+
+/// Every call that takes rules, with rooms that suffice and do not.
+fn every_call(both: &mut Both, random: &mut Random, n: u64, rules: &[i32], row: &[u8], d: u64, choice: &[u8]) {
+    let enough = n.min(700) as usize;
+    let room = a_room(random, enough);
+    both.write_wishes(n, row, d, 1_000);
+    both.check(n, rules, row, choice);
+    both.search(n, rules, row, d, room);
+    both.plain(n, rules, room);
+    both.nearest(n, rules, row, room);
+    let (written, _) = both.write_rules(n, rules, rules.len() * 5 + 30);
+    let (made, _) = both.rewrite(n, rules, row, d, rules.len() + 20_000);
+    let (wished, _) = both.write_wishes(n, row, d, 1_000);
+    for _ in 0..2 {
+        let room = a_room(random, written.value[0] as usize);
+        both.write_rules(n, rules, room);
+        let room = a_room(random, made.value[1] as usize);
+        both.rewrite(n, rules, row, d, room);
+        let room = a_room(random, wished.value[0] as usize);
+        both.write_wishes(n, row, d, room);
+    }
+}
+
+/// All lists of the given length over the given values.
+fn lists(length: usize, values: &[i32]) -> Vec<Vec<i32>> {
+    (0..length).fold(vec![vec![]], |shorter, _| {
+        let longer = |list: &Vec<i32>| values.iter().map(|&v| [list.clone(), vec![v]].concat()).collect::<Vec<_>>();
+        shorter.iter().flat_map(longer).collect()
+    })
+}
+
+fn all_lists(both: &mut Both, random: &mut Random) {
+    for length in 0..=5 {
+        for list in lists(length, &[0, 1, -1, 2, -2, 3]) {
+            let row = random.of(&[[0, 0], [0, 1], [1, 2], [2, 2]]);
+            every_call(both, random, 2, &list, &row, (length % 3) as u64, &[0, 1]);
+        }
+    }
+}
+
+fn all_rows(both: &mut Both, random: &mut Random) {
+    for length in 0..=4 {
+        for row in lists(length, &[0, 1, 2, 3, 255]) {
+            let row: Vec<u8> = row.iter().map(|&w| w as u8).collect();
+            for n in [2, 3] {
+                every_call(both, random, n, &[1, 2, 0, -1, -2, 0], &row, 1, &[1, 0, 0][..n as usize]);
+                every_call(both, random, n, &[1, 2, 0], &[0, 1, 2][..n as usize], 1, &row);
+            }
+        }
+    }
+}
+
+/// Sound values, of which each may then be made unsound.
+fn faults(both: &mut Both, random: &mut Random) {
+    let mut n = random.of(&[1, 2, 3, 5, 8, 20, 64, 65, 255, 256, 257, 640]);
+    let rules = random.below(8);
+    let mut list = random.book(n, rules, 0, 4.min(n));
+    let wishes = random.of(&[0, 1, 3, 8, 63, 64, 65]);
+    let mut row = random.row(n, wishes);
+    let mut choice = random.choice(n);
+    let mut d = random.of(&[0, 1, 2, 63, 64]);
+    if random.once_in(3) {
+        random.damage_list(n, &mut list);
+    }
+    if random.once_in(3) {
+        random.damage_row(&mut row);
+    }
+    if random.once_in(3) {
+        random.damage_row(&mut choice);
+    }
+    if random.once_in(6) {
+        d = random.of(&[65, 66, 256, 1 << 32, 1 << 63, u64::MAX]);
+    }
+    if random.once_in(6) {
+        n = random.of(&[0, 1, n + 1, 641, 1_000, 1 << 32]);
+    }
+    every_call(both, random, n as u64, &list, &row, d, &choice);
+}
+
+fn huge(both: &mut Both, random: &mut Random) {
+    let ns = [0, 1, 2, 640, 641, 1 << 31, 1 << 32, (1 << 32) + 2, 1 << 63, (1 << 63) + 2, u64::MAX - 1, u64::MAX];
+    let ds = [0, 1, 64, 65, 255, 256, 1 << 32, (1 << 32) + 1, 1 << 63, u64::MAX];
+    for n in ns {
+        for d in ds {
+            for list in [&[][..], &[1, 2, 0], &[1, 2], &[i32::MIN, 0], &[i32::MAX, 0]] {
+                for row in [&[0, 1][..], &[0], &[3, 0], &[]] {
+                    every_call(both, random, n, list, row, d, &[0, 1]);
+                }
+            }
+        }
+    }
+}
+
+fn limits(both: &mut Both, random: &mut Random) {
+    // 4,096 rules and 16,384 entries with a row, and one more of each; the 9,000 and 31,000 without
+    let book = |rules: usize, entries: usize| -> Vec<i32> {
+        let (each, more) = (entries / rules, entries % rules);
+        (0..rules).flat_map(|r| (1..=(each + (r < more) as usize) as i32).chain([0])).collect()
+    };
+    for (rules, entries) in [
+        (4_096, 16_384),
+        (4_097, 16_384),
+        (4_096, 16_385),
+        (4_097, 16_385),
+        (9_000, 31_000),
+        (9_001, 31_000),
+        (9_000, 31_001),
+    ] {
+        let list = book(rules, entries);
+        for n in [255, 256, 257, 640] {
+            for wishes in [0, 1, 64] {
+                for d in [0, 63, 64] {
+                    let (row, choice) = (random.row(n, wishes), random.choice(n));
+                    every_call(both, random, n as u64, &list, &row, d, &choice);
+                }
+            }
+        }
+        for n in [1, 3, 4] {
+            every_call(both, random, n, &list, &vec![2; n as usize], 0, &vec![1; n as usize]);
+        }
+    }
+    // empty rules, closed up to the limit and past it, with and without the last zero
+    for closed in [4_095, 4_096, 4_097, 8_999, 9_000, 9_001] {
+        let mut list = vec![0; closed];
+        every_call(both, random, 3, &list, &[0, 2, 1], 1, &[1, 1, 1]);
+        list.push(2);
+        every_call(both, random, 3, &list, &[0, 2, 1], 1, &[1, 1, 1]);
+        list.push(-2);
+        every_call(both, random, 3, &list, &[0, 2, 1], 1, &[1, 1, 1]);
+    }
+    // the wishes: 63 to 66, at both ends of the row, and rows longer than any n
+    for n in [64, 65, 66, 256, 257, 640, 1_000] {
+        for wishes in [63, 64, 65, 66] {
+            let mut row = vec![2; n];
+            row[..wishes.min(n)].fill(0);
+            every_call(both, random, n.min(640) as u64, &[1, 0], &row, 64, &vec![0; n.min(640)]);
+            row.reverse();
+            every_call(both, random, n.min(640) as u64, &[1, 0], &row, 64, &vec![0; n.min(640)]);
+        }
+    }
+}
+
+/// Far past every limit.
+fn very_long(both: &mut Both, random: &mut Random) {
+    let (zeros, bytes) = (vec![0; 200_000], vec![2; 200_000]);
+    let ones: Vec<i32> = (0..200_000).map(|k| k % 2).collect();
+    for n in [1, 256, 640] {
+        let few = vec![2; n as usize];
+        for list in [&zeros, &ones] {
+            every_call(both, random, n, list, &few, 0, &few);
+        }
+        every_call(both, random, n, &[1, 0], &bytes, 0, &few);
+        every_call(both, random, n, &[1, 0], &few, 0, &vec![1; 200_000]);
+        both.plain(n, &[1, 0], 200_000);
+        both.search(n, &[1, 0], &few, 0, 200_000);
+    }
+    for byte in *b" \nc0" {
+        let body = vec![byte; 500_000];
+        both.read_rules(&body, 10);
+        both.read_rules(&[b"p cnf 1 1\n1 0", &body[..]].concat(), 10);
+        both.read_rules(&[b"c", &body[..], b"\np cnf 1 1\n1 0"].concat(), 10);
+        both.read_wishes(&body, 10);
+        both.read_wishes(&[b"    1    0    0\n", &body[..]].concat(), 10);
+    }
+}
+
+/// A buffer of length 0 stands at a page that may not be touched.
+fn empty(both: &mut Both, random: &mut Random) {
+    both.read_rules(&[], 0);
+    both.read_rules(b"p cnf 1 0\n", 0);
+    both.read_wishes(&[], 0);
+    both.read_wishes(b"    1    0    0\n", 0);
+    for n in [0, 1, 2, 640, 641] {
+        for list in [&[][..], &[0], &[1, 0]] {
+            for row in [&[][..], &[2], &[1]] {
+                for choice in [&[][..], &[0], &[2]] {
+                    every_call(both, random, n, list, row, 0, choice);
+                }
+            }
+            both.write_rules(n, list, 0);
+            both.plain(n, list, 0);
+            both.search(n, list, &[1], 0, 0);
+            both.nearest(n, list, &[1], 0);
+            both.rewrite(n, list, &[1], 0, 0);
+            both.write_wishes(n, &[1], 0, 0);
+        }
+    }
+}

@@ -1,0 +1,287 @@
+/* The calls from C: document 01's examples, each call on its largest and deepest input, the stack that each
+ * takes, and several threads at once. Also compiled as C++. */
+#include "powhanire.h"
+
+#include <pthread.h>
+#include <stdio.h>
+#include <stdlib.h>
+#include <string.h>
+#include <sys/mman.h>
+#include <sys/resource.h>
+#include <ucontext.h>
+
+typedef powhanire_answer answer;
+
+static unsigned long passed, failed;
+
+static void expect(int holds, const char *what) {
+    if (holds) {
+        passed++;
+        return;
+    }
+    failed++;
+    if (failed <= 20)
+        printf("FAILED %s\n", what);
+}
+
+static void is(const char *what, answer a, uint64_t refusal, uint64_t place, uint64_t verdict, uint64_t v0,
+               uint64_t v1, uint64_t v2) {
+    int same = a.refusal == refusal && a.place == place && a.verdict == verdict && a.value[0] == v0 &&
+               a.value[1] == v1 && a.value[2] == v2;
+    expect(same, what);
+    if (!same && failed <= 20)
+        printf("  got %lu at %lu, verdict %lu, values %lu %lu %lu\n", (unsigned long)a.refusal,
+               (unsigned long)a.place, (unsigned long)a.verdict, (unsigned long)a.value[0],
+               (unsigned long)a.value[1], (unsigned long)a.value[2]);
+}
+
+/* ---- buffers of the sizes that the header says always suffice ---- */
+
+enum { RULES = 40000, RULE_FILE = 173015, WISH_FILE = 720, REWRITTEN = 38914 };
+
+static int32_t out_rules[RULES], out_rewritten[REWRITTEN];
+static uint8_t out_file[RULE_FILE], out_row[256], out_wishes[WISH_FILE], out_choice[640];
+
+/* ---- document 01's examples ---- */
+
+static void rule_file(const char *text, uint64_t refusal, uint64_t place) {
+    answer a = powhanire_read_rules((const uint8_t *)text, strlen(text), out_rules, RULES);
+    is(text, a, refusal, place, refusal == 0, a.value[0], a.value[1], a.value[2]);
+}
+
+static void examples(void) {
+    static const int32_t one_or_two[] = {1, 2, 0}, empty_rule[] = {0};
+    static const uint8_t both_off[] = {0, 0}, on[] = {1};
+    uint8_t choice[3] = {9, 9, 9};
+
+    is("limit 0 none", powhanire_search(2, one_or_two, 3, both_off, 2, 0, choice, 2), 0, 0, 0, 0, 0, 0);
+    expect(choice[0] == 9 && choice[1] == 9, "none leaves the choice");
+    is("limit 1 found", powhanire_search(2, one_or_two, 3, both_off, 2, 1, choice, 3), 0, 0, 1, 1, 0, 0);
+    expect(choice[0] + choice[1] == 1 && choice[2] == 9, "one of the two is on, and what lies past stays");
+    is("nearest 1", powhanire_nearest(2, one_or_two, 3, both_off, 2, choice, 2), 0, 0, 1, 1, 0, 0);
+    expect(choice[0] + choice[1] == 1, "one of the two is on");
+    is("it is met", powhanire_check(2, one_or_two, 3, both_off, 2, choice, 2), 0, 0, 1, 1, 0, 0);
+    is("plain", powhanire_plain(2, one_or_two, 3, choice, 2), 0, 0, 1, 0, 0, 0);
+    is("empty rule", powhanire_nearest(2, empty_rule, 1, both_off, 2, choice, 2), 0, 0, 0, 0, 0, 0);
+    is("no rules", powhanire_search(1, one_or_two, 0, on, 1, 0, choice, 1), 0, 0, 1, 0, 0, 0);
+    expect(choice[0] == 1, "the wish is kept");
+    is("d = 64", powhanire_search(1, one_or_two, 0, on, 1, 64, choice, 1), 0, 0, 1, 0, 0, 0);
+    is("d = 65", powhanire_search(1, one_or_two, 0, on, 1, 65, choice, 1), 14, 0, 0, 0, 0, 0);
+    is("choice too short", powhanire_plain(2, one_or_two, 3, choice, 1), 15, 2, 0, 0, 0, 0);
+
+    rule_file("p cnf 0 0\n", 2, 0);
+    rule_file("p cnf 0 0", 1, 0);
+    rule_file("p cnf 640 0\n", 0, 0);
+    rule_file("p cnf 641 0\n", 2, 0);
+    rule_file("", 1, 0);
+    rule_file("p cnf 1 1\n-0 0", 3, 10);
+    rule_file("p cnf 1 1\n2 0", 4, 10);
+    rule_file("p cnf 1 1\n1 -1 0", 5, 12);
+    rule_file("p cnf 1 1\n1", 6, 11);
+    is("15 bytes", powhanire_read_wishes((const uint8_t *)"    1    0    0", 15, out_row, 256), 8, 0, 0, 0, 0, 0);
+
+    /* a pointer lent with length 0 is not followed */
+    is("no file", powhanire_read_rules(NULL, 0, NULL, 0), 1, 0, 0, 0, 0, 0);
+    is("no list", powhanire_plain(1, NULL, 0, choice, 1), 0, 0, 1, 0, 0, 0);
+    is("no room", powhanire_rewrite(1, one_or_two, 0, on, 1, 0, NULL, 0), 15, 2, 0, 0, 0, 0);
+    is("no row", powhanire_check(1, NULL, 0, NULL, 0, NULL, 0), 11, 0, 0, 0, 0, 0);
+}
+
+/* The rewriting program's example, through five calls. */
+static void rewriting_example(void) {
+    static const char rules[] = "p cnf 2 1\n1 2 0\n";
+    static const char wishes[] = "    2    2    1\n    1    0\n    2    0\n";
+    static const char printed[] = "p cnf 4 8\n1 2 0\n1 2 -3 0\n-2 3 0\n1 -4 0\n-1 3 0\n2 -4 0\n-1 -2 4 0\n-4 0\n";
+    answer r = powhanire_read_rules((const uint8_t *)rules, strlen(rules), out_rules, RULES);
+    answer w = powhanire_read_wishes((const uint8_t *)wishes, strlen(wishes), out_row, 256);
+    answer m, f, back;
+    is("rules read", r, 0, 0, 1, 2, 1, 3);
+    is("wishes read", w, 0, 0, 1, 2, 2, 1);
+    m = powhanire_rewrite(r.value[0], out_rules, r.value[2], out_row, w.value[0], w.value[2], out_rewritten, REWRITTEN);
+    is("rewritten", m, 0, 0, 1, 4, 25, 0);
+    f = powhanire_write_rules(m.value[0], out_rewritten, m.value[1], out_file, RULE_FILE);
+    is("written", f, 0, 0, 1, strlen(printed), 0, 0);
+    expect(memcmp(out_file, printed, strlen(printed)) == 0, "the printed file");
+    back = powhanire_write_wishes(w.value[0], out_row, w.value[0], w.value[2], out_wishes, WISH_FILE);
+    is("wishes written", back, 0, 0, 1, strlen(wishes), 0, 0);
+    expect(memcmp(out_wishes, wishes, strlen(wishes)) == 0, "the wish file again");
+}
+
+/* ---- the largest and the deepest inputs ---- */
+
+/* A search makes n - 1 forks on one path of this book, as many as there can be: a fork settles one setting,
+ * and needs two unsettled. compare counts them. */
+static size_t ladder(int32_t n, int32_t *list) {
+    size_t length = 0;
+    for (int32_t i = 1; i < n; i++)
+        for (int32_t j = i + 1; j <= n && j <= i + 4; j++) {
+            if (i > 1)
+                list[length++] = 1 - i;
+            list[length++] = i;
+            list[length++] = j;
+            list[length++] = 0;
+        }
+    return length;
+}
+
+/* `rules` rules with `entries` entries in all, among the 190 settings up to `highest`, each to be off. */
+static size_t full(size_t rules, size_t entries, int32_t highest, int32_t *list) {
+    size_t length = 0;
+    for (size_t r = 0; r < rules; r++) {
+        size_t own = entries / rules + (r < entries % rules);
+        for (size_t k = 0; k < own; k++)
+            list[length++] = -highest + (int32_t)((k + r) % 190);
+        list[length++] = 0;
+    }
+    return length;
+}
+
+static int32_t ladder640[RULES], ladder256[RULES], full640[RULES], full256[RULES];
+static size_t ladder640_len, ladder256_len, full640_len, full256_len;
+static uint8_t full_file[RULE_FILE], wish_file[WISH_FILE], off64[256], on64[256], last64[256], choice256[256];
+static answer result;
+
+static void build(void) {
+    ladder640_len = ladder(640, ladder640);
+    ladder256_len = ladder(256, ladder256);
+    full640_len = full(9000, 31000, 640, full640);
+    full256_len = full(4096, 16384, 256, full256);
+    memset(off64, 2, 256);
+    memset(on64, 2, 256);
+    memset(last64, 2, 256);
+    memset(off64, 0, 64);
+    memset(on64, 1, 64);
+    memset(last64 + 192, 0, 64);
+    is("longest rule file", powhanire_write_rules(640, full640, full640_len, full_file, RULE_FILE), 0, 0, 1, RULE_FILE, 0, 0);
+    is("longest wish file", powhanire_write_wishes(256, off64, 256, 64, wish_file, WISH_FILE), 0, 0, 1, WISH_FILE, 0, 0);
+}
+
+static void read_rules(void) { result = powhanire_read_rules(full_file, RULE_FILE, out_rules, RULES); }
+static void write_rules(void) { result = powhanire_write_rules(640, full640, full640_len, out_file, RULE_FILE); }
+static void read_wishes(void) { result = powhanire_read_wishes(wish_file, WISH_FILE, out_row, 256); }
+static void write_wishes(void) { result = powhanire_write_wishes(256, off64, 256, 64, out_wishes, WISH_FILE); }
+static void check(void) { result = powhanire_check(256, full256, full256_len, on64, 256, choice256, 256); }
+static void search_deep(void) { result = powhanire_search(256, ladder256, ladder256_len, off64, 256, 64, out_choice, 256); }
+static void search_last(void) { result = powhanire_search(256, ladder256, ladder256_len, last64, 256, 64, out_choice, 256); }
+static void search_full(void) { result = powhanire_search(256, full256, full256_len, on64, 256, 64, out_choice, 256); }
+static void plain_deep(void) { result = powhanire_plain(640, ladder640, ladder640_len, out_choice, 640); }
+static void plain_half(void) { result = powhanire_plain(256, ladder256, ladder256_len, out_choice, 256); }
+static void plain_full(void) { result = powhanire_plain(640, full640, full640_len, out_choice, 640); }
+static void nearest_deep(void) { result = powhanire_nearest(256, ladder256, ladder256_len, on64, 256, out_choice, 256); }
+static void nearest_full(void) { result = powhanire_nearest(256, full256, full256_len, on64, 256, out_choice, 256); }
+static void rewrite(void) { result = powhanire_rewrite(256, full256, full256_len, off64, 256, 0, out_rewritten, REWRITTEN); }
+
+/* With each call its input, its answer, and the stack that include/powhanire.h says it takes at most. */
+static const struct {
+    const char *call, *input;
+    void (*run)(void);
+    uint64_t value[3];
+    size_t said;
+} largest[] = {
+    {"read_rules", "640 settings, 9,000 rules, 31,000 entries", read_rules, {640, 9000, 40000}, 4096},
+    {"write_rules", "640 settings, 9,000 rules, 31,000 entries", write_rules, {RULE_FILE, 0, 0}, 4096},
+    {"read_wishes", "256 settings, 64 wishes", read_wishes, {256, 64, 64}, 4096},
+    {"write_wishes", "256 settings, 64 wishes", write_wishes, {WISH_FILE, 0, 0}, 4096},
+    {"check", "256 settings, 4,096 rules, 16,384 entries", check, {64, 0, 0}, 4096},
+    {"rewrite", "the same, 64 wishes", rewrite, {640, REWRITTEN, 0}, 4096},
+    {"search", "the same, 64 wishes", search_full, {0, 0, 0}, 150000},
+    {"nearest", "the same, 64 wishes", nearest_full, {0, 0, 0}, 150000},
+    {"plain", "640 settings, 9,000 rules, 31,000 entries", plain_full, {0, 0, 0}, 340000},
+    {"search", "255 forks on a path, its first 64 wished off", search_deep, {64, 0, 0}, 150000},
+    {"search", "255 forks on a path, its last 64 wished off", search_last, {63, 0, 0}, 150000},
+    {"nearest", "255 forks on a path, its first 64 wished on", nearest_deep, {0, 0, 0}, 150000},
+    {"plain", "255 forks on a path", plain_half, {0, 0, 0}, 340000},
+    {"plain", "639 forks on a path, the most there can be", plain_deep, {0, 0, 0}, 340000},
+};
+
+/* ---- the stack that a call takes: the lowest byte that it changed of a painted stack of 1 MB ---- */
+
+enum { STACK = 1 << 20, PAGE = 4096, PAINT = 0xa5 };
+
+static uint8_t *stack, *entry;
+static ucontext_t here, there;
+static void (*running)(void);
+
+static void on_painted_stack(void) {
+    entry = (uint8_t *)__builtin_frame_address(0);
+    running();
+}
+
+static size_t stack_taken(void (*run)(void)) {
+    size_t lowest = 0;
+    memset(stack, PAINT, STACK);
+    running = run;
+    getcontext(&there);
+    there.uc_stack.ss_sp = stack;
+    there.uc_stack.ss_size = STACK;
+    there.uc_link = &here;
+    makecontext(&there, on_painted_stack, 0);
+    swapcontext(&here, &there);
+    while (stack[lowest] == PAINT)
+        lowest++;
+    return (size_t)(entry - (stack + lowest));
+}
+
+static void run_largest(void) {
+    uint8_t *pages = (uint8_t *)mmap(NULL, STACK + PAGE, PROT_READ | PROT_WRITE, MAP_PRIVATE | MAP_ANONYMOUS, -1, 0);
+    if (pages == MAP_FAILED || mprotect(pages, PAGE, PROT_NONE) != 0)
+        abort();
+    stack = pages + PAGE; /* below it lies a page that may not be touched */
+    printf("%-14s %-48s %s\n", "call", "input", "bytes of stack");
+    for (size_t k = 0; k < sizeof largest / sizeof *largest; k++) {
+        const uint64_t *v = largest[k].value;
+        size_t taken;
+        memset(&result, 0xff, sizeof result);
+        largest[k].run();
+        is(largest[k].input, result, 0, 0, 1, v[0], v[1], v[2]);
+        memset(&result, 0xff, sizeof result);
+        taken = stack_taken(largest[k].run);
+        is(largest[k].input, result, 0, 0, 1, v[0], v[1], v[2]);
+        expect(taken <= largest[k].said, "the stack that the header names");
+        printf("%-14s %-48s %8lu\n", largest[k].call, largest[k].input, (unsigned long)taken);
+    }
+}
+
+/* ---- threads: searches at once on separate buffers ---- */
+
+typedef struct {
+    uint8_t choice[256];
+    int alike;
+} work;
+
+static void *search_often(void *given) {
+    work *own = (work *)given;
+    own->alike = 1;
+    for (int k = 0; k < 20; k++) {
+        answer a;
+        memset(own->choice, 9, 256);
+        a = powhanire_search(256, ladder256, ladder256_len, off64, 256, 64, own->choice, 256);
+        own->alike &= a.refusal == 0 && a.verdict == 1 && a.value[0] == 64 && memcmp(own->choice, out_choice, 256) == 0;
+    }
+    return NULL;
+}
+
+static void threads(void) {
+    enum { THREADS = 4 };
+    static work works[THREADS];
+    pthread_t ids[THREADS];
+    search_deep(); /* leaves in out_choice what each thread is to find */
+    for (int k = 0; k < THREADS; k++)
+        expect(pthread_create(&ids[k], NULL, search_often, &works[k]) == 0, "a thread starts");
+    for (int k = 0; k < THREADS; k++) {
+        pthread_join(ids[k], NULL);
+        expect(works[k].alike, "a thread finds what a lone call finds");
+    }
+}
+
+int main(void) {
+    struct rlimit limit;
+    expect(getrlimit(RLIMIT_STACK, &limit) == 0 && limit.rlim_cur <= STACK, "run under `ulimit -s 1024`");
+    examples();
+    rewriting_example();
+    build();
+    run_largest();
+    threads();
+    printf("%lu passed, %lu failed\n", passed, failed);
+    return failed > 0;
+}

@@ -1,0 +1,199 @@
+//! The reference held to document 01: its examples, and all choices of small books by brute force.
+
+use reference::walk::{broken, met};
+use reference::*;
+
+fn brief(a: Answer) -> (u64, u64) {
+    (a.refusal, a.place)
+}
+
+fn read(file: &str) -> (Answer, Vec<i32>) {
+    let mut rules = vec![0; 40_000];
+    let a = read_rules(file.as_bytes(), &mut rules);
+    rules.truncate(a.value[2] as usize);
+    (a, rules)
+}
+
+#[test]
+fn examples() {
+    let mut c = [9; 2];
+    assert_eq!(nearest(2, &[1, 2, 0], &[0, 0], &mut c).value[0], 1);
+    let mut c = [9; 2];
+    assert_eq!(search(2, &[1, 2, 0], &[0, 0], 0, &mut c).verdict, 0);
+    assert_eq!(c, [9; 2]);
+    assert_eq!(search(2, &[1, 2, 0], &[0, 0], 1, &mut c), Answer { verdict: 1, value: [1, 0, 0], ..Answer::default() });
+    assert_eq!(nearest(2, &[0], &[0, 0], &mut c), Answer::default());
+    assert_eq!(search(1, &[], &[1], 0, &mut c[..1]).verdict, 1);
+    assert_eq!(c[0], 1);
+    for (file, refusal, place) in [
+        ("p cnf 0 0\n", 2, 0),
+        ("p cnf 0 0", 1, 0),
+        ("p cnf 640 0\n", 0, 0),
+        ("p cnf 641 0\n", 2, 0),
+        ("", 1, 0),
+        ("p cnf 1 1\n-0 0", 3, 10),
+        ("p cnf 1 1\n2 0", 4, 10),
+        ("p cnf 1 1\n1 -1 0", 5, 12),
+        ("p cnf 1 1\n1", 6, 11),
+        ("c one\nc two", 1, 11),
+        ("c one\n\np cnf 1 0\n", 1, 6),
+    ] {
+        assert_eq!(brief(read(file).0), (refusal, place), "{file:?}");
+    }
+    assert_eq!(brief(read_wishes(&[b' '; 15], &mut [])), (8, 0));
+    assert_eq!(brief(search(1, &[], &[1], 64, &mut c)), (0, 0));
+    assert_eq!(brief(search(1, &[], &[1], 65, &mut c)), (14, 0));
+}
+
+#[test]
+fn example_of_rewriting() {
+    let (a, rules) = read("p cnf 2 1\n1 2 0\n");
+    let mut row = [9; 256];
+    let w = read_wishes(b"    2    2    1\n    1    0\n    2    0\n", &mut row);
+    assert_eq!(w.value, [2, 2, 1]);
+    let mut list = vec![0; 38_914];
+    let r = rewrite(a.value[0], &rules, &row[..2], w.value[2], &mut list);
+    let mut file = vec![0; 200];
+    let f = write_rules(r.value[0], &list[..r.value[1] as usize], &mut file);
+    let printed = "p cnf 4 8\n1 2 0\n1 2 -3 0\n-2 3 0\n1 -4 0\n-1 3 0\n2 -4 0\n-1 -2 4 0\n-4 0\n";
+    assert_eq!(&file[..f.value[0] as usize], printed.as_bytes());
+}
+
+#[test]
+fn sizes_of_rewriting() {
+    for (wishes, settings, rules, length) in [(64, 384, 4_800, 18_432), (3, 5, 16, 54), (1, 0, 0, 0), (0, 0, 0, 0)] {
+        let mut row = vec![1; wishes];
+        row.resize(256, 2);
+        let (total, list) = totalizer::rewrite(256, &[], &row, 64);
+        let closed = list.iter().filter(|&&e| e == 0).count();
+        assert_eq!((total - 256, closed), (settings, rules));
+        assert_eq!(list.len(), length);
+        let (_, limited) = totalizer::rewrite(256, &[], &row, 0);
+        assert_eq!(limited.len(), length + 2 * wishes.min(1));
+    }
+}
+
+/// A small generator with a fixed start, so that a failure comes again.
+struct Random(u64);
+
+impl Random {
+    fn below(&mut self, bound: u64) -> u64 {
+        self.0 = self.0.wrapping_mul(6364136223846793005).wrapping_add(1442695040888963407);
+        (self.0 >> 33) % bound
+    }
+
+    fn book(&mut self, n: u64) -> Vec<i32> {
+        let mut list = Vec::new();
+        for _ in 0..self.below(3 * n + 3) {
+            let mut rule: Vec<i32> = Vec::new();
+            for _ in 0..1 + self.below(4) {
+                let v = 1 + self.below(n) as i32;
+                if rule.iter().all(|e| e.abs() != v) {
+                    rule.push(if self.below(2) == 0 { v } else { -v });
+                }
+            }
+            list.extend(rule);
+            list.push(0);
+        }
+        list
+    }
+
+    fn row(&mut self, n: u64) -> Vec<u8> {
+        (0..n).map(|_| self.below(3) as u8).collect()
+    }
+}
+
+fn choices(n: usize) -> impl Iterator<Item = Vec<u8>> {
+    (0u32..1 << n).map(move |bits| (0..n).map(|v| (bits >> v & 1) as u8).collect())
+}
+
+#[test]
+fn searches_by_brute_force() {
+    let mut random = Random(1);
+    for _ in 0..3_000 {
+        let n = 1 + random.below(7);
+        let (rules, row) = (random.book(n), random.row(n));
+        let least = choices(n as usize).filter(|c| met(&rules, c)).map(|c| broken(&row, &c)).min();
+        for d in 0..=n {
+            let mut c = vec![9; n as usize];
+            let a = search(n, &rules, &row, d, &mut c);
+            assert_eq!(a.verdict == 1, least.is_some_and(|b| b <= d));
+            if a.verdict == 1 {
+                assert!(met(&rules, &c) && broken(&row, &c) == a.value[0] && a.value[0] <= d);
+                assert_eq!(check(n, &rules, &row, &c), a);
+            } else {
+                assert!(c.iter().all(|&b| b == 9));
+            }
+        }
+        let mut c = vec![9; n as usize];
+        let a = nearest(n, &rules, &row, &mut c);
+        assert_eq!((a.verdict == 1).then_some(a.value[0]), least);
+        assert_eq!(plain(n, &rules, &mut c).verdict == 1, least.is_some());
+    }
+}
+
+/// Gathers each group's outputs with its leaves, in the order in which settings are numbered.
+fn groups(leaves: &[i32], next: &mut i32, found: &mut Vec<(Vec<i32>, i32)>) {
+    if leaves.len() > 1 {
+        let (left, right) = leaves.split_at(leaves.len() / 2);
+        groups(left, next, found);
+        groups(right, next, found);
+        found.push((leaves.to_vec(), *next));
+        *next += leaves.len() as i32;
+    }
+}
+
+#[test]
+fn completions_are_unique() {
+    let mut random = Random(2);
+    for _ in 0..300 {
+        let n = 1 + random.below(4);
+        let (rules, row, d) = (random.book(n), random.row(n), random.below(5));
+        let (settings, list) = totalizer::rewrite(n, &rules, &row, d);
+        let leaves: Vec<i32> = (0..n as usize)
+            .filter(|&v| row[v] != 2)
+            .map(|v| if row[v] == 0 { v as i32 + 1 } else { -(v as i32 + 1) })
+            .collect();
+        let mut found = Vec::new();
+        groups(&leaves, &mut (n as i32 + 1), &mut found);
+        for choice in choices(n as usize) {
+            let mut expected = choice.clone();
+            for (leaves, _) in &found {
+                let holding =
+                    leaves.iter().filter(|&&e| (choice[e.unsigned_abs() as usize - 1] == 1) == (e > 0)).count();
+                expected.extend((1..=leaves.len()).map(|k| (holding >= k) as u8));
+            }
+            let all: Vec<Vec<u8>> = choices(settings as usize - n as usize)
+                .map(|added| [choice.clone(), added].concat())
+                .filter(|c| met(&list, c))
+                .collect();
+            let within = met(&rules, &choice) && broken(&row, &choice) <= d;
+            assert_eq!(all, if within { vec![expected] } else { vec![] });
+        }
+    }
+}
+
+#[test]
+fn files_come_back() {
+    let mut random = Random(3);
+    for _ in 0..2_000 {
+        let n = 1 + random.below(12);
+        let (rules, row, d) = (random.book(n), random.row(n), random.below(65));
+        let text = rule_file::write(n, &rules);
+        let book = rule_file::read(&text).unwrap();
+        assert_eq!((book.n, &book.list), (n, &rules));
+        assert_eq!(rule_file::write(book.n, &book.list), text);
+        let text = wish_file::write(&row, d);
+        assert_eq!(text.len() as u64, 16 + 11 * lent::wish_count(&row));
+        assert_eq!(wish_file::read(&text).unwrap(), wish_file::Wishes { row, d });
+    }
+}
+
+#[test]
+fn longest_rule_file() {
+    // 9,000 rules, 31,000 entries, each the longest there is
+    let rule = |length: i32| (0..length).map(|k| -100 - k).chain([0]);
+    let list: Vec<i32> = (0..9_000).flat_map(|r| rule(3 + (r < 4_000) as i32)).collect();
+    assert_eq!(list.len(), 40_000);
+    assert_eq!(rule_file::write(640, &list).len(), 173_015);
+}
