@@ -1,9 +1,8 @@
-// Whether a search may start: the first cause to refuse what it was lent, if there is one.
+// Whether a search or rewriting may start: the first cause to refuse what it was lent, if there is one.
 use lent::Problem;
 use lent::RuleScan;
 use refusal::Verdict;
 ghost use mathlib.Core.Path.{_≡_};
-ghost use Prim.Native.Nat.{_≤_};
 ghost use Rattle.refusal.specs.Reply.{refused, first, tooShort};
 ghost use Rattle.lent.specs.Lent.{refusalOf};
 ghost use Rattle.searches.specs.Searches.{lentToSearch, lentToPlain};

@@ -19,7 +19,8 @@ pub struct End {
     pub at: usize,
 }
 
-// How many elements the clauses over m leaves take, with the limit clause if d is below m.
+// How many elements the clauses over m leaves take, with the limit clause if d is below m: by a
+// formula, since nothing is written yet. The bound lets callers add to it.
 pub fn length_of(m: usize, d: usize) -> usize
     requires { ⌜ m ≤ maxWishes ⌝ }
     ensures { λ r. ⌜ ((n : ℕ) (l : List ℤ) → length l ≡ m → r ≡ length (flat (atMost n l d))) × (r ≤ 100000) ⌝ }

@@ -1,14 +1,13 @@
 -- Trying a state: propagation, completion, and what is left to a fork.
-use mathlib.Core.Path.{_≡_, refl, sym, ap, subst, _∙_}
+use mathlib.Core.Path.{_≡_, sym, ap, subst, _∙_}
 use mathlib.Core.Bool.{true, false}
 use mathlib.Core.List.{List}
-use mathlib.Core.Option.{Option, none, some}
 use Prim.Native.Nat.{ℕ, _≤_}
 use lib.IntN.{ℤ}
 use Rattle.formula.specs.Formula.{models}
 use Rattle.walk.specs.Completion.{complete-cost}
 use Rattle.walk.specs.Propagation.{propagate}
-use Rattle.walk.specs.State.{State, fits}
+use Rattle.walk.specs.State.{fits}
 use Rattle.walk.specs.Walk.{Outcome, deadEnd, isDeadEnd, complete, completed, decide, fork, walkFrom}
 use Rattle.walk.specs.WalkLaws.{walk-step, decide-dead, decide-complete}
 use Rattle.propagation.specs.Searching.{Searching, Later, later-more}

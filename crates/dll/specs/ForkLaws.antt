@@ -1,11 +1,11 @@
 -- A fork: its two states in turn.
-use mathlib.Core.Path.{_≡_, refl, sym, ap, ap₂, subst, _∙_}
+use mathlib.Core.Path.{_≡_, refl, sym, _∙_}
 use mathlib.Core.List.{List}
-use mathlib.Core.Option.{Option, none, some}
-use Prim.Native.Nat.{ℕ, suc, _+_, _-_, _≤_, _<_, min}
+use mathlib.Core.Option.{none, some}
+use Prim.Native.Nat.{ℕ, suc, _+_, _-_, _<_, min}
 use native.Mathlib.Omega.{arith}
 use lib.Dec.{lit<}
-use lib.ListN.{length, set}
+use lib.ListN.{set}
 use Rattle.literal.specs.Literal.{value}
 use Rattle.distance.specs.Distance.{cost}
 use Rattle.walk.specs.Assignment.{assign-fewer}
@@ -13,7 +13,6 @@ use Rattle.walk.specs.Promises.{Branches}
 use Rattle.walk.specs.State.{unassigned, assign}
 use Rattle.walk.specs.Walk.{Answer, Outcome, fork}
 use Rattle.propagation.specs.Searching.{Searching, Later, later-more, assigned, assigned-later, not-all}
-use Rattle.dll.specs.declared.tried.Tried.{Tried}
 use Rattle.dll.specs.declared.tried.Tried.the-variants.{Found, Nothing}
 use Rattle.dll.specs.Tried.{clip, Says}
 
@@ -57,9 +56,6 @@ module _ (n : ℕ) (row a trail : List ℕ) (s b : ℕ) (h : Searching n row a t
 
   pub branch-fewer : suc (unassigned a′) ≡ unassigned a
   branch-fewer = rw p (assign-fewer (h .state) v c (k .above) (k .upTo) (k .unset) bit)
-
-  pub branch-size : length a′ ≡ n
-  branch-size = branch-searching .state .size
 
   -- what is later than the branch is later than the fork
   pub branch-after : (trail″ a″ : List ℕ) → Later s′ trail′ a′ trail″ a″ → Later s trail a trail″ a″

@@ -2,7 +2,7 @@
 use mathlib.Core.Path.{_≡_}
 use mathlib.Core.List.{List}
 use mathlib.Core.Option.{none, some}
-use Prim.Native.Nat.{ℕ, _-_, _^_, min}
+use Prim.Native.Nat.{ℕ, min}
 use Rattle.walk.specs.Walk.{Outcome}
 use Rattle.propagation.specs.Searching.{Later}
 use Rattle.dll.specs.declared.tried.Tried.{Tried}

@@ -23,7 +23,7 @@ pub enum Pick {
 }
 
 // Decides a propagated state that its completion does not settle. The numbers to weigh with are lent
-// from the root: as locals they would stand in the frame of every level of the walk.
+// from the root: as locals they would stand in the frame of every level into which this is inlined.
 pub fn pick_branch(
     list: &[i32],
     row: &[u8],
@@ -42,6 +42,7 @@ pub fn pick_branch(
         return Pick::DeadEnd;
     }
     match branching::branching_variable(list, row, a, size, weights, marks) {
+        // some clause is open here, so this does not occur
         Branch::Nothing => Pick::DeadEnd,
         Branch::On(v) => Pick::Branch(v, first_value(row, size, v)),
     }

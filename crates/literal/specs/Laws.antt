@@ -33,9 +33,6 @@ variable-literal v true = refl
 variable-literal zero false = refl
 variable-literal (suc k) false = refl
 
-pub wanted-on : (v : ℕ) → wanted (literal v true) ≡ 1
-wanted-on v = refl
-
 pub wanted-off : (v : ℕ) → 0 < v → wanted (literal v false) ≡ 0
 wanted-off zero h = absurd (not-suc-le-zero h)
 wanted-off (suc k) h = refl

@@ -15,7 +15,7 @@ pub enum Fewest {
 }
 
 // Finds the shortest opposed clause in one pass over the list, and counts its unassigned literals.
-// `least` is the count of the clause that is kept.
+// `least` is the count of the clause that is kept, so that it is not counted beside each later one.
 pub fn fewest_opposed(list: &[i32], row: &[u8], assignment: &[u8]) -> Fewest
     ensures { λ r. ⌜ sizeOf r ≡ fewest (now (row .entry)) (now (assignment .entry)) (clauses (now (list .entry))) ⌝ }
 {

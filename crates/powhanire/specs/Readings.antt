@@ -13,7 +13,7 @@ use Rattle.refusal.specs.Reply.{refusal}
 use Rattle.lent.specs.Limits.{maxLiterals}
 use Rattle.lent.specs.Sound.{Scan, mayJoin, after, unread, unclosed}
 use Rattle.dimacs.specs.Format as rule-file
-use Rattle.dimacs.specs.Format.{Word, Header}
+use Rattle.dimacs.specs.Format.{Word, Header, tokensFrom}
 use Rattle.wish_file.specs.Format as wish-file
 use Rattle.wish_file.specs.Layout.{lineSize, lineNumbers}
 use Rattle.rule_reader.specs.Read as rules

@@ -5,8 +5,8 @@ ghost use lib.Dec.{ltb};
 ghost use lib.ListN.{length};
 ghost use Rattle.propagation.specs.Trail.{undone};
 
-// Takes away what was assigned after the first `settled` variables. It goes through all variables:
-// they are few beside the literals of one pass, and nothing has to be kept in order.
+// Takes away what was assigned after the first `settled` variables. It goes through all variables,
+// once for each value that failed, so that nothing has to be kept in order.
 pub fn undo(settled: usize, trail: &[u16], a: &mut [u8])
     requires { ⌜ length (now trail) ≡ length (now a) ⌝ }
     ensures { λ _. ⌜ now (a .exit) ≡ undone settled (now (trail .entry)) (now (a .entry)) ⌝ }

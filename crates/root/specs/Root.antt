@@ -1,6 +1,5 @@
 -- The walk from its root, where every variable is unassigned.
-use mathlib.Core.Path.{_≡_, refl, sym, ap, ap₂, subst, _∙_}
-use mathlib.Core.Bool.{true, cond}
+use mathlib.Core.Path.{_≡_, refl, sym, ap, ap₂}
 use mathlib.Core.List.{List, [], _∷_}
 use mathlib.Core.Option.{none, some}
 use Prim.Native.Nat.{ℕ, zero, suc, _+_, zero-le}
@@ -10,7 +9,7 @@ use borrow.Author.Tests.{le-ltb}
 use Rattle.distance.specs.Distance.{disagreement}
 use Rattle.distance.specs.Laws.{cost-kept}
 use Rattle.walk.specs.Correctness.{start-state, start-unassigned}
-use Rattle.walk.specs.State.{State, unassigned}
+use Rattle.walk.specs.State.{unassigned}
 use Rattle.walk.specs.Walk.{Outcome}
 use Rattle.propagation.specs.Searching.{Searching}
 use Rattle.propagation.specs.Trail.{undone}

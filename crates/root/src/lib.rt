@@ -36,7 +36,7 @@ pub fn walk_from_root(
     dll::attempt(list, row, d, tally, a, trail, weights, marks)
 }
 
-// Every byte 2: an assignment without a value, or a row without a wish.
+// Every byte 2: an assignment without a value.
 pub fn unassign_all(a: &mut [u8])
     ensures { λ _. ⌜ now (a .exit) ≡ replicate (length (now (a .entry))) 2 ⌝ }
 {

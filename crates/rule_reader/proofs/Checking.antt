@@ -16,7 +16,7 @@ use Rattle.refusal.specs.Reply.{refusal, cause}
 use Rattle.lent.specs.Laws.{scan}
 use Rattle.lent.specs.Sound.{unread, unclosed}
 use Rattle.lent.specs.Stamps.{Stamped, stamped-none, stamped-closed, stamped-joined, stamp-free, stamp-taken}
-use Rattle.dimacs.specs.Format.{Word, tokensFrom, badTokens}
+use Rattle.dimacs.specs.Format.{tokensFrom, badTokens}
 use Rattle.rule_tokens.specs.declared.Token as T
 use Rattle.rule_tokens.specs.Laws.{Good, token-end, token-bad, token-good, held, signed-fits}
 use Rattle.rule_tokens.specs.Token.{firstToken}

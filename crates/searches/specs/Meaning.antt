@@ -1,18 +1,18 @@
 -- What the searches' replies mean (document 01, demand 2): a found choice meets all rules and breaks the stated number of wishes, at most the limit; none exactly when no choice does so; nearest is the least number among all choices that meet the rules.
-use mathlib.Core.Path.{_≡_, refl, sym, ap, _∙_}
+use mathlib.Core.Path.{_≡_, sym, ap, _∙_}
 use mathlib.Core.Logic.{_↔_}
-use mathlib.Core.List.{List, []}
+use mathlib.Core.List.{List}
 use mathlib.Core.Option.{Option, none, some}
-use Prim.Native.Nat.{ℕ, _≤_, _<_}
+use Prim.Native.Nat.{ℕ, _<_}
 use native.Mathlib.Omega.{arith}
 use lib.IntN.{ℤ}
 use lib.ListN.{replicate}
 use Rattle.formula.specs.Formula.{clauses}
 use Rattle.distance.specs.Distance.{disagreement, within, nearest}
-use Rattle.choices.specs.Choices.{Model, Nearest, nearest-some, nearest-none}
+use Rattle.choices.specs.Choices.{Model, nearest-none}
 use Rattle.lent.specs.Sound.{unread, badRule}
 use Rattle.walk.specs.Promises.{Found, Closest}
-use Rattle.walk.specs.Theorems.{walk-sound, walk-none, walk-within, plain-none, nearest-sound, nearest-count}
+use Rattle.walk.specs.Theorems.{walk-sound, walk-none, plain-none, nearest-sound, nearest-count}
 use Rattle.walk.specs.Walk.{Answer, walk, plainWalk, nearestWalk}
 use Rattle.searches.specs.Fits.{sound-fits}
 use Rattle.searches.specs.Searches.{brokenBy}

@@ -9,7 +9,7 @@ use Rattle.distance.specs.Distance.{nearest}
 use Rattle.refusal.specs.declared.Refusal.{Refusal}
 use Rattle.refusal.specs.Reply.{Reply, answering, unless}
 use Rattle.lent.specs.Lent.{Lent, refusalOf}
-use Rattle.walk.specs.Walk.{Answer, Outcome, walk, plainWalk, nearestWalk}
+use Rattle.walk.specs.Walk.{Answer, walk, plainWalk, nearestWalk}
 
 -- found, with the number of broken wishes, or none
 abbrev pub found : Option ℕ → Reply

@@ -1,11 +1,10 @@
 -- Choices, and what their first variables say.
 use mathlib.Core.Path.{_≡_, refl, ap}
-use mathlib.Core.Bool.{Bool, true, false, not, cond, _&&_}
+use mathlib.Core.Bool.{true, not}
 use mathlib.Core.List.{List, [], _∷_}
-use mathlib.Core.Option.{none, some}
 use Prim.Native.Nat.{ℕ, zero, suc, _≤_, _<_}
 use native.Mathlib.Omega.{arith}
-use native.Mathlib.Nat.{not-suc-le-zero, le-of-suc-le-suc}
+use native.Mathlib.Nat.{not-suc-le-zero}
 use lib.Dec.{eqb, ltb, lit<}
 use lib.IntN.{ℤ, pos, negsuc}
 use lib.ListN.{length, getD, take, length-take}
@@ -14,7 +13,6 @@ use borrow.Author.Tests.{ltb-true, lt-ltb}
 use Rattle.literal.specs.Literal.{variable, value, wanted, holds}
 use Rattle.literal.specs.Laws.{getD-inside}
 use Rattle.formula.specs.Formula.{all}
-use Rattle.lent.specs.Sound.{badChoice}
 use Rattle.soundness.specs.Laws.{and-left, and-right, and-both}
 use Rattle.choices.specs.Choices.{Choice}
 use Rattle.totalizer.specs.Meaning.{Opposite}
@@ -70,16 +68,3 @@ take-binary (suc n) (b ∷ a) e =
 -- and are a choice themselves
 pub choice-take : (n m : ℕ) (a : List ℕ) → Choice m a → n ≤ m → Choice n (take n a)
 choice-take n m a c h = choice-of n (take n a) (omega (arith, length-take n a, c .size)) (take-binary n a (binary c))
-
--- a given choice that passes the test of lent values is one
-pub sound-choice : (a : List ℕ) (i : ℕ) → badChoice i a ≡ none → Choice (length a) a
-sound-choice a i e = choice-of (length a) a refl (go a i e)
-  where
-    go : (b : List ℕ) (j : ℕ) → badChoice j b ≡ none → all (λ (c : ℕ). ltb c 2) b ≡ true
-    go [] j e = refl
-    go (b ∷ l) j e = step (ltb b 2) refl e (go l (suc j))
-      where
-        step : (t : Bool) → ltb b 2 ≡ t → cond t (badChoice (suc j) l) (some j) ≡ none → (badChoice (suc j) l ≡ none → all (λ (c : ℕ). ltb c 2) l ≡ true)
-            → ltb b 2 && all (λ (c : ℕ). ltb c 2) l ≡ true
-        step true q f ih = and-both (ltb b 2) (all (λ (c : ℕ). ltb c 2) l) q (ih f)
-        step false q f ih = let z : _≡_ {A = ℕ} 0 1 = cc in absurd (omega arith)

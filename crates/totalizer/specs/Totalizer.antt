@@ -1,6 +1,6 @@
 -- "Rewriting into plain rules" (document 01): the totalizer of Bailleux and Boufkhad (2003) over the wishes of a row. Its tree is built first, and all else goes by the tree.
 use mathlib.Core.Path.{_≡_}
-use mathlib.Core.Bool.{Bool, true, cond, not, _&&_}
+use mathlib.Core.Bool.{Bool, cond, not, _&&_}
 use mathlib.Core.List.{List, [], _∷_, _++_}
 use Prim.Native.Nat.{ℕ, zero, suc, _+_, _/_, _≤_, _<_}
 use lib.Dec.{eqb, ltb}

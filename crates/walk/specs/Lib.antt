@@ -4,7 +4,6 @@ pub mod BranchingLaws
 pub mod Completion
 pub mod Correctness
 pub mod Counting
-pub mod Examples
 pub mod Extension
 pub mod Fits
 pub mod Induction

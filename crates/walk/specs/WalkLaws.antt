@@ -9,11 +9,10 @@ use native.Mathlib.Omega.{arith}
 use lib.Dec.{eqb, ltb, lit<}
 use lib.IntN.{ℤ}
 use lib.ListN.{length}
-use borrow.Author.Tests.{eqb-true, eqb-false, ltb-true, ltb-false, lt-ltb}
+use borrow.Author.Tests.{eqb-true, ltb-true, ltb-false, lt-ltb}
 use Rattle.literal.specs.Literal.{variable, wanted, value}
 use Rattle.formula.specs.Formula.{any, satisfied, models}
 use Rattle.distance.specs.Distance.{cost, disagreement}
-use Rattle.distance.specs.Laws.{cost-kept, cost-free}
 use Rattle.choices.specs.Lists.{any-at, any-member, all-at}
 use Rattle.walk.specs.State.{State, unassigned, assign, satisfy, unassignedIn, isFalsified, fits}
 use Rattle.walk.specs.Propagation.{propagate}
@@ -109,15 +108,6 @@ first-bit row (some k) v = go (breaks (value row v) 1)
     go : (t : Bool) → cond t 1 0 < 2
     go true = lit< tt
     go false = lit< tt
-
--- a value that breaks a wish breaks it alone
-pub cost-opposite : (w b : ℕ) → b < 2 → 0 < cost w b → cost w (1 - b) ≡ 0
-cost-opposite w b l h = go (ltb w 2) refl (eqb b (1 - w)) refl
-  where
-    go : (s : Bool) → ltb w 2 ≡ s → (t : Bool) → eqb b (1 - w) ≡ t → cost w (1 - b) ≡ 0
-    go true p true q = cost-kept w (1 - b) (λ e. omega (arith, ltb-true w 2 p, eqb-true b (1 - w) q))
-    go true p false q = absurd (omega (arith, cost-kept w b (eqb-false b (1 - w) q)))
-    go false p t q = cost-free w (1 - b) (ltb-false w 2 p)
 
 -- "against the wish first if step 4's first kind of rule existed": the first value breaks the wish of the branching variable
 unwished-breaks : (w b : ℕ) → b < 2 → 0 < cost w b → 0 < cost w (unwishedValue w)

@@ -10,6 +10,7 @@ ghost use Rattle.standing.specs.Standing.{standingOf};
 ghost use Rattle.opposed.specs.Opposed.{sizeOf};
 ghost use Rattle.weighing.specs.Weights.{Weighable, Weighed};
 
+// 4 to the power 10 - k, for k below 10.
 const POWERS: [u64; 10] = [1048576, 262144, 65536, 16384, 4096, 1024, 256, 64, 16, 4];
 
 // The weight of an open clause with so many unassigned literals.

@@ -1,5 +1,5 @@
 -- `admission::check_plain` meets its contract: refused for the range, for the list, or for the room.
-use mathlib.Core.Path.{_≡_, sym, ap, _∙_}
+use mathlib.Core.Path.{sym, ap, _∙_}
 use Rattle.refusal.specs.Laws.{cause-none}
 use Rattle.refusal.specs.Reply.{refused}
 use Rattle.lent.specs.Laws.{in-range}

@@ -1,5 +1,5 @@
 -- `admission::check_wished` meets its contract: refused by the scans, or by what comes after them.
-use mathlib.Core.Path.{_≡_, sym, _∙_}
+use mathlib.Core.Path.{sym, _∙_}
 use Rattle.lent.specs.ScanLaws.{problem-refused, problem-sound}
 use Rattle.lent.specs.Scans.{unsound}
 use Rattle.searches.specs.Admitted.{refused-unsound}

@@ -1,5 +1,4 @@
 -- `literal::negate` meets its contract: within the bound the negation fits.
-use mathlib.Core.Path.{_∙_}
 use mir.Syntax.{w32}
 use mir.ValLaws.{toZ-ofZ}
 use Rattle.literal.proofs.Signed.{opposite-is, opposite-fits}

@@ -1,23 +1,12 @@
-use mathlib.Core.Path.{_≡_, refl, sym, ap, ap₂, _∙_}
-use mathlib.Core.Bool.{Bool, true, false, cond, not, _&&_, _||_}
-use mathlib.Core.List.{List, [], _∷_, _++_, append-nil}
-use mathlib.Core.Logic.{⊎-elim}
-use Prim.Native.Nat.{ℕ, zero, suc, _+_, _-_, _≤_, _<_}
+use mathlib.Core.Path.{_≡_, ap, ap₂, _∙_}
+use mathlib.Core.List.{List, _++_, append-nil}
+use Prim.Native.Nat.{ℕ, _+_, _-_, _≤_, _<_}
 use native.Mathlib.Omega.{arith}
-use native.Mathlib.Numerals.{add-one}
-use lib.Dec.{eqb, ltb, leb}
-use lib.IntN.{ℤ, pos}
-use lib.ListN.{length, getD, take, drop, set, replicate, length-append, length-replicate, length-drop, drop-of-length-le}
+use lib.ListN.{length, drop, set, replicate, length-append, length-replicate, length-drop, drop-of-length-le}
 use borrow.Author.Fill.{fill-more}
-use lib.Seq.{drop-cons}
-use mir.Syntax.{w32, w64}
-use mir.ValLaws.{toZ-ofZ}
-use borrow.Author.Tests.{lt-ltb, le-ltb, le-leb, lt-leb, eq-eqb, ne-eqb, eqb-true, eqb-false, ltb-true, ltb-false, leb-true, leb-false}
 use borrow.Author.Needs.{needs}
 use Rattle.root.proofs.unassign_all.Statement.{statement}
 use Rattle.root.proofs.unassign_all.Tie as tie
-use Rattle.root.proofs.unassign_all.Reads as reads
-use Rattle.root.proofs.unassign_all.Lts as lts
 
 abbrev Inv-loop : tie.InvT-loop
 Inv-loop a₀ i₀ a i = (i ≤ length a₀) × (a ≡ replicate i 2 ++ drop i a₀)
@@ -31,23 +20,18 @@ size l i h = omega (arith, length-append (replicate i 2) (drop i l), length-repl
 filled : (l : List ℕ) (i : ℕ) → i ≡ length l → replicate i 2 ++ drop i l ≡ replicate (length l) 2
 filled l i e = ap₂ _++_ (ap (λ (k : ℕ). replicate k 2) e) (drop-of-length-le l {i = i} (omega arith)) ∙ append-nil (replicate (length l) 2)
 
--- src/lib.rt:40:5
 loop-holds : tie.Need-loop-holds Inv-loop μ-loop
 loop-holds c = search needs
 
--- src/lib.rt:41:9
 slice-write-a : tie.Need-slice-write-a Inv-loop μ-loop
 slice-write-a c = search needs
 
--- src/lib.rt:42:9
 add-i : tie.Need-add-i Inv-loop μ-loop
 add-i c = search needs
 
--- src/lib.rt:40:5
 loop-less : tie.Need-loop-less Inv-loop μ-loop
 loop-less c = omega (arith, c .before .loop .inv .0, c .loop-test .taken, size (c .before .before .args .a .now) (c .before .loop .i) (c .before .loop .inv .0), ap length (c .before .loop .inv .1))
 
--- src/lib.rt:40:5
 loop-again : tie.Need-loop-again Inv-loop μ-loop
 loop-again c =
     let l = c .before .before .args .a .now in
@@ -55,11 +39,9 @@ loop-again c =
     let low : i < length l = omega (arith, c .before .loop .inv .0, c .loop-test .taken, size l i (c .before .loop .inv .0), ap length (c .before .loop .inv .1)) in
     (omega arith, ap (λ (m : List ℕ). set m i 2) (c .before .loop .inv .1) ∙ fill-more i 2 l low)
 
--- src/lib.rt:36:1
 same-length : tie.Need-same-length Inv-loop μ-loop
 same-length c = ap length (c .before .loop .inv .1) ∙ size (c .before .before .args .a .now) (c .before .loop .i) (c .before .loop .inv .0)
 
--- src/lib.rt:36:1
 returns : tie.Need-returns Inv-loop μ-loop
 returns c =
     let l = c .before .before .args .a .now in

@@ -1,7 +1,7 @@
 use mathlib.Core.Path.{_≡_, sym, ap, subst, _∙_}
 use mathlib.Core.List.{List}
 use mathlib.Core.Option.{none}
-use Prim.Native.Nat.{ℕ, _+_, _*_, _≤_, _<_}
+use Prim.Native.Nat.{ℕ, _≤_}
 use native.Mathlib.Omega.{arith}
 use lib.ListN.{length, replicate}
 use borrow.Author.Needs.{needs}
@@ -12,16 +12,10 @@ use Rattle.dll.specs.Tried.{Says}
 use Rattle.root.specs.Root.{root-says, root-searching}
 use Rattle.root.proofs.walk_from_root.Statement.{statement}
 use Rattle.root.proofs.walk_from_root.Tie as tie
-use Rattle.root.proofs.walk_from_root.Reads as reads
-use Rattle.root.proofs.walk_from_root.Lts as lts
-use Rattle.dll.proofs.attempt.Reads as attempt-reads
-use Rattle.root.proofs.unassign_all.Reads as unassign-all-reads
 
--- src/lib.rt:27:5
 unassign-all-requires : tie.Need-unassign-all-requires
 unassign-all-requires c κs = search needs
 
--- src/lib.rt:32:5
 attempt-requires : tie.Need-attempt-requires
 attempt-requires c κs =
     let g = c .before .before .before .before .before .before .before .before .before .before .before .before .before in
@@ -35,23 +29,18 @@ attempt-requires c κs =
       ),
     )
 
--- src/lib.rt:14:1
 same-length : tie.Need-same-length
 same-length c = search needs
 
--- src/lib.rt:14:1
 same-length-2 : tie.Need-same-length-2
 same-length-2 c = search needs
 
--- src/lib.rt:14:1
 same-length-3 : tie.Need-same-length-3
 same-length-3 c = search needs
 
--- src/lib.rt:14:1
 same-length-4 : tie.Need-same-length-4
 same-length-4 c = search needs
 
--- src/lib.rt:14:1
 returns : tie.Need-returns
 returns c =
     let g = c .before .before .before .before .before .before .before .before .before .before .before .before .before .before .before .before .before .before .before .before .before .before in

@@ -1,28 +1,27 @@
 -- The proof of the cycle of calls {attempt, fork}: the number of unassigned variables falls from a fork to each of its tries.
-use mathlib.Core.Path.{_≡_, refl, sym, ap, ap₂, subst, _∙_}
+use mathlib.Core.Path.{_≡_, refl, sym, ap, subst, _∙_}
 use mathlib.Core.List.{List}
 use mathlib.Core.Bool.{true, false}
-use mathlib.Core.Option.{none, some}
+use mathlib.Core.Option.{none}
 use Prim.Native.Nat.{ℕ, suc, _+_, _*_, _-_, _≤_, _<_}
 use native.Mathlib.Omega.{arith}
 use lib.IntN.{ℤ}
-use lib.ListN.{length, set, length-set}
+use lib.ListN.{length}
 use borrow.Author.Needs.{needs}
 use borrow.Fn.Kinds.{In}
 use borrow.Fn.PlainCycle.{Measures, is, falls, and}
 use Rattle.formula.specs.Formula.{clauses, models}
 use Rattle.literal.specs.declared.Variable.{Variable}
 use Rattle.lent.specs.Sound.{unread, badRule}
-use Rattle.walk.specs.Propagation.{propagate}
-use Rattle.walk.specs.State.{State, unassigned, assign, fits}
-use Rattle.walk.specs.Walk.{Outcome, isDeadEnd, complete, decide, walkFrom}
+use Rattle.walk.specs.State.{unassigned, assign, fits}
+use Rattle.walk.specs.Walk.{Outcome, complete, decide, walkFrom}
 use Rattle.walk.specs.Walk.{fork as forkOf}
 use Rattle.walk.specs.Promises.{Branches}
 use Rattle.walk.specs.PropagationLaws.{propagate-fewer}
 use Rattle.tally.specs.declared.Tally.{Tally}
 use Rattle.propagation.specs.declared.propagate.Propagated.the-variants.{Dead, Settled}
 use Rattle.propagation.specs.Propagated as P
-use Rattle.propagation.specs.Searching.{Searching, Later, later-more, assigned, assigned-later, not-all, restored, restored-later, restored-searching}
+use Rattle.propagation.specs.Searching.{Searching, Later, later-more, assigned, restored, restored-later, restored-searching}
 use Rattle.propagation.specs.Trail.{undone}
 use Rattle.dll.specs.AttemptLaws.{by-propagation, by-completion, by-exhaustion, by-fork}
 use Rattle.searches.specs.Fits.{sound-fits}
