@@ -6,7 +6,7 @@ use Prim.Native.Nat.{ℕ, suc, _+_, _^_, _≤_, _<_}
 use native.Mathlib.Nat.{zero-add}
 use native.Mathlib.Omega.{arith}
 use lib.ListN.{length, take, drop, set, length-append}
-use lib.Seq.{sets, sets-eq, paste, take-length}
+use lib.Seq.{sets, sets-eq, paste, take-length, take-at}
 use borrow.Author.Tests.{lt-ltb, le-ltb}
 use Rattle.refusal.specs.Reply.{refusal, tooShort, filled}
 use Rattle.decimal.specs.Decimal.{decimal}
@@ -64,3 +64,18 @@ renamed text other r out result e f g = rw (← e) (f, g)
 -- a text of no bytes
 pub fitted-none : (out : List ℕ) → out ≡ fitted [] out
 fitted-none out = fitted-whole [] out (omega arith)
+
+-- a text was put over bytes from place at on, and next is the place past it; another text after it
+abbrev pub Puts : List ℕ → List ℕ → ℕ → List ℕ → ℕ → Type 0
+Puts text before at after next = (next ≡ at + length text) × (after ≡ sets before at text)
+
+pub puts-more : (w v l m k : List ℕ) (at i j : ℕ) → Puts w l at m i → Puts v m i k j → Puts (w ++ v) l at k j
+puts-more w v l m k at i j a b = (
+  omega (arith, a .0, b .0, length-append w v),
+  b .1 ∙ ap₂ (λ (n : List ℕ) (h : ℕ). sets n h v) (a .1) (a .0) ∙ sym (sets-append l at w v),
+)
+
+-- what was put from the start on stands at the front
+pub puts-front : (w l m : List ℕ) (i : ℕ) → Puts w l 0 m i → length w ≤ length l → take i m ≡ w
+puts-front w l m i a h =
+    ap (take i) (a .1 ∙ sets-eq w l 0 (omega arith)) ∙ take-at w (drop (0 + length w) l) i (omega (arith, a .0))
