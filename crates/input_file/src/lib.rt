@@ -1,0 +1,52 @@
+// A file that a program reads. No contract can say which bytes a file has; these functions say how
+// many of the lent bytes were filled.
+ghost use mathlib.Core.Path.{_≡_};
+ghost use lib.ListN.{length};
+ghost use Rattle.input_file.specs.Filled.{Filled};
+
+// How many bytes were read, unless the file could not be read.
+pub enum FileRead {
+    Failed,
+    Bytes(usize),
+}
+
+// Space for a file of 65,536 bytes and one more, which shows that a file is longer.
+pub fn space() -> [u8; 65537]
+    ensures { λ r. ⌜ 65537 ≡ length r ⌝ }
+{
+    [0; 65537]
+}
+
+// Reads a file to its end, or as far as there is room. Where that fails, a line on standard error
+// has the file's name and why.
+pub fn read_file(path: &[u8], buf: &mut [u8]) -> FileRead
+    ensures { λ r. ⌜ Filled r (now (buf .exit)) ⌝ }
+{
+    let file = os::open_read(path);
+    if file < 0 {
+        os::fail(path);
+        return FileRead::Failed;
+    }
+    let read = read_to_end(file, path, buf);
+    libc::close(file);
+    read
+}
+
+fn read_to_end(file: i32, path: &[u8], buf: &mut [u8]) -> FileRead
+    ensures { λ r. ⌜ Filled r (now (buf .exit)) ⌝ }
+{
+    let mut at = 0;
+    while at < buf.len() {
+        let got = libc::read(file, &mut buf[at..]);
+        if got < 0 {
+            os::fail(path);
+            return FileRead::Failed;
+        }
+        let more = io::count(got, &buf[at..]);
+        if more == 0 {
+            return FileRead::Bytes(at);
+        }
+        at += more;
+    }
+    FileRead::Bytes(at)
+}

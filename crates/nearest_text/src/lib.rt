@@ -1,0 +1,46 @@
+// What the program `nearest` prints: the least number of broken wishes and a choice, in the lines
+// that solvers print.
+mod solution;
+mod values;
+
+use problem_files::ReadProblem;
+use searches::Searched;
+ghost use mathlib.Core.Path.{_≡_};
+ghost use Prim.Native.Nat.{_≤_};
+ghost use lib.ListN.{length};
+ghost use Rattle.report.specs.Report.{fitted};
+ghost use Rattle.nearest_text.specs.Printed.{longest, nearestText, printed};
+
+// Puts what is printed for a rule file and a wish file into the lent bytes, if it fits, and gives
+// its length.
+pub fn print_nearest(rules_file: &[u8], wish_file: &[u8], out: &mut [u8]) -> usize
+    ensures length { λ r. ⌜ r ≡ length (printed (now («rules_file» .entry)) (now («wish_file» .entry))) ⌝ }
+    ensures output { λ r. ⌜ now (out .exit) ≡ fitted (printed (now («rules_file» .entry)) (now («wish_file» .entry))) (now (out .entry)) ⌝ }
+    ensures bound { λ r. ⌜ r ≤ longest ⌝ }
+{
+    let mut rules = problem_files::list();
+    let mut row = problem_files::row();
+    match problem_files::read_problem(rules_file, wish_file, &mut rules, &mut row) {
+        ReadProblem::TooLong => 0,
+        ReadProblem::Refused(r) => report::put_refusal(r, out),
+        ReadProblem::Read(sizes) => {
+            let k = sizes.length;
+            let w = sizes.wished;
+            put_nearest(sizes.variables, &rules[..k], &row[..w], out)
+        }
+    }
+}
+
+// The nearest choice, or the line of the refusal.
+fn put_nearest(n: usize, rules: &[i32], row: &[u8], out: &mut [u8]) -> usize
+    ensures length { λ r. ⌜ r ≡ length (nearestText n (now (rules .entry)) (now (row .entry))) ⌝ }
+    ensures output { λ r. ⌜ now (out .exit) ≡ fitted (nearestText n (now (rules .entry)) (now (row .entry))) (now (out .entry)) ⌝ }
+    ensures bound { λ r. ⌜ r ≤ longest ⌝ }
+{
+    let mut choice = problem_files::row();
+    match nearest_search::search(n, rules, row, &mut choice) {
+        Searched::Refused(r) => report::put_refusal(r, out),
+        Searched::Found(broken) => solution::put_found(broken, &choice[..n], out),
+        Searched::Nothing => report::put_text(b"s UNSATISFIABLE\n", out),
+    }
+}

@@ -1,0 +1,38 @@
+// The lines of a choice that was found.
+use crate::values;
+ghost use mathlib.Core.Option.{some};
+ghost use mathlib.Core.Path.{_≡_};
+ghost use Prim.Native.Nat.{_≤_};
+ghost use lib.ListN.{length};
+ghost use lib.Seq.{sets};
+ghost use Rattle.report.specs.Report.{fitted};
+ghost use Rattle.nearest_text.specs.Printed.{longest, solution};
+
+// The count, that it is the least, and the choice.
+pub fn put_found(broken: usize, choice: &[u8], out: &mut [u8]) -> usize
+    requires { ⌜ length (now choice) ≤ 256 ⌝ }
+    ensures { λ r. ⌜ (r ≡ length (solution (some broken) (now (choice .entry)))) × (now (out .exit) ≡ fitted (solution (some broken) (now (choice .entry))) (now (out .entry))) × (r ≤ longest) ⌝ }
+{
+    let mut text = space();
+    let n = put_lines(broken, choice, &mut text);
+    report::put_text(&text[..n], out)
+}
+
+// Writes the lines where there is room for the longest.
+fn put_lines(broken: usize, choice: &[u8], out: &mut [u8]) -> usize
+    requires { ⌜ (length (now choice) ≤ 256) × (longest ≤ length (now out)) ⌝ }
+    ensures { λ r. ⌜ (r ≡ length (solution (some broken) (now (choice .entry)))) × (now (out .exit) ≡ sets (now (out .entry)) 0 (solution (some broken) (now (choice .entry)))) × (r ≤ longest) ⌝ }
+{
+    let count = report::put_bytes(b"o ", out, 0);
+    let answer = decimal::put_decimal(broken, out, count);
+    let first = report::put_bytes(b"\ns OPTIMUM FOUND\nv", out, answer);
+    let end = values::put_values(choice, out, first);
+    report::put_bytes(b" 0\n", out, end)
+}
+
+// Space for the longest text.
+fn space() -> [u8; 2048]
+    ensures { λ r. ⌜ longest ≡ length r ⌝ }
+{
+    [0; 2048]
+}

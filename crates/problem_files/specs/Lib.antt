@@ -1,0 +1,5 @@
+pub mod Problem
+pub mod Read
+pub mod ReadLaws
+pub mod Room
+pub mod Told

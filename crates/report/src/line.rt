@@ -1,0 +1,29 @@
+// The line that a refusal prints.
+use refusal::Refusal;
+ghost use mathlib.Core.Path.{_≡_};
+ghost use Prim.Native.Nat.{_≤_};
+ghost use lib.ListN.{length};
+ghost use Rattle.refusal.specs.Reply.{refusal};
+ghost use Rattle.report.specs.Report.{refusalLine, fitted};
+
+// Writes the line of a refusal, and gives its length: two numbers of at most twenty digits.
+pub fn put_refusal(refused: Refusal, out: &mut [u8]) -> usize
+    ensures { λ r. ⌜ (r ≡ length (refusalLine refused)) × (now (out .exit) ≡ fitted (refusalLine refused) (now (out .entry))) × (r ≤ 42) ⌝ }
+{
+    put_line(refused.number, refused.place, out)
+}
+
+// Writes the number, a space, the place and a line feed.
+fn put_line(number: usize, place: usize, out: &mut [u8]) -> usize
+    ensures { λ r. ⌜ (r ≡ length (refusalLine (refusal number place))) × (now (out .exit) ≡ fitted (refusalLine (refusal number place)) (now (out .entry))) × (r ≤ 42) ⌝ }
+{
+    let needed = decimal::digit_count(number) + decimal::digit_count(place) + 2;
+    if out.len() < needed {
+        return needed;
+    }
+    let space = decimal::put_decimal(number, out, 0);
+    out[space] = 32;
+    let end = decimal::put_decimal(place, out, space + 1);
+    out[end] = 10;
+    end + 1
+}

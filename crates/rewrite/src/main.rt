@@ -1,0 +1,34 @@
+// Reads `rules.cnf` and `wish.txt` of the current folder, and prints the rule file of the rewritten
+// rules, or the line of a refusal. What is printed is `printed` in rewritten_file/specs/Printed.antt.
+use input_file::FileRead;
+use libc::STDOUT_FILENO;
+ghost use mathlib.Core.Path.{_≡_};
+ghost use lib.ListN.{length};
+ghost use Rattle.rewritten_file.specs.Printed.{longest};
+
+fn main() {
+    let mut rules = input_file::space();
+    let mut wishes = input_file::space();
+    let FileRead::Bytes(k) = input_file::read_file(b"rules.cnf", &mut rules) else {
+        return;
+    };
+    let FileRead::Bytes(w) = input_file::read_file(b"wish.txt", &mut wishes) else {
+        return;
+    };
+    show(&rules[..k], &wishes[..w]);
+}
+
+fn show(rules: &[u8], wishes: &[u8]) {
+    let mut out = text();
+    let n = rewritten_file::print_rewritten(rules, wishes, &mut out);
+    if !io::write_all(STDOUT_FILENO, &out[..n]) {
+        os::fail(b"standard output");
+    }
+}
+
+// Space for the longest text.
+fn text() -> [u8; 200015]
+    ensures { λ r. ⌜ longest ≡ length r ⌝ }
+{
+    [0; 200015]
+}

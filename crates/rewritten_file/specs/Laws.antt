@@ -1,0 +1,108 @@
+-- What the calls' replies come to in the printed text.
+use mathlib.Core.Path.{_≡_, refl, sym, ap, subst, _∙_}
+use mathlib.Core.Bool.{Bool, true, false}
+use mathlib.Core.List.{List}
+use mathlib.Core.Option.{Option, none, some}
+use Prim.Native.Nat.{ℕ, _≤_, _<_}
+use native.Mathlib.Omega.{arith}
+use lib.Dec.{ltb}
+use lib.IntN.{ℤ}
+use lib.ListN.{length, take, drop}
+use borrow.Author.Tests.{ne-eqb, le-ltb}
+use Rattle.refusal.specs.declared.Refusal.{Refusal}
+use Rattle.refusal.specs.Reply.{Reply, refusing, answering, cause, unless, tooShort, filled}
+use Rattle.lent.specs.Lent.{refusalOf, outOfRange}
+use Rattle.lent.specs.Limits.{maxVariables}
+use Rattle.lent.specs.Sound.{unread, badRule}
+use Rattle.dimacs.specs.Sizes.{sound-length}
+use Rattle.dimacs.specs.Written.{written}
+use Rattle.searches.specs.Admitted.{Admitted}
+use Rattle.totalizer.specs.Theorems.{rewritten-variables, rewritten-sound}
+use Rattle.totalizer.specs.Totalizer.{rewrittenVariables, rewritten}
+use Rattle.rewriting.specs.Rewrite.{lentToRewrite, rewriteReply, rewriteOutput}
+use Rattle.rule_writer.specs.Laws.{by-room}
+use Rattle.rule_writer.specs.Write.{lentToWrite, writeReply, writeOutput}
+use Rattle.report.specs.Report.{refusalLine, fitted}
+use Rattle.problem_files.specs.Problem.{unlessRefused}
+use Rattle.problem_files.specs.ReadLaws.{front}
+use Rattle.problem_files.specs.Room.{enough, unrefused}
+use Rattle.rewritten_file.specs.Printed.{rewritingRefused, rewrittenText}
+
+-- the length of a file, from the reply of its writer: written, or "length needed"
+abbrev pub sizeOf : Reply → ℕ
+sizeOf (refusing r) = r .place
+sizeOf (answering v x y z) = x
+
+-- the file of a sound list
+module _ (n : ℕ) (l : List ℤ) (out : List ℕ) (positive : 0 < n) (most : n ≤ maxVariables) (sound : badRule n unread 0 l ≡ none) where
+  only-room : refusalOf (lentToWrite n l (length out)) ≡ tooShort (length (written n l)) (length out)
+  only-room =
+      let range : outOfRange n 0 ≡ false = rw (ne-eqb n 0 (λ z. omega (arith, positive)), le-ltb maxVariables n most) in
+      by-room n l out (ap (λ (b : Bool). cause b 14 0) range) sound
+
+  pub file-size : sizeOf (writeReply n l (length out)) ≡ length (written n l)
+  file-size = ap (λ (o : Option Refusal). sizeOf (unless o (answering 1 k 0 0))) only-room ∙ either (ltb (length out) k)
+    where
+      k : ℕ
+      k = length (written n l)
+
+      either : (b : Bool) → sizeOf (unless (cause b 15 k) (answering 1 k 0 0)) ≡ k
+      either true = refl
+      either false = refl
+
+  pub file-put : writeOutput n l out ≡ fitted (written n l) out
+  file-put = ap (λ (o : Option Refusal). filled o (written n l) out) only-room
+
+-- what rewriting into a list that has room for every sound one answers and leaves
+module _ (n : ℕ) (rules : List ℤ) (row : List ℕ) (d : ℕ) where
+  abbrev N : ℕ
+  N = rewrittenVariables n row
+
+  abbrev R : List ℤ
+  R = rewritten n rules row d
+
+  abbrev text : Option Refusal → List ℕ
+  text o = unlessRefused o (written N R)
+
+  admitted-sound : Admitted n rules row d → badRule N unread 0 R ≡ none
+  admitted-sound a = rewritten-sound n rules row d (a .soundRules) (a .long) (a .soundRow) (a .few) (a .short)
+
+  module _ (blank : List ℤ) (room : 40000 ≤ length blank) where
+    same-cause : refusalOf (lentToRewrite n rules row d (length blank)) ≡ rewritingRefused n rules row d
+    same-cause = enough n rules row d (length R) (length blank) (λ a. omega (arith, sound-length N R (admitted-sound a)))
+
+    pub rewriting-refused : (r : Refusal) → refusing r ≡ rewriteReply n rules row d (length blank) → refusalLine r ≡ rewrittenText n rules row d
+    rewriting-refused r e = go (refusalOf (lentToRewrite n rules row d (length blank))) e ∙ ap text same-cause
+      where
+        go : (o : Option Refusal) → refusing r ≡ unless o (answering 1 N (length R) 0) → refusalLine r ≡ text o
+        go (some q) f = let same : q ≡ r = cc in ap refusalLine (sym same)
+        go none f = let z : _≡_ {A = ℕ} 0 1 = cc in absurd (omega arith)
+
+    -- a list at the front of what was lent, which can be written, and its file
+    pub record Rewrote (v k : ℕ) (result : List ℤ) : Type 0 where
+      pub inside : k ≤ length result
+      pub positive : 0 < v
+      pub most : v ≤ maxVariables
+      pub sound : badRule v unread 0 (take k result) ≡ none
+      pub file : written v (take k result) ≡ rewrittenText n rules row d
+
+    pub rewriting-done : (v k : ℕ) (result : List ℤ) → answering 1 v k 0 ≡ rewriteReply n rules row d (length blank) → result ≡ rewriteOutput n rules row d blank
+        → Rewrote v k result
+    rewriting-done v k result e f = go (refusalOf (lentToRewrite n rules row d (length blank))) refl e f
+      where
+        go : (o : Option Refusal) → refusalOf (lentToRewrite n rules row d (length blank)) ≡ o → answering 1 v k 0 ≡ unless o (answering 1 N (length R) 0) → result ≡ filled o R blank
+            → Rewrote v k result
+        go (some q) g h i = absurd (let z : _≡_ {A = ℕ} 0 1 = cc in omega arith)
+        go none g h i =
+            let a : Admitted n rules row d = unrefused n rules row d (length R) (length blank) g in
+            let v-is : N ≡ v = cc in
+            let k-is : length R ≡ k = cc in
+            let here = front R blank result k k-is i in
+            subst (λ (u : ℕ). Rewrote u k result) v-is
+            (record {
+              inside = here .1;
+              positive = omega (arith, a .positive);
+              most = rewritten-variables n row (a .small) (a .soundRow);
+              sound = ap (badRule N unread 0) (here .0) ∙ admitted-sound a;
+              file = ap (written N) (here .0) ∙ ap text (sym g ∙ same-cause);
+            })

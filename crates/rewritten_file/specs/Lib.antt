@@ -1,0 +1,4 @@
+pub mod Example
+pub mod Laws
+pub mod Printed
+pub mod Sizes
