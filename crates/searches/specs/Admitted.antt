@@ -11,7 +11,7 @@ use lib.ListN.{length}
 use borrow.Author.Tests.{eqb-true, not-false, ltb-false, le-ltb, eq-eqb, ne-eqb}
 use Rattle.formula.specs.Formula.{clauses, literals}
 use Rattle.refusal.specs.declared.Refusal.{Refusal}
-use Rattle.refusal.specs.Laws.{first-none, first-early, first-late, first-last, no-first, cause-none, causeAt-none, neither}
+use Rattle.refusal.specs.Laws.{first-some, first-none, first-early, first-late, first-last, no-first, cause-none, causeAt-none, neither}
 use Rattle.refusal.specs.Reply.{first, cause, causeAt, tooShort}
 use Rattle.lent.specs.Laws.{in-range}
 use Rattle.lent.specs.Lent.{Lent, refusalOf, outOfRange, wrongLength, oversized}
@@ -65,9 +65,15 @@ module _ (n : ℕ) (rules : List ℤ) (row : List ℕ) (d needed room : ℕ) whe
     past : refusalOf (lentWith n rules row d needed room) ≡ first (short₁₁ ∷ none ∷ large₁₂ ∷ room₁₅ ∷ [])
     past = in-two ∙ first-late early (none ∷ short₁₁ ∷ none ∷ large₁₂ ∷ room₁₅ ∷ []) sound
 
+    pub refused-length : (r : Refusal) → short₁₁ ≡ some r → refusalOf (lentWith n rules row d needed room) ≡ some r
+    refused-length r e = past ∙ first-some short₁₁ (none ∷ large₁₂ ∷ room₁₅ ∷ []) r e
+
     module _ (long : short₁₁ ≡ none) where
       past-length : refusalOf (lentWith n rules row d needed room) ≡ first (large₁₂ ∷ room₁₅ ∷ [])
       past-length = past ∙ first-none short₁₁ (none ∷ large₁₂ ∷ room₁₅ ∷ []) long
+
+      pub refused-size : (r : Refusal) → large₁₂ ≡ some r → refusalOf (lentWith n rules row d needed room) ≡ some r
+      refused-size r e = past-length ∙ first-some large₁₂ (room₁₅ ∷ []) r e
 
       pub refused-room : large₁₂ ≡ none → refusalOf (lentWith n rules row d needed room) ≡ room₁₅
       refused-room e = past-length ∙ first-none large₁₂ (room₁₅ ∷ []) e ∙ first-last room₁₅
