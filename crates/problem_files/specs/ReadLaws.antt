@@ -1,17 +1,16 @@
 -- What the readers' answers tell, where the list and the row have room for every good file: the file is refused for itself, or what it gives stands at the front.
-use mathlib.Core.Path.{_≡_, refl, sym, ap, ap₂, _∙_}
-use mathlib.Core.Bool.{Bool, true, false, cond, _||_}
+use mathlib.Core.Path.{_≡_, refl, ap, _∙_}
+use mathlib.Core.Bool.{Bool}
 use mathlib.Core.List.{List, _++_}
 use mathlib.Core.Option.{Option, none}
 use Prim.Native.Nat.{ℕ, _+_, _≤_, _<_}
 use native.Mathlib.Omega.{arith}
-use lib.Dec.{ltb}
 use lib.IntN.{ℤ}
 use lib.ListN.{length, take, drop, length-append}
 use lib.Seq.{take-at}
 use borrow.Author.Tests.{le-ltb, lt-ltb}
 use Rattle.refusal.specs.declared.Refusal.{Refusal}
-use Rattle.refusal.specs.Reply.{Reply, refusing, answering, cause, unless, tooShort, filled}
+use Rattle.refusal.specs.Reply.{refusing, answering, cause, unless, tooShort, filled}
 use Rattle.dimacs.specs.Accepted as accepted-rules
 use Rattle.dimacs.specs.Format as rule
 use Rattle.dimacs.specs.Sizes.{sound-length}
@@ -19,7 +18,7 @@ use Rattle.rule_reader.specs.Read as rules
 use Rattle.wish_file.specs.Format as wish
 use Rattle.wish_file.specs.RoundTrip as accepted-wishes
 use Rattle.wish_reader.specs.Read as wishes
-use Rattle.problem_files.specs.Problem.{Problem, silent, maxFile, tooLong, together, problem}
+use Rattle.problem_files.specs.Problem.{Problem, silent, maxFile, together, problem}
 
 -- there is room
 pub no-short : (needed room : ℕ) → needed ≤ room → tooShort needed room ≡ none
