@@ -1,6 +1,6 @@
 // `nearest RULES WISH`, or `nearest` alone for `rules.cnf` and `wish.txt` of the current folder: prints
 // the least number of broken wishes and a choice, or the line of a refusal. What is printed is
-// `printed` in nearest_text/specs/Printed.antt.
+// `nearestPrinted` in nearest_text/specs/Printed.antt.
 use input_file::FileRead;
 use libc::STDERR_FILENO;
 use libc::STDOUT_FILENO;

@@ -7,13 +7,11 @@ use native.Mathlib.Nat.{not-suc-le-zero}
 use native.Mathlib.Numerals.{add-one}
 use native.Mathlib.Omega.{arith}
 use lib.Dec.{eqb, ltb}
-use lib.ListN.{length, getD, take, drop, set, length-take}
-use lib.Seq.{sets, take-suc}
+use lib.ListN.{length, getD, take, length-take}
+use lib.Seq.{take-suc}
 use borrow.Author.Tests.{eq-eqb, ne-eqb, lt-ltb, le-ltb}
-use Rattle.literal.specs.Literal.{literal}
 use Rattle.decimal.specs.Decimal.{decimal}
 use Rattle.decimal.specs.Laws.{count-most}
-use Rattle.dimacs.specs.Written.{numeral}
 use Rattle.nearest_text.specs.Printed.{lineBreak, signedNumber, entry, values}
 
 -- where a line begins

@@ -1,3 +1,4 @@
 pub mod Answers
+pub mod Example
 pub mod Laws
 pub mod Printed

@@ -5,7 +5,7 @@ use mathlib.Core.Option.{Option, none, some}
 use Prim.Native.Nat.{ℕ, suc, _%_}
 use lib.Dec.{eqb, ltb}
 use lib.IntN.{ℤ}
-use lib.ListN.{length, replicate}
+use lib.ListN.{replicate}
 use Rattle.literal.specs.Literal.{literal}
 use Rattle.distance.specs.Distance.{nearest}
 use Rattle.refusal.specs.declared.Refusal.{Refusal}
@@ -68,8 +68,8 @@ abbrev pub withoutLimit : ℕ → List ℤ → List ℕ → ℕ → List ℕ
 withoutLimit n rules row d = nearestText n rules row
 
 -- all that is printed for a rule file and a wish file
-abbrev pub printed : List ℕ → List ℕ → List ℕ
-printed rules wishes = printedFor withoutLimit (problem rules wishes)
+abbrev pub nearestPrinted : List ℕ → List ℕ → List ℕ
+nearestPrinted rules wishes = printedFor withoutLimit (problem rules wishes)
 
 -- no text is longer
 abbrev pub longest : ℕ

@@ -9,13 +9,13 @@ ghost use mathlib.Core.Path.{_≡_};
 ghost use Prim.Native.Nat.{_≤_};
 ghost use lib.ListN.{length};
 ghost use Rattle.report.specs.Report.{fitted};
-ghost use Rattle.nearest_text.specs.Printed.{longest, nearestText, printed};
+ghost use Rattle.nearest_text.specs.Printed.{longest, nearestText, nearestPrinted};
 
 // Puts what is printed for a rule file and a wish file into the lent bytes, if it fits, and gives
 // its length.
 pub fn print_nearest(rules_file: &[u8], wish_file: &[u8], out: &mut [u8]) -> usize
-    ensures length { λ r. ⌜ r ≡ length (printed (now («rules_file» .entry)) (now («wish_file» .entry))) ⌝ }
-    ensures output { λ r. ⌜ now (out .exit) ≡ fitted (printed (now («rules_file» .entry)) (now («wish_file» .entry))) (now (out .entry)) ⌝ }
+    ensures length { λ r. ⌜ r ≡ length (nearestPrinted (now («rules_file» .entry)) (now («wish_file» .entry))) ⌝ }
+    ensures output { λ r. ⌜ now (out .exit) ≡ fitted (nearestPrinted (now («rules_file» .entry)) (now («wish_file» .entry))) (now (out .entry)) ⌝ }
     ensures bound { λ r. ⌜ r ≤ longest ⌝ }
 {
     let mut rules = problem_files::list();

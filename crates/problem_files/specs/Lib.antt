@@ -1,3 +1,4 @@
+pub mod Example
 pub mod Problem
 pub mod Read
 pub mod ReadLaws

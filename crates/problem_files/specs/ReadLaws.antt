@@ -1,17 +1,16 @@
 -- What the readers' answers tell, where the list and the row have room for every good file: the file is refused for itself, or what it gives stands at the front.
-use mathlib.Core.Path.{_≡_, refl, sym, ap, ap₂, _∙_}
-use mathlib.Core.Bool.{Bool, true, false, cond, _||_}
+use mathlib.Core.Path.{_≡_, refl, ap, _∙_}
 use mathlib.Core.List.{List, _++_}
 use mathlib.Core.Option.{Option, none}
 use Prim.Native.Nat.{ℕ, _+_, _≤_, _<_}
 use native.Mathlib.Omega.{arith}
-use lib.Dec.{ltb}
 use lib.IntN.{ℤ}
 use lib.ListN.{length, take, drop, length-append}
 use lib.Seq.{take-at}
 use borrow.Author.Tests.{le-ltb, lt-ltb}
 use Rattle.refusal.specs.declared.Refusal.{Refusal}
-use Rattle.refusal.specs.Reply.{Reply, refusing, answering, cause, unless, tooShort, filled}
+use Rattle.refusal.specs.Laws.{room-enough}
+use Rattle.refusal.specs.Reply.{refusing, answering, unless, tooShort, filled}
 use Rattle.dimacs.specs.Accepted as accepted-rules
 use Rattle.dimacs.specs.Format as rule
 use Rattle.dimacs.specs.Sizes.{sound-length}
@@ -19,11 +18,7 @@ use Rattle.rule_reader.specs.Read as rules
 use Rattle.wish_file.specs.Format as wish
 use Rattle.wish_file.specs.RoundTrip as accepted-wishes
 use Rattle.wish_reader.specs.Read as wishes
-use Rattle.problem_files.specs.Problem.{Problem, silent, maxFile, tooLong, together, problem}
-
--- there is room
-pub no-short : (needed room : ℕ) → needed ≤ room → tooShort needed room ≡ none
-no-short needed room h = ap (λ (b : Bool). cause b 15 needed) (le-ltb room needed h)
+use Rattle.problem_files.specs.Problem.{Problem, silent, maxFile, together, problem}
 
 -- what a call filled, from the front
 pub front {ℓ} : {A : Type ℓ} (l out result : List A) (k : ℕ) → length l ≡ k → result ≡ l ++ drop (length l) out → (take k result ≡ l) × (k ≤ length result)
@@ -34,7 +29,7 @@ front l out result k e f =
 module _ (file : List ℕ) (out : List ℤ) (room : 40000 ≤ length out) where
   fits : (n c : ℕ) (l : List ℤ) → rule.reading file ≡ rule.gives n c l → tooShort (length l) (length out) ≡ none
   fits n c l e =
-      no-short (length l) (length out) (omega (arith, sound-length n l (accepted-rules.accepted file n c l e .sound)))
+      room-enough (length l) (length out) (omega (arith, sound-length n l (accepted-rules.accepted file n c l e .sound)))
 
   pub list-refused : (r : Refusal) → refusing r ≡ rules.readReply (rule.reading file) out → rule.reading file ≡ rule.refuses r
   list-refused r e = go (rule.reading file) refl e
@@ -63,7 +58,7 @@ module _ (file : List ℕ) (out : List ℤ) (room : 40000 ≤ length out) where
 -- a wish file, read into a row
 module _ (file out : List ℕ) (room : 256 ≤ length out) where
   fits-row : (n m d : ℕ) (row : List ℕ) → wish.reading file ≡ wish.gives n m d row → tooShort n (length out) ≡ none
-  fits-row n m d row e = no-short n (length out) (omega (arith, accepted-wishes.accepted file n m d row e .most))
+  fits-row n m d row e = room-enough n (length out) (omega (arith, accepted-wishes.accepted file n m d row e .most))
 
   pub row-refused : (r : Refusal) → refusing r ≡ wishes.readReply file (length out) → wish.reading file ≡ wish.refuses r
   row-refused r e = go (wish.reading file) refl e

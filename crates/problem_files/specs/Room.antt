@@ -1,6 +1,5 @@
 -- A call with wishes is refused for what it is lent, or only for want of room: with room for its output, 15 is no answer.
-use mathlib.Core.Path.{_≡_, refl, sym, ap, _∙_}
-use mathlib.Core.Bool.{Bool}
+use mathlib.Core.Path.{_≡_, refl, sym, _∙_}
 use mathlib.Core.List.{List}
 use mathlib.Core.Logic.{_⊎_, inl, inr}
 use mathlib.Core.Option.{Option, none, some, Option·some-ne-none}
@@ -10,11 +9,11 @@ use lib.IntN.{ℤ}
 use lib.ListN.{length}
 use Rattle.formula.specs.Formula.{clauses, literals}
 use Rattle.refusal.specs.declared.Refusal.{Refusal}
+use Rattle.refusal.specs.Laws.{room-enough}
 use Rattle.refusal.specs.Reply.{cause}
 use Rattle.lent.specs.Lent.{refusalOf, wrongLength, oversized}
 use Rattle.lent.specs.Scans.{unsound}
 use Rattle.searches.specs.Admitted.{Admitted, lentWith, refused-unsound, refused-length, refused-size, admitted-of, admitted-room}
-use Rattle.problem_files.specs.ReadLaws.{no-short}
 
 module _ (n : ℕ) (rules : List ℤ) (row : List ℕ) (d : ℕ) where
   -- refused with any room, for one cause
@@ -45,8 +44,8 @@ module _ (n : ℕ) (rules : List ℤ) (row : List ℕ) (d : ℕ) where
       go : Refused ⊎ Admitted n rules row d → refusalOf (lentWith n rules row d needed room) ≡ refusalOf (lentWith n rules row d needed needed)
       go (inl (r, e)) = e needed room ∙ sym (e needed needed)
       go (inr a) =
-          admitted-room n rules row d needed room a ∙ no-short needed room (h a)
-          ∙ sym (admitted-room n rules row d needed needed a ∙ no-short needed needed (le-refl needed))
+          admitted-room n rules row d needed room a ∙ room-enough needed room (h a)
+          ∙ sym (admitted-room n rules row d needed needed a ∙ room-enough needed needed (le-refl needed))
 
   -- what is not refused is admitted
   pub unrefused : (needed room : ℕ) → refusalOf (lentWith n rules row d needed room) ≡ none → Admitted n rules row d

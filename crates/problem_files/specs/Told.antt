@@ -1,12 +1,13 @@
 -- What each answer of the reading of both files tells of the text that is printed for them.
-use mathlib.Core.Path.{_≡_, sym, ap, subst, _∙_}
+use mathlib.Core.Path.{_≡_, refl, sym, ap, subst, _∙_}
 use mathlib.Core.List.{List, []}
 use Prim.Native.Nat.{ℕ, _≤_}
 use native.Mathlib.Omega.{arith}
 use lib.IntN.{ℤ}
 use lib.ListN.{length, take, length-take}
 use Rattle.refusal.specs.declared.Refusal.{Refusal}
-use Rattle.report.specs.Report.{refusalLine}
+use Rattle.report.specs.Laws.{renamed, fitted-none}
+use Rattle.report.specs.Report.{refusalLine, fitted}
 use Rattle.problem_files.specs.Problem.{printedFor, problem}
 use Rattle.problem_files.specs.Read.{problemOf, Sized}
 use Rattle.problem_files.specs.declared.ReadProblem.{ReadProblem}
@@ -14,17 +15,26 @@ use Rattle.problem_files.specs.declared.ReadProblem.the-variants.{TooLon
 use Rattle.problem_files.specs.declared.Sizes.{Sizes}
 
 module _ (answer : ℕ → List ℤ → List ℕ → ℕ → List ℕ) (rules-file wish-file : List ℕ) (rules : List ℤ) (row : List ℕ) (reply : ReadProblem) (e : problemOf reply rules row ≡ problem rules-file wish-file) where
-  same : (other : ReadProblem) → reply ≡ other → printedFor answer (problemOf other rules row) ≡ printedFor answer (problem rules-file wish-file)
+  abbrev text : List ℕ
+  text = printedFor answer (problem rules-file wish-file)
+
+  -- the text's length was given, and it was put where it fits
+  abbrev Said : ℕ → List ℕ → List ℕ → Type 0
+  Said r out result = (r ≡ length text) × (result ≡ fitted text out)
+
+  same : (other : ReadProblem) → reply ≡ other → printedFor answer (problemOf other rules row) ≡ text
   same other f = ap (λ (q : ReadProblem). printedFor answer (problemOf q rules row)) (sym f) ∙ ap (printedFor answer) e
 
-  pub told-long : reply ≡ TooLong → [] ≡ printedFor answer (problem rules-file wish-file)
-  told-long f = same TooLong f
+  pub said-long : reply ≡ TooLong → (out : List ℕ) → Said 0 out out
+  said-long f out = renamed [] text 0 out out (same TooLong f) refl (fitted-none out)
 
-  pub told-refused : (r : Refusal) → reply ≡ Refused r → refusalLine r ≡ printedFor answer (problem rules-file wish-file)
-  told-refused r f = same (Refused r) f
+  pub said-refused : (q : Refusal) → reply ≡ Refused q → (r : ℕ) (out result : List ℕ) → r ≡ length (refusalLine q) → result ≡ fitted (refusalLine q) out → Said r out result
+  said-refused q f r out result g h = renamed (refusalLine q) text r out result (same (Refused q) f) g h
 
-  pub told-read : (s : Sizes) → reply ≡ Read s → answer (s .variables) (take (s .length) rules) (take (s .wished) row) (s .limit) ≡ printedFor answer (problem rules-file wish-file)
-  told-read s f = same (Read s) f
+  pub said-read : (s : Sizes) → reply ≡ Read s → (r : ℕ) (out result : List ℕ) → r ≡ length (answer (s .variables) (take (s .length) rules) (take (s .wished) row) (s .limit))
+      → result ≡ fitted (answer (s .variables) (take (s .length) rules) (take (s .wished) row) (s .limit)) out → Said r out result
+  said-read s f r out result g h =
+      renamed (answer (s .variables) (take (s .length) rules) (take (s .wished) row) (s .limit)) text r out result (same (Read s) f) g h
 
 -- the list and the row that were read can be lent
 pub told-sizes : (rules : List ℤ) (row : List ℕ) (reply : ReadProblem) → Sized reply (length rules) (length row) → (s : Sizes) → reply ≡ Read s

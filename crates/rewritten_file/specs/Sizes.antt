@@ -1,9 +1,9 @@
 -- How long the file of a sound list can be.
-use mathlib.Core.Path.{_≡_, refl, sym, ap, _∙_}
+use mathlib.Core.Path.{_≡_, refl}
 use mathlib.Core.Bool.{Bool, true, false, cond, _&&_}
-use mathlib.Core.List.{List, [], _∷_, _++_}
+use mathlib.Core.List.{List, [], _∷_}
 use mathlib.Core.Option.{none}
-use Prim.Native.Nat.{ℕ, suc, _+_, _*_, _≤_, _<_}
+use Prim.Native.Nat.{ℕ, suc, _*_, _≤_}
 use native.Mathlib.Omega.{arith}
 use lib.Dec.{leb, ltb}
 use lib.IntN.{ℤ, pos, negsuc}
@@ -13,7 +13,6 @@ use Rattle.literal.specs.Literal.{variable}
 use Rattle.formula.specs.Formula.{closes, clauses}
 use Rattle.lent.specs.Limits.{maxVariables, maxClauses, maxLiterals}
 use Rattle.lent.specs.Sound.{Scan, mayJoin, stands, after, unread, badRule}
-use Rattle.decimal.specs.Decimal.{decimal}
 use Rattle.decimal.specs.Laws.{count-most}
 use Rattle.soundness.specs.Laws.{and-left}
 use Rattle.dimacs.specs.RoundTrip.{heading-length}

@@ -1,13 +1,9 @@
 -- `nearest_text::print_nearest` meets its contract: nothing, the line of a refusal of the files, or what nearest comes to.
-use mathlib.Core.List.{[]}
 use Prim.Native.Nat.{_≤_}
 use native.Mathlib.Omega.{arith}
-use mathlib.Core.Path.{refl}
-use lib.ListN.{length, take}
-use Rattle.report.specs.Laws.{renamed, fitted-none}
-use Rattle.report.specs.Report.{refusalLine}
-use Rattle.problem_files.specs.Told.{told-long, told-refused, told-read, told-sizes, cut}
-use Rattle.nearest_text.specs.Printed.{withoutLimit, printed}
+use lib.ListN.{length}
+use Rattle.problem_files.specs.Told.{said-long, said-refused, said-read, told-sizes, cut}
+use Rattle.nearest_text.specs.Printed.{withoutLimit}
 use borrow.Author.Needs.{needs}
 use Rattle.nearest_text.proofs.print_nearest.Statement.{statement}
 use Rattle.nearest_text.proofs.print_nearest.Tie as tie
@@ -64,8 +60,7 @@ returns : tie.Need-returns
 returns c =
     let args = c .before .before .before .before .before .before .before .before .before .before .before .before .args in
     let call = c .before .before .before .before .read-problem in
-    let text = told-long withoutLimit (args .rules-file .now) (args .wish-file .now) (call .last .1 .1 .0) (call .last .1 .1 .1 .0) (call .result) (call .ensures .0) (c .enum-told .given .1) in
-    let said = renamed [] (printed (args .rules-file .now) (args .wish-file .now)) 0 (args .out .now) (args .out .now) text refl (fitted-none (args .out .now)) in
+    let said = said-long withoutLimit (args .rules-file .now) (args .wish-file .now) (call .last .1 .1 .0) (call .last .1 .1 .1 .0) (call .result) (call .ensures .0) (c .enum-told .given .1) (args .out .now) in
     (said .0, (said .1, omega arith))
 
 same-length : tie.Need-same-length
@@ -75,10 +70,10 @@ returns-2 : tie.Need-returns-2
 returns-2 c =
     let args = c .before .before .before .before .before .before .before .before .before .before .before .before .before .before .before .before .before .args in
     let call = c .before .before .before .before .before .before .before .before .before .read-problem in
-    let r = c .before .before .before .before .before .r .given .0 .0 in
+    let held = c .before .before .before .before .before .r .given in
     let put = c .before .before .put-refusal in
-    let text = told-refused withoutLimit (args .rules-file .now) (args .wish-file .now) (call .last .1 .1 .0) (call .last .1 .1 .1 .0) (call .result) (call .ensures .0) r (c .before .before .before .before .before .r .given .1) in
-    let said = renamed (refusalLine r) (printed (args .rules-file .now) (args .wish-file .now)) (put .result) (args .out .now) (put .last .1 .0) text (put .ensures .0) (put .ensures .1) in
+    let said = said-refused withoutLimit (args .rules-file .now) (args .wish-file .now) (call .last .1 .1 .0) (call .last .1 .1 .1 .0) (call .result) (call .ensures .0) (held .0 .0) (held .1)
+    (put .result) (args .out .now) (put .last .1 .0) (put .ensures .0) (put .ensures .1) in
     (said .0, (said .1, omega (arith, put .ensures .2)))
 
 same-length-2 : tie.Need-same-length-2
@@ -88,11 +83,10 @@ returns-3 : tie.Need-returns-3
 returns-3 c =
     let args = c .before .before .before .before .before .before .before .before .before .before .before .before .before .before .before .before .before .before .before .args in
     let call = c .before .before .before .before .before .before .before .before .before .before .before .read-problem in
-    let s = c .before .before .before .before .before .before .before .sizes .given .0 .0 in
+    let held = c .before .before .before .before .before .before .before .sizes .given in
     let put = c .before .before .put-nearest in
-    let text = told-read withoutLimit (args .rules-file .now) (args .wish-file .now) (call .last .1 .1 .0) (call .last .1 .1 .1 .0) (call .result) (call .ensures .0) s (c .before .before .before .before .before .before .before .sizes .given .1) in
-    let said = renamed (withoutLimit (s .variables) (take (s .length) (call .last .1 .1 .0)) (take (s .wished) (call .last .1 .1 .1 .0)) (s .limit))
-    (printed (args .rules-file .now) (args .wish-file .now)) (put .result) (args .out .now) (put .last .1 .1 .1 .0) text (put .ensures .0) (put .ensures .1 .0) in
+    let said = said-read withoutLimit (args .rules-file .now) (args .wish-file .now) (call .last .1 .1 .0) (call .last .1 .1 .1 .0) (call .result) (call .ensures .0) (held .0 .0) (held .1)
+    (put .result) (args .out .now) (put .last .1 .1 .1 .0) (put .ensures .0) (put .ensures .1 .0) in
     (said .0, (said .1, put .ensures .1 .1))
 
 pub print-nearest-spec : {M : Type 1} → statement M

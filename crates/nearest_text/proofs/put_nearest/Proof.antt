@@ -1,5 +1,5 @@
 -- `nearest_text::put_nearest` meets its contract: nearest is refused, finds a choice, or none.
-use mathlib.Core.Path.{_≡_, sym, ap, _∙_}
+use mathlib.Core.Path.{sym, ap, _∙_}
 use mathlib.Core.Option.{some}
 use Prim.Native.Nat.{_≤_}
 use native.Mathlib.Omega.{arith}

@@ -1,5 +1,5 @@
 -- `problem_files::read_problem` meets its contract: a file is too long, the rule file is refused, or all goes by the wish file.
-use mathlib.Core.Path.{_≡_, sym, ap, _∙_}
+use mathlib.Core.Path.{sym, ap, _∙_}
 use lib.ListN.{length}
 use Rattle.dimacs.specs.Format as rule
 use Rattle.wish_file.specs.Format as wish

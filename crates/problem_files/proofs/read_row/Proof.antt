@@ -1,8 +1,7 @@
 -- `problem_files::read_row` meets its contract: the wish file is refused, or its row stands at the front.
-use mathlib.Core.Path.{_≡_, sym, ap, _∙_}
+use mathlib.Core.Path.{sym, ap, _∙_}
 use native.Mathlib.Nat.{le-refl}
 use lib.ListN.{take}
-use Rattle.wish_file.specs.Format.{Reading}
 use Rattle.wish_reader.specs.Read.{replyOf}
 use Rattle.problem_files.specs.Problem.{withWishes}
 use Rattle.problem_files.specs.ReadLaws.{row-refused, row-read}

@@ -1,5 +1,5 @@
 -- `rewritten_file::put_rewritten` meets its contract: rewriting is refused, or its list is written.
-use mathlib.Core.Path.{_≡_, sym, ap, _∙_}
+use mathlib.Core.Path.{sym, ap, _∙_}
 use Prim.Native.Nat.{_≤_}
 use native.Mathlib.Omega.{arith}
 use lib.ListN.{length, take, length-take}

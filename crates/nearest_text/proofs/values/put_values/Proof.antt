@@ -1,10 +1,10 @@
 -- `nearest_text::values::put_values` meets its contract. The loop's invariant: the values passed are written.
-use mathlib.Core.Path.{_≡_, refl, sym, ap, subst, _∙_}
+use mathlib.Core.Path.{_≡_, subst, _∙_}
 use mathlib.Core.List.{List}
 use Prim.Native.Nat.{ℕ, _+_, _-_, _*_, _≤_}
 use native.Mathlib.Omega.{arith}
 use lib.ListN.{length, getD, take}
-use lib.Seq.{sets, take-all}
+use lib.Seq.{take-all}
 use borrow.Author.Needs.{needs}
 use Rattle.report.specs.Laws.{Puts, puts-more}
 use Rattle.nearest_text.specs.Laws.{values-next}
