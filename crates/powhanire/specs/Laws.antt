@@ -18,7 +18,7 @@ module _ {A : Type 0} (reply-of : A → Reply) where
   passed-on e given replied = given ∙ ap (λ (z : A). answerOf (reply-of z)) (sym e) ∙ ap answerOf replied
 
 -- what a search's answer means, its numbers say
-module _ (Means : Searched → Type 0) where
+module _ {Means : Searched → Type 0} where
   refusal-says : (r : Refusal) → Told (refusing r) → Says Means (answerOf (refusing r))
   refusal-says r told = record { found = λ e. absurd (omega arith); none = λ e f. absurd (true≢false (sym (told .answered e))) }
 

@@ -1,6 +1,5 @@
 -- What the answer of a search means, said of its numbers.
 use mathlib.Core.Path.{_≡_}
-use Prim.Native.Nat.{ℕ}
 use lib.ListN.{getD}
 use Rattle.searches.specs.declared.Searched.{Searched}
 use Rattle.searches.specs.declared.Searched.the-variants.{Found, Nothing}

@@ -1,8 +1,7 @@
 -- `powhanire::search::powhanire_nearest` meets its contract: what the search answers is passed on.
+use mathlib.Core.Path.{ap, _∙_}
 use lib.ListN.{length}
 use borrow.Author.Needs.{needs}
-use mathlib.Core.Path.{ap, _∙_}
-use Rattle.searches.specs.Answers.{NearestMeans}
 use Rattle.powhanire.specs.Answers.{answerOf}
 use Rattle.powhanire.specs.Laws.{says}
 use Rattle.powhanire.specs.Replies.{nearest-told}
@@ -20,9 +19,12 @@ same-length c = search needs
 
 returns : tie.Need-returns
 returns c =
-    let start = c .before .before .before .before .before .before .before in
+    let args = c .before .before .before .before .before .before .before .args in
     let called = c .before .before .before .search in
-    (c .answer-of .ensures ∙ ap answerOf (called .ensures .0), (called .ensures .1 .0, says (NearestMeans (start .args .n) (start .args .rules .now) (start .args .row .now) (called .last .1 .1 .1 .0)) (called .result) (c .answer-of .ensures) (called .ensures .0) (nearest-told (start .args .n) (start .args .rules .now) (start .args .row .now) (length (start .args .choice .now))) (called .ensures .1 .1)))
+    let given = c .answer-of .ensures in
+    let reply = called .ensures .0 in
+    let told = nearest-told (args .n) (args .rules .now) (args .row .now) (length (args .choice .now)) in
+    (given ∙ ap answerOf reply, (called .ensures .1 .0, says (called .result) given reply told (called .ensures .1 .1)))
 
 pub powhanire-nearest-spec : {M : Type 1} → statement M
 powhanire-nearest-spec =
