@@ -3,7 +3,7 @@
 use reference::walk::{broken, met};
 use reference::*;
 
-fn brief(a: Answer) -> (u64, u64) {
+fn refused(a: Answer) -> (u64, u64) {
     (a.refusal, a.place)
 }
 
@@ -38,11 +38,11 @@ fn examples() {
         ("c one\nc two", 1, 11),
         ("c one\n\np cnf 1 0\n", 1, 6),
     ] {
-        assert_eq!(brief(read(file).0), (refusal, place), "{file:?}");
+        assert_eq!(refused(read(file).0), (refusal, place), "{file:?}");
     }
-    assert_eq!(brief(read_wishes(&[b' '; 15], &mut [])), (8, 0));
-    assert_eq!(brief(search(1, &[], &[1], 64, &mut c)), (0, 0));
-    assert_eq!(brief(search(1, &[], &[1], 65, &mut c)), (14, 0));
+    assert_eq!(refused(read_wishes(&[b' '; 15], &mut [])), (8, 0));
+    assert_eq!(refused(search(1, &[], &[1], 64, &mut c)), (0, 0));
+    assert_eq!(refused(search(1, &[], &[1], 65, &mut c)), (14, 0));
 }
 
 #[test]
