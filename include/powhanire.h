@@ -48,7 +48,8 @@ extern "C" {
 /* What every call returns.
  *
  * refusal, place (the first that applies; places count from 0)
- *    1  rule file: header absent or malformed        the line's first byte; file length if there is no line
+ *    1  rule file: header absent or malformed        first byte of the first line that is neither comment nor
+ *                                                     header; file length if there is none
  *    2  rule file: N or C outside range              the header's first byte
  *    3  rule file: malformed token                   the token's first byte
  *    4  rule file: entry above N                     the token's first byte

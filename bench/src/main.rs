@@ -1,7 +1,6 @@
 //! walks table                     this library's nearest beside two Rust walks, as a table
 //! walks write FOLDER              the books of the process table: FOLDER/CLASS/SEED.cnf, .wish, .opb
 //! walks rewrite CNF WISH D OUT    the rewritten rule file at limit D
-//! walks nearest CNF WISH          the library's nearest count of two files, as one process
 
 mod books;
 mod counted;
@@ -24,7 +23,7 @@ const TIMED: [Class; 8] = [
     ("terminal", 250, 1500, 64, 10),
 ];
 
-/// The last two are there because a solver that learns is better at them.
+/// Of growing difficulty for a walk that learns nothing.
 const PROCESSES: [Class; 7] = [
     ("terminal", 40, 100, 20, 5),
     ("terminal", 80, 250, 30, 5),
@@ -176,24 +175,12 @@ fn rewrite(cnf: &str, wish: &str, d: u64, out: &str) {
     std::fs::write(out, rule_file::write(settings, &list)).unwrap();
 }
 
-fn nearest(cnf: &str, wish: &str) {
-    let (mut rules, mut row, mut choice) = (vec![0; 40_000], [0; 256], [0; 256]);
-    let r = powhanire::read_rules(&std::fs::read(cnf).unwrap(), &mut rules);
-    let w = powhanire::read_wishes(&std::fs::read(wish).unwrap(), &mut row);
-    assert_eq!((r.refusal, w.refusal), (0, 0));
-    let n = w.value[0];
-    let a = powhanire::nearest(n, &rules[..r.value[2] as usize], &row[..n as usize], &mut choice[..n as usize]);
-    assert_eq!((a.refusal, a.verdict), (0, 1));
-    println!("o {}", a.value[0]);
-}
-
 fn main() {
     let words: Vec<String> = std::env::args().skip(1).collect();
     match words.iter().map(String::as_str).collect::<Vec<_>>()[..] {
         ["table"] => table(),
         ["write", folder] => write(folder),
         ["rewrite", cnf, wish, d, out] => rewrite(cnf, wish, d.parse().unwrap(), out),
-        ["nearest", cnf, wish] => nearest(cnf, wish),
-        _ => panic!("walks table | write FOLDER | rewrite CNF WISH D OUT | nearest CNF WISH"),
+        _ => panic!("walks table | write FOLDER | rewrite CNF WISH D OUT"),
     }
 }

@@ -171,7 +171,7 @@ static void nearest_deep(void) { result = powhanire_nearest(256, ladder256, ladd
 static void nearest_full(void) { result = powhanire_nearest(256, full256, full256_len, on64, 256, out_choice, 256); }
 static void rewrite(void) { result = powhanire_rewrite(256, full256, full256_len, off64, 256, 0, out_rewritten, REWRITTEN); }
 
-/* With each call its input, its answer, and the stack that include/powhanire.h says it takes at most. */
+/* With each call its input, its answer, and a bound on its stack, a little above what include/powhanire.h says. */
 static const struct {
     const char *call, *input;
     void (*run)(void);

@@ -1,5 +1,5 @@
 -- What `any` and `all` of crate formula and `keep` and `least` of crate distance say of the members of a list.
-use mathlib.Core.Path.{_≡_, refl, sym, ap, ap₂, subst, _∙_}
+use mathlib.Core.Path.{_≡_, refl, sym, ap, subst, _∙_}
 use mathlib.Core.Logic.{_↔_}
 use mathlib.Core.Bool.{Bool, true, false, cond, _&&_, _||_, true≢false, or-true}
 use mathlib.Core.List.{List, [], _∷_, List·Memᴰ, List·Memᴰ·head, List·Memᴰ·tail, List·Memᴰ·not-nil}
@@ -45,10 +45,6 @@ all-at p {x = x} h (List·Memᴰ·tail {x = y} {xs = l} m) = all-at p (go (p y) 
     go : (b : Bool) → b && all p l ≡ true → all p l ≡ true
     go true q = q
     go false q = absurd (true≢false (sym q))
-
-pub all-of {ℓ} : {A : Type ℓ} (p : A → Bool) (l : List A) → ((x : A) → List·Memᴰ x l → p x ≡ true) → all p l ≡ true
-all-of p [] h = refl
-all-of p (y ∷ l) h = ap₂ _&&_ (h y (List·Memᴰ·head refl)) (all-of p l (λ x m. h x (List·Memᴰ·tail m)))
 
 -- some member fails a test that the list fails
 pub all-false {ℓ} : {A : Type ℓ} (p : A → Bool) (l : List A) → all p l ≡ false → (x : A) × List·Memᴰ x l × (p x ≡ false)

@@ -1,6 +1,7 @@
 // A file that a program reads. No contract can say which bytes a file has; these functions say how
 // many of the lent bytes were filled.
 ghost use mathlib.Core.Path.{_≡_};
+ghost use Prim.Native.Nat.{_<_};
 ghost use lib.ListN.{length};
 ghost use Rattle.input_file.specs.Filled.{Filled};
 
@@ -17,9 +18,11 @@ pub fn space() -> [u8; 65537]
     [0; 65537]
 }
 
-// Reads a file to its end, or as far as there is room. Where that fails, a line on standard error
+// Reads a file to its end, or as far as there is room: for one byte more than the 65,536 that document
+// 01 allows a program's file, so that a longer file shows. Where that fails, a line on standard error
 // has the file's name and why.
 pub fn read_file(path: &[u8], buf: &mut [u8]) -> FileRead
+    requires { ⌜ 65536 < length (now buf) ⌝ }
     ensures { λ r. ⌜ Filled r (now (buf .exit)) ⌝ }
 {
     let file = os::open_read(path);

@@ -1,6 +1,5 @@
 -- The equations by which proofs read a variable's value.
 use mathlib.Core.Path.{_≡_, refl}
-use mathlib.Core.Bool.{Bool, true, false}
 use mathlib.Core.List.{List, [], _∷_}
 use Prim.Native.Nat.{ℕ, zero, suc, _-_, _^_, _≤_, _<_}
 use native.Mathlib.Nat.{le-of-suc-le-suc, not-suc-le-zero}
@@ -11,7 +10,7 @@ use mir.Syntax.{w32}
 use mir.Val.{hbits, toZ, ofZ}
 use mir.ValLaws.{toZ-ofZ}
 use lib.ListN.{length, getD, List·getD-eq-default}
-use Rattle.literal.specs.Literal.{variable, wanted, literal, value}
+use Rattle.literal.specs.Literal.{variable, value}
 
 -- inside a list the default does not matter
 pub getD-inside {ℓ} : {A : Type ℓ} (l : List A) (i : ℕ) (d e : A) → i < length l → getD l i d ≡ getD l i e
@@ -26,16 +25,6 @@ value-at a (suc k) h = rw (sub-one (suc k))
 
 pub value-past : (a : List ℕ) (v : ℕ) → 0 < v → length a ≤ v - 1 → value a v ≡ 2
 value-past a v h l = rw (value-at a v h) (List·getD-eq-default a 2 l)
-
--- a literal made of a variable speaks of that variable, and asks for what it was made to
-pub variable-literal : (v : ℕ) (positive : Bool) → variable (literal v positive) ≡ v
-variable-literal v true = refl
-variable-literal zero false = refl
-variable-literal (suc k) false = refl
-
-pub wanted-off : (v : ℕ) → 0 < v → wanted (literal v false) ≡ 0
-wanted-off zero h = absurd (not-suc-le-zero h)
-wanted-off (suc k) h = refl
 
 -- an i32 that was read out of a list is the list's number
 pub as-read : (z : ℤ) → mag z < 2 ^ hbits w32 → toZ w32 (ofZ w32 z) ≡ z

@@ -18,12 +18,6 @@ undone s [] a = []
 undone s (t ∷ trail) [] = []
 undone s (t ∷ trail) (b ∷ a) = cond (ltb t s) b 2 ∷ undone s trail a
 
-pub undone-length : (s : ℕ) (trail a : List ℕ) → length trail ≡ length a → length (undone s trail a) ≡ length a
-undone-length s [] [] e = refl
-undone-length s [] (b ∷ a) e = omega (arith, e)
-undone-length s (t ∷ trail) [] e = refl
-undone-length s (t ∷ trail) (b ∷ a) e = ap suc (undone-length s trail a (omega (arith, e)))
-
 -- what was unassigned and is assigned now, after k others, is taken away by every s up to k
 late : (k s b : ℕ) → s ≤ k → cond (ltb k s) b 2 ≡ 2
 late k s b h = rw (le-ltb k s h)

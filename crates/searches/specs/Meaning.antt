@@ -8,7 +8,7 @@ use native.Mathlib.Omega.{arith}
 use lib.IntN.{ℤ}
 use lib.ListN.{replicate}
 use Rattle.formula.specs.Formula.{clauses}
-use Rattle.distance.specs.Distance.{disagreement, within, nearest}
+use Rattle.distance.specs.Distance.{disagreement, nearest}
 use Rattle.choices.specs.Choices.{Model, nearest-none}
 use Rattle.lent.specs.Sound.{unread, badRule}
 use Rattle.walk.specs.Promises.{Found, Closest}

@@ -7,7 +7,6 @@ use lib.Dec.{eqb, ltb}
 use lib.IntN.{ℤ, pos, negsuc, negℤ}
 use lib.ListN.{length, take, drop, replicate}
 use Rattle.literal.specs.Literal.{variable, holds}
-use Rattle.formula.specs.Formula.{all}
 use Rattle.distance.specs.Distance.{weight}
 use Rattle.soundness.specs.Flat.{flat}
 

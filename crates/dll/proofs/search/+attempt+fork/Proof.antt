@@ -22,7 +22,6 @@ use Rattle.tally.specs.declared.Tally.{Tally}
 use Rattle.propagation.specs.declared.propagate.Propagated.the-variants.{Dead, Settled}
 use Rattle.propagation.specs.Propagated as P
 use Rattle.propagation.specs.Searching.{Searching, Later, later-more, assigned, restored, restored-later, restored-searching}
-use Rattle.propagation.specs.Trail.{undone}
 use Rattle.dll.specs.AttemptLaws.{by-propagation, by-completion, by-exhaustion, by-fork}
 use Rattle.searches.specs.Fits.{sound-fits}
 use Rattle.dll.specs.ForkLaws.{first-found, second-found, none-found, branch-searching, branch-fewer, branch-after, branch-room}
