@@ -41,6 +41,7 @@ pub fn fewest_opposed(list: &[i32], row: &[u8], assignment: &[u8]) -> Fewest
         from = end + 1;
     }
     if found {
+        // the count of the clause that was handed back, once more
         return Fewest::Literals(unassigned_in(shortest, assignment));
     }
     Fewest::Nothing
