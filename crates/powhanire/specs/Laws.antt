@@ -7,8 +7,8 @@ use Rattle.refusal.specs.Reply.{Reply, refusing}
 use Rattle.searches.specs.Answers.{replyOf}
 use Rattle.searches.specs.declared.Searched.{Searched}
 use Rattle.searches.specs.declared.Searched.the-variants.{Refused, Found, Nothing}
-use Rattle.powhanire.specs.declared.answers.Answer.{Answer}
-use Rattle.powhanire.specs.Answers.{answerOf}
+use Rattle.answers.specs.declared.numbers.Answer.{Answer}
+use Rattle.answers.specs.Answers.{answerOf}
 use Rattle.powhanire.specs.Meaning.{Says}
 use Rattle.powhanire.specs.Replies.{Told}
 

@@ -3,7 +3,7 @@ use mathlib.Core.Path.{_≡_}
 use lib.ListN.{getD}
 use Rattle.searches.specs.declared.Searched.{Searched}
 use Rattle.searches.specs.declared.Searched.the-variants.{Found, Nothing}
-use Rattle.powhanire.specs.declared.answers.Answer.{Answer}
+use Rattle.answers.specs.declared.numbers.Answer.{Answer}
 
 -- A verdict of 1 means what the search means by a choice that it found, with the first value as the number of broken wishes; a verdict of 0 without a refusal means what it means by none.
 pub record Says (Means : Searched → Type 0) (a : Answer) : Type 0 where

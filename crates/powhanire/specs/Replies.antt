@@ -20,7 +20,7 @@ use Rattle.wish_writer.specs.Write as wishes
 use Rattle.searches.specs.Searches.{found, brokenBy, lentToSearch, lentToPlain, searchReply, plainReply, nearestReply}
 use Rattle.totalizer.specs.Totalizer.{rewrittenVariables, rewritten}
 use Rattle.rewriting.specs.Rewrite.{lentToRewrite, rewriteReply}
-use Rattle.powhanire.specs.Answers.{answerOf}
+use Rattle.answers.specs.Answers.{answerOf}
 use Rattle.powhanire.specs.Numbers.{Numbered, lent-numbered}
 
 -- whether a reply is an answer, and no refusal

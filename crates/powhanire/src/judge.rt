@@ -1,19 +1,13 @@
 // The checking call.
-use crate::answers;
-use crate::answers::Answer;
-use checking::Checked;
+use answers::Answer;
 ghost use mathlib.Core.Path.{_≡_};
 ghost use Rattle.checking.specs.Check.{checkReply};
-ghost use Rattle.powhanire.specs.Answers.{answerOf};
+ghost use Rattle.answers.specs.Answers.{answerOf};
 
 // Verdict 1 where the choice meets all rules, 0 where not; the value is the number of broken wishes.
 #[no_mangle]
 pub extern "C" fn powhanire_check(n: usize, rules: &[i32], row: &[u8], choice: &[u8]) -> Answer
     ensures { λ r. ⌜ r ≡ answerOf (checkReply n (now (rules .entry)) (now (row .entry)) (now (choice .entry))) ⌝ }
 {
-    match checking::check(n, rules, row, choice) {
-        Checked::Refused(r) => answers::refused(r),
-        Checked::Met(broken) => answers::answered(1, broken, 0, 0),
-        Checked::Unmet(broken) => answers::answered(0, broken, 0, 0),
-    }
+    answers::of_checked(checking::check(n, rules, row, choice))
 }

@@ -1,23 +1,11 @@
 // The three searches. Verdict 1 where a choice was found, and 0 where there is none.
-use crate::answers;
-use crate::answers::Answer;
-use searches::Searched;
+use answers::Answer;
 ghost use mathlib.Core.Path.{_≡_};
 ghost use lib.ListN.{length};
-ghost use Rattle.searches.specs.Answers.{replyOf, SearchMeans, PlainMeans, NearestMeans};
+ghost use Rattle.searches.specs.Answers.{SearchMeans, PlainMeans, NearestMeans};
 ghost use Rattle.searches.specs.Searches.{searchReply, searchChoice, plainReply, plainChoice, nearestReply, nearestChoice};
-ghost use Rattle.powhanire.specs.Answers.{answerOf};
+ghost use Rattle.answers.specs.Answers.{answerOf};
 ghost use Rattle.powhanire.specs.Meaning.{Says};
-
-fn answer_of(s: Searched) -> Answer
-    ensures { λ r. ⌜ r ≡ answerOf (replyOf s) ⌝ }
-{
-    match s {
-        Searched::Refused(r) => answers::refused(r),
-        Searched::Found(broken) => answers::answered(1, broken, 0, 0),
-        Searched::Nothing => answers::answered(0, 0, 0, 0),
-    }
-}
 
 // A choice within the limit d; the value is the number of broken wishes.
 #[no_mangle]
@@ -32,7 +20,7 @@ pub extern "C" fn powhanire_search(
     ensures output { λ r. ⌜ now (choice .exit) ≡ searchChoice n (now (rules .entry)) (now (row .entry)) d (now (choice .entry)) ⌝ }
     ensures meaning { λ r. ⌜ Says (SearchMeans n (now (rules .entry)) (now (row .entry)) d (now (choice .exit))) r ⌝ }
 {
-    answer_of(wish_search::search(n, rules, row, d, choice))
+    answers::of_searched(wish_search::search(n, rules, row, d, choice))
 }
 
 // A choice that meets all rules.
@@ -42,7 +30,7 @@ pub extern "C" fn powhanire_plain(n: usize, rules: &[i32], choice: &mut [u8]) ->
     ensures output { λ r. ⌜ now (choice .exit) ≡ plainChoice n (now (rules .entry)) (now (choice .entry)) ⌝ }
     ensures meaning { λ r. ⌜ Says (PlainMeans n (now (rules .entry)) (now (choice .exit))) r ⌝ }
 {
-    answer_of(plain_search::search(n, rules, choice))
+    answers::of_searched(plain_search::search(n, rules, choice))
 }
 
 // A nearest choice; the value is the least number of broken wishes.
@@ -57,5 +45,5 @@ pub extern "C" fn powhanire_nearest(
     ensures output { λ r. ⌜ now (choice .exit) ≡ nearestChoice n (now (rules .entry)) (now (row .entry)) (now (choice .entry)) ⌝ }
     ensures meaning { λ r. ⌜ Says (NearestMeans n (now (rules .entry)) (now (row .entry)) (now (choice .exit))) r ⌝ }
 {
-    answer_of(nearest_search::search(n, rules, row, choice))
+    answers::of_searched(nearest_search::search(n, rules, row, choice))
 }

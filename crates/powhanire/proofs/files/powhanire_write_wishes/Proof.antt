@@ -1,51 +1,24 @@
--- `powhanire::files::powhanire_write_wishes` meets its contract: each answer of the call is passed on.
+-- `powhanire::files::powhanire_write_wishes` meets its contract: what the call answers is passed on.
+use mathlib.Core.Path.{ap, _∙_}
 use borrow.Author.Needs.{needs}
-use Rattle.wish_writer.specs.Write.{replyOf}
-use Rattle.powhanire.specs.Laws.{passed-on}
+use Rattle.answers.specs.Answers.{answerOf}
 use Rattle.powhanire.proofs.files.powhanire_write_wishes.Statement.{statement}
 use Rattle.powhanire.proofs.files.powhanire_write_wishes.Tie as tie
 
 write-wishes-requires : tie.Need-write-wishes-requires
 write-wishes-requires c κs = search needs
 
-enum-known-r : tie.Need-enum-known-r
-enum-known-r c = search needs
-
-refused-requires : tie.Need-refused-requires
-refused-requires c κs = search needs
-
-enum-known-length : tie.Need-enum-known-length
-enum-known-length c = search needs
-
-answered-requires : tie.Need-answered-requires
-answered-requires c κs = search needs
+of-written-wishes-requires : tie.Need-of-written-wishes-requires
+of-written-wishes-requires c κs = search needs
 
 same-length : tie.Need-same-length
 same-length c = search needs
 
 returns : tie.Need-returns
 returns c =
-    let called = c .before .before .before .before .before .before .write-wishes in
-    (passed-on replyOf (c .before .before .r .given .1) (c .refused .ensures) (called .ensures .0), called .ensures .1)
-
-same-length-2 : tie.Need-same-length-2
-same-length-2 c = search needs
-
-returns-2 : tie.Need-returns-2
-returns-2 c =
-    let called = c .before .before .before .before .before .before .write-wishes in
-    (passed-on replyOf (c .before .before .length .given .1) (c .answered .ensures) (called .ensures .0), called .ensures .1)
+    let called = c .before .before .before .write-wishes in
+    (c .of-written-wishes .ensures ∙ ap answerOf (called .ensures .0), called .ensures .1)
 
 pub powhanire-write-wishes-spec : {M : Type 1} → statement M
 powhanire-write-wishes-spec =
-    tie.close
-    (tie.spec
-    write-wishes-requires
-    enum-known-r
-    refused-requires
-    enum-known-length
-    answered-requires
-    same-length
-    returns
-    same-length-2
-    returns-2)
+    tie.close (tie.spec write-wishes-requires of-written-wishes-requires same-length returns)

@@ -2,7 +2,7 @@
 use refusal::Refusal;
 ghost use mathlib.Core.Path.{_≡_};
 ghost use Rattle.refusal.specs.Reply.{refusing, answering};
-ghost use Rattle.powhanire.specs.Answers.{answerOf};
+ghost use Rattle.answers.specs.Answers.{answerOf};
 
 // Document 01's number and place of a refusal, or the verdict and up to three values of an answer;
 // whatever is not used is 0.
