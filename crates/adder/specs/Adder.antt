@@ -3,7 +3,7 @@ use mathlib.Core.List.{List, _++_}
 use Prim.Native.Nat.{ℕ, suc, _+_, _≤_}
 use lib.IntN.{ℤ, pos}
 use Rattle.literal.specs.Literal.{variable}
-use Rattle.lent.specs.Limits.{maxVariables}
+use Rattle.limits.specs.Limits.{maxVariables}
 use Rattle.totalizer.specs.Totalizer.{up, down, below, adder}
 use Rattle.adder.specs.declared.clauses.Adder.{Adder}
 use Rattle.adder.specs.declared.outputs.Outputs.{Outputs}

@@ -13,9 +13,10 @@ use Rattle.refusal.specs.declared.Refusal.{Refusal}
 use Rattle.refusal.specs.Laws.{first-late, first-last, no-first, cause-none, enough-room}
 use Rattle.refusal.specs.Reply.{refusal, first, cause, causeAt, tooShort}
 use Rattle.lent.specs.Lent.{refusalOf, outOfRange, wrongLength, oversized}
-use Rattle.lent.specs.Limits.{maxWishVariables}
+use Rattle.limits.specs.Limits.{maxWishVariables}
 use Rattle.lent.specs.Scans.{unsound}
-use Rattle.lent.specs.Sound.{unread, badRule, badWish}
+use Rattle.rule_list.specs.Sound.{unread, badRule}
+use Rattle.lent.specs.Sound.{badWish}
 use Rattle.searches.specs.Admitted.{lentWith, oversized-not}
 use Rattle.searches.specs.Searches.{lentToPlain}
 

@@ -11,8 +11,9 @@ use Rattle.refusal.specs.Laws.{no-first, cause-none, causeAt-none, enough-room}
 use Rattle.refusal.specs.Reply.{first, cause, causeAt, tooShort}
 use Rattle.lent.specs.Laws.{in-range}
 use Rattle.lent.specs.Lent.{refusalOf, outOfRange, wrongLength, oversized}
-use Rattle.lent.specs.Limits.{maxVariables}
-use Rattle.lent.specs.Sound.{unread, badRule, badWish}
+use Rattle.limits.specs.Limits.{maxVariables}
+use Rattle.rule_list.specs.Sound.{unread, badRule}
+use Rattle.lent.specs.Sound.{badWish}
 use Rattle.searches.specs.Searches.{lentToSearch, lentToPlain}
 
 -- so many variables, a sound list, and room for a choice

@@ -1,7 +1,7 @@
 // Whether a search or rewriting may start: the first cause to refuse what it was lent, if there is one.
 use lent::Problem;
-use lent::RuleScan;
 use refusal::Verdict;
+use rule_list::RuleScan;
 ghost use mathlib.Core.Path.{_≡_};
 ghost use Rattle.refusal.specs.Reply.{refused, first, tooShort};
 ghost use Rattle.lent.specs.Lent.{refusalOf};
@@ -58,7 +58,7 @@ pub fn check_plain(n: usize, rules: &[i32], room: usize) -> Verdict
     if let Verdict::Refuse(r) = lent::check_range(n, 0) {
         return Verdict::Refuse(r);
     }
-    match lent::scan_rules(n, rules) {
+    match rule_list::scan_rules(n, rules) {
         RuleScan::Unsound(place) => refusal::refuse(13, place),
         RuleScan::Sound {
             clauses: _,

@@ -11,7 +11,7 @@ use Rattle.distance.specs.Distance.{nearest}
 use Rattle.refusal.specs.declared.Refusal.{Refusal}
 use Rattle.refusal.specs.Laws.{room-enough}
 use Rattle.refusal.specs.Reply.{Reply, unless, tooShort}
-use Rattle.lent.specs.Limits.{maxLimit}
+use Rattle.limits.specs.Limits.{maxLimit}
 use Rattle.walk.specs.Walk.{walk}
 use Rattle.totalizer.specs.Totalizer.{rewrittenVariables}
 use Rattle.searches.specs.Admitted.{Admitted, admitted-room}

@@ -14,9 +14,10 @@ use Rattle.refusal.specs.declared.Refusal.{Refusal}
 use Rattle.refusal.specs.Reply.{Reply, first, cause, causeAt, tooShort, answering, unless}
 use Rattle.refusal.specs.Laws.{first-last, causeAt-none}
 use Rattle.lent.specs.Lent.{refusalOf, outOfRange, wrongLength, oversized}
-use Rattle.lent.specs.Limits.{maxVariables, maxLimit}
+use Rattle.limits.specs.Limits.{maxVariables, maxLimit}
 use Rattle.lent.specs.ScanLaws.{by-none}
-use Rattle.lent.specs.Sound.{unread, badRule, badWish}
+use Rattle.rule_list.specs.Sound.{unread, badRule}
+use Rattle.lent.specs.Sound.{badWish}
 use Rattle.totalizer.specs.Totalizer.{rewrittenVariables, rewritten}
 use Rattle.searches.specs.Admitted.{Admitted, admitted-of}
 use Rattle.searches.specs.Searches.{lentToPlain}

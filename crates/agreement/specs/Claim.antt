@@ -12,7 +12,7 @@ use Rattle.formula.specs.Formula.{clauses, models}
 use Rattle.distance.specs.Distance.{wishes, disagreement}
 use Rattle.choices.specs.Choices.{Choice, Model}
 use Rattle.refusal.specs.Reply.{Reply}
-use Rattle.lent.specs.Limits.{maxLimit}
+use Rattle.limits.specs.Limits.{maxLimit}
 use Rattle.totalizer.specs.Totalizer.{leaves, tree, rewrittenVariables, rewritten, AllCount}
 use Rattle.searches.specs.Searches.{found}
 use Rattle.rewriting.specs.Rewrite.{rewriteReply}

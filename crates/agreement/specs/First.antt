@@ -11,7 +11,7 @@ use Rattle.distance.specs.Distance.{wishes, disagreement, nearest}
 use Rattle.choices.specs.Choices as choices
 use Rattle.choices.specs.Choices.{Model, nearest-some, nearest-none}
 use Rattle.refusal.specs.Reply.{Reply}
-use Rattle.lent.specs.Limits.{maxLimit}
+use Rattle.limits.specs.Limits.{maxLimit}
 use Rattle.walk.specs.Nearest.{disagreement-wishes}
 use Rattle.totalizer.specs.Rows.{sound-wishes}
 use Rattle.searches.specs.Admitted.{Admitted}

@@ -15,8 +15,8 @@ use Rattle.refusal.specs.declared.Refusal.{Refusal}
 use Rattle.refusal.specs.Laws.{room-enough}
 use Rattle.refusal.specs.Reply.{Reply, cause, answering, unless, filled, tooShort}
 use Rattle.lent.specs.Lent.{refusalOf, outOfRange}
-use Rattle.lent.specs.Limits.{maxVariables}
-use Rattle.lent.specs.Sound.{unread, badRule}
+use Rattle.limits.specs.Limits.{maxVariables}
+use Rattle.rule_list.specs.Sound.{unread, badRule}
 use Rattle.walk.specs.Walk.{plainWalk}
 use Rattle.totalizer.specs.Totalizer.{rewrittenVariables, rewritten}
 use Rattle.totalizer.specs.Theorems.{rewritten-variables, rewritten-sound}

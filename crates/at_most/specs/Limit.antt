@@ -10,7 +10,7 @@ use lib.Dec.{ltb}
 use lib.IntN.{ℤ, pos, negℤ}
 use lib.ListN.{length, replicate, length-append, length-replicate}
 use borrow.Author.Tests.{lt-ltb, le-ltb}
-use Rattle.lent.specs.Limits.{maxVariables, maxWishes}
+use Rattle.limits.specs.Limits.{maxVariables, maxWishes}
 use Rattle.soundness.specs.Flat.{flat}
 use Rattle.soundness.specs.Laws.{length-flat, flat-append}
 use Rattle.emit.specs.Wrote.{Wrote, wrote-as}

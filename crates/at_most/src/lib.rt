@@ -5,7 +5,7 @@ ghost use mathlib.Core.Path.{_≡_};
 ghost use Prim.Native.Nat.{ℕ, _+_, _≤_};
 ghost use lib.IntN.{ℤ};
 ghost use lib.ListN.{length};
-ghost use Rattle.lent.specs.Limits.{maxVariables, maxWishes};
+ghost use Rattle.limits.specs.Limits.{maxVariables, maxWishes};
 ghost use Rattle.soundness.specs.Flat.{flat};
 ghost use Rattle.emit.specs.Wrote.{Wrote};
 ghost use Rattle.totalizer.specs.Totalizer.{tree, added, atMost};

@@ -12,7 +12,7 @@ use lib.ListN.{length}
 use borrow.Author.Tests.{eq-eqb, ne-eqb, eqb-true, eqb-false, lt-ltb, le-ltb, le-leb, not-true}
 use Rattle.literal.specs.Literal.{variable, wanted, value}
 use Rattle.formula.specs.Formula.{any, all, clauses}
-use Rattle.lent.specs.Sound.{unread, badRule}
+use Rattle.rule_list.specs.Sound.{unread, badRule}
 use Rattle.soundness.specs.Flat.{joining}
 use Rattle.soundness.specs.Laws.{Joined, joined, all-weaken}
 use Rattle.soundness.specs.Soundness.{sound}

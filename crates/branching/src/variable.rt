@@ -7,7 +7,7 @@ ghost use mathlib.Core.Option.{none};
 ghost use Prim.Native.Nat.{_+_, _*_, _<_};
 ghost use lib.ListN.{length};
 ghost use Rattle.formula.specs.Formula.{clauses};
-ghost use Rattle.lent.specs.Sound.{unread, badRule};
+ghost use Rattle.rule_list.specs.Sound.{unread, badRule};
 ghost use Rattle.walk.specs.Branching.{fewest, branchingVariable};
 ghost use Rattle.opposed.specs.Opposed.{sizeOf};
 ghost use Rattle.branching.specs.Branch.{variableOf};

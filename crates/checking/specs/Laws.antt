@@ -13,7 +13,8 @@ use Rattle.refusal.specs.Laws.{first-early, first-late, first-last}
 use Rattle.refusal.specs.Reply.{Reply, first, cause, causeAt, refusing, answering, unless}
 use Rattle.lent.specs.Lent.{refusalOf, outOfRange, wrongLength, oversized}
 use Rattle.lent.specs.Scans.{unsound}
-use Rattle.lent.specs.Sound.{unread, badRule, badWish, badChoice}
+use Rattle.rule_list.specs.Sound.{unread, badRule}
+use Rattle.lent.specs.Sound.{badWish, badChoice}
 use Rattle.checking.specs.declared.Checked.{Checked}
 use Rattle.checking.specs.declared.Checked.the-variants.{Refused, Met, Unmet}
 use Rattle.checking.specs.Check.{lentToCheck, judged, checkReply, replyOf}

@@ -15,9 +15,9 @@ use Rattle.formula.specs.Formula.{closes, clauses}
 use Rattle.refusal.specs.declared.Refusal.{Refusal}
 use Rattle.refusal.specs.Laws.{first-last, cause-none, no-first, neither}
 use Rattle.refusal.specs.Reply.{refusal, first, cause}
-use Rattle.lent.specs.Limits.{maxVariables, maxClauses, maxLiterals}
-use Rattle.lent.specs.Laws.{zeros, zeros-clauses}
-use Rattle.lent.specs.Sound.{Scan, unread, mayJoin, stands, after, unclosed, badRule}
+use Rattle.limits.specs.Limits.{maxVariables, maxClauses, maxLiterals}
+use Rattle.rule_list.specs.Laws.{zeros, zeros-clauses}
+use Rattle.rule_list.specs.Sound.{Scan, unread, mayJoin, stands, after, unclosed, badRule}
 use Rattle.decimal.specs.Decimal.{decimal, number}
 use Rattle.decimal.specs.Laws.{decimal-digits, decimal-some, decimal-read}
 use Rattle.dimacs.specs.Class.{classOf}

@@ -10,8 +10,8 @@ use Rattle.literal.specs.Literal.{variable}
 use Rattle.formula.specs.Formula.{closes}
 use Rattle.refusal.specs.declared.Refusal.{Refusal}
 use Rattle.refusal.specs.Reply.{refusal, first, cause}
-use Rattle.lent.specs.Limits.{maxVariables, maxClauses, maxLiterals}
-use Rattle.lent.specs.Sound.{Scan, unread, mayJoin, after, unclosed}
+use Rattle.limits.specs.Limits.{maxVariables, maxClauses, maxLiterals}
+use Rattle.rule_list.specs.Sound.{Scan, unread, mayJoin, after, unclosed}
 use Rattle.decimal.specs.Decimal.{number}
 use Rattle.dimacs.specs.Class.{blank, minus, letterC, classOf}
 

@@ -13,9 +13,9 @@ use lib.Seq.{drop-append-seam}
 use borrow.Author.Tests.{ne-eqb, le-ltb, lt-ltb, lt-leb, leb-true, ltb-true, eqb-true}
 use Rattle.literal.specs.Literal.{variable}
 use Rattle.formula.specs.Formula.{all, closes, clauses}
-use Rattle.lent.specs.Limits.{maxVariables, maxClauses, maxLiterals}
-use Rattle.lent.specs.Laws.{zeros, zeros-clauses}
-use Rattle.lent.specs.Sound.{Scan, unread, mayJoin, stands, after, unclosed, badRule}
+use Rattle.limits.specs.Limits.{maxVariables, maxClauses, maxLiterals}
+use Rattle.rule_list.specs.Laws.{zeros, zeros-clauses}
+use Rattle.rule_list.specs.Sound.{Scan, unread, mayJoin, stands, after, unclosed, badRule}
 use Rattle.decimal.specs.Decimal.{decimal, number, onlyDigits, isDigit}
 use Rattle.decimal.specs.Laws.{decimal-digits, decimal-some, number-decimal}
 use Rattle.dimacs.specs.Class.{classOf}

@@ -8,11 +8,11 @@ use native.Mathlib.Omega.{arith}
 use lib.IntN.{ℤ}
 use lib.ListN.{length}
 use Rattle.formula.specs.Formula.{closes, clauses}
-use Rattle.lent.specs.Limits.{maxClauses}
-use Rattle.lent.specs.Laws.{zeros, zeros-clauses}
+use Rattle.limits.specs.Limits.{maxClauses}
+use Rattle.rule_list.specs.Laws.{zeros, zeros-clauses}
 use Rattle.soundness.specs.Laws.{length-flat}
 use Rattle.soundness.specs.Soundness.{sound}
-use Rattle.lent.specs.Sound.{Scan, unread, stands, after, unclosed, badRule}
+use Rattle.rule_list.specs.Sound.{Scan, unread, stands, after, unclosed, badRule}
 
 -- an element that stands, and a sound list after it
 pub sound-step : (n : ℕ) (s : Scan) (i : ℕ) (x : ℤ) (l : List ℤ) → badRule n s i (x ∷ l) ≡ none → (stands n s x ≡ true) × (badRule n (after s x) (suc i) l ≡ none)

@@ -10,7 +10,7 @@ ghost use lib.Dec.{eqb};
 ghost use lib.ListN.{length};
 ghost use Rattle.formula.specs.Formula.{clauses};
 ghost use Rattle.distance.specs.Distance.{disagreement};
-ghost use Rattle.lent.specs.Sound.{unread, badRule};
+ghost use Rattle.rule_list.specs.Sound.{unread, badRule};
 ghost use Rattle.opposed.specs.Laws.{isSome};
 ghost use Rattle.opposed.specs.Opposed.{sizeOf};
 ghost use Rattle.walk.specs.Walk.{firstValue};

@@ -11,7 +11,7 @@ ghost use mathlib.Core.Option.{none};
 ghost use Prim.Native.Nat.{_+_, _*_, _≤_, _<_};
 ghost use lib.ListN.{length};
 ghost use Rattle.formula.specs.Formula.{clauses};
-ghost use Rattle.lent.specs.Sound.{unread, badRule};
+ghost use Rattle.rule_list.specs.Sound.{unread, badRule};
 ghost use Rattle.propagation.specs.Searching.{Searching};
 ghost use Rattle.walk.specs.Promises.{Branches};
 ghost use Rattle.walk.specs.Walk.{fork as forkOf, walkFrom};

@@ -5,7 +5,7 @@ use Prim.Native.Nat.{ℕ, _+_, _≤_}
 use lib.IntN.{ℤ, pos}
 use lib.ListN.{getD}
 use Rattle.literal.specs.Literal.{variable}
-use Rattle.lent.specs.Limits.{maxVariables}
+use Rattle.limits.specs.Limits.{maxVariables}
 use Rattle.soundness.specs.Flat.{flat}
 use Rattle.emit.specs.Wrote.{Wrote}
 use Rattle.totalizer.specs.Totalizer.{tree, added, output, totalizer}

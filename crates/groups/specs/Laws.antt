@@ -10,7 +10,7 @@ use lib.ListN.{length, getD, take, drop, replicate, length-take, length-drop, le
 use lib.Seq.{getD-drop, take-all}
 use borrow.Author.Tests.{ltb-true, ltb-false}
 use Rattle.literal.specs.Literal.{variable}
-use Rattle.lent.specs.Limits.{maxVariables, maxWishes}
+use Rattle.limits.specs.Limits.{maxVariables, maxWishes}
 use Rattle.soundness.specs.Flat.{flat}
 use Rattle.emit.specs.Wrote.{Wrote, wrote-none, wrote-as}
 use Rattle.totalizer.specs.Totalizer.{Tree, leaf, node, tree, size, added, output, adder, totalizer}

@@ -7,7 +7,7 @@ ghost use mathlib.Core.Path.{_≡_};
 ghost use Prim.Native.Nat.{_+_, _≤_};
 ghost use lib.IntN.{ℤ, pos};
 ghost use lib.ListN.{length, getD};
-ghost use Rattle.lent.specs.Limits.{maxVariables, maxWishes};
+ghost use Rattle.limits.specs.Limits.{maxVariables, maxWishes};
 ghost use Rattle.soundness.specs.Flat.{flat};
 ghost use Rattle.totalizer.specs.Totalizer.{tree, added, totalizer};
 ghost use Rattle.adder.specs.Adder.{Small, clauses};

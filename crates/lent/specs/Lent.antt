@@ -9,8 +9,9 @@ use lib.ListN.{length}
 use Rattle.formula.specs.Formula.{clauses, literals}
 use Rattle.refusal.specs.declared.Refusal.{Refusal}
 use Rattle.refusal.specs.Reply.{first, cause, causeAt, tooShort}
-use Rattle.lent.specs.Limits.{maxVariables, maxLimit, maxWishVariables, maxWishClauses, maxWishLiterals}
-use Rattle.lent.specs.Sound.{unread, badRule, badWish, badChoice}
+use Rattle.limits.specs.Limits.{maxVariables, maxLimit, maxWishVariables, maxWishClauses, maxWishLiterals}
+use Rattle.rule_list.specs.Sound.{unread, badRule}
+use Rattle.lent.specs.Sound.{badWish, badChoice}
 
 -- The values lent to a call, as far as it takes any (a file's reader takes none: it has the causes of its file, and then `tooShort`): n, the limit d (0 in a call that takes none), the rule list (empty in a call that takes none), the wish row and the given choice if it takes them, and how many elements its output needs and was lent (0 and 0 in a call that has none).
 pub record Lent : Type 0 where

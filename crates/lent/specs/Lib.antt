@@ -1,7 +1,5 @@
 pub mod Laws
 pub mod Lent
-pub mod Limits
 pub mod ScanLaws
 pub mod Scans
 pub mod Sound
-pub mod Stamps

@@ -10,20 +10,11 @@ use Rattle.distance.specs.Distance.{wishes}
 use Rattle.refusal.specs.declared.Refusal.{Refusal}
 use Rattle.refusal.specs.Reply.{refusal, cause}
 use Rattle.lent.specs.declared.problem.Problem as P
-use Rattle.lent.specs.declared.rules.RuleScan as R
 use Rattle.lent.specs.declared.row.RowScan as W
 use Rattle.lent.specs.Lent.{outOfRange}
-use Rattle.lent.specs.Scans.{ruleScan, rowScan, unsound, problem}
-use Rattle.lent.specs.Sound.{unread, badRule, badWish}
-
-pub rules-unsound : (o : Option ℕ) (list : List ℤ) (i : ℕ) → ruleScan o list ≡ R.the-variants.Unsound i → o ≡ some i
-rules-unsound none list i e = cc
-rules-unsound (some j) list i e = cc
-
-pub rules-sound : (o : Option ℕ) (list : List ℤ) (k m : ℕ) → ruleScan o list ≡ R.the-variants.Sound k m
-    → (o ≡ none) × (k ≡ length (clauses list)) × (m ≡ literals (clauses list))
-rules-sound none list k m e = (refl, (cc), (cc))
-rules-sound (some j) list k m e = ((cc), (cc), (cc))
+use Rattle.lent.specs.Scans.{rowScan, unsound, problem}
+use Rattle.rule_list.specs.Sound.{unread, badRule}
+use Rattle.lent.specs.Sound.{badWish}
 
 pub row-unsound : (o : Option ℕ) (row : List ℕ) (i : ℕ) → rowScan o row ≡ W.the-variants.Unsound i → o ≡ some i
 row-unsound none row i e = cc

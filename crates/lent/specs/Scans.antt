@@ -9,17 +9,12 @@ use Rattle.distance.specs.Distance.{wishes}
 use Rattle.refusal.specs.declared.Refusal.{Refusal}
 use Rattle.refusal.specs.Reply.{first, cause, causeAt}
 use Rattle.lent.specs.Lent.{outOfRange}
-use Rattle.lent.specs.Sound.{unread, badRule, badWish}
+use Rattle.rule_list.specs.Sound.{unread, badRule}
+use Rattle.lent.specs.Sound.{badWish}
 use Rattle.lent.specs.declared.problem.Problem as P
 use Rattle.lent.specs.declared.problem.Problem.{Problem}
-use Rattle.lent.specs.declared.rules.RuleScan as R
-use Rattle.lent.specs.declared.rules.RuleScan.{RuleScan}
 use Rattle.lent.specs.declared.row.RowScan as W
 use Rattle.lent.specs.declared.row.RowScan.{RowScan}
-
-abbrev pub ruleScan : Option ℕ → List ℤ → RuleScan
-ruleScan none list = R.the-variants.Sound (length (clauses list)) (literals (clauses list))
-ruleScan (some i) list = R.the-variants.Unsound i
 
 abbrev pub rowScan : Option ℕ → List ℕ → RowScan
 rowScan none row = W.the-variants.Sound (wishes row)

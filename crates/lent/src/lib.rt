@@ -1,31 +1,15 @@
 // The checks of what a call is lent: the causes 11 to 14 of document 01's table, a function for each.
 mod choice;
-mod limits;
 mod problem;
 mod range;
 mod row;
-mod rules;
 mod size;
-mod stamps;
 
 pub use choice::scan_choice;
-pub use limits::MAX_CLAUSES;
-pub use limits::MAX_LIMIT;
-pub use limits::MAX_LITERALS;
-pub use limits::MAX_VARIABLES;
-pub use limits::MAX_WISH_CLAUSES;
-pub use limits::MAX_WISH_LITERALS;
-pub use limits::MAX_WISH_VARIABLES;
-pub use limits::MAX_WISHES;
 pub use problem::Problem;
 pub use problem::scan_problem;
 pub use range::check_range;
 pub use row::RowScan;
 pub use row::scan_row;
-pub use rules::RuleScan;
-pub use rules::scan_rules;
 pub use size::check_length;
 pub use size::check_size;
-pub use stamps::is_stamped;
-pub use stamps::no_stamps;
-pub use stamps::stamp;

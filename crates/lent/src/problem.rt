@@ -2,10 +2,10 @@
 use crate::range::check_range;
 use crate::row::RowScan;
 use crate::row::scan_row;
-use crate::rules::RuleScan;
-use crate::rules::scan_rules;
 use refusal::Refusal;
 use refusal::Verdict;
+use rule_list::RuleScan;
+use rule_list::scan_rules;
 ghost use mathlib.Core.Path.{_≡_};
 ghost use Rattle.lent.specs.Scans.{problem, unsound};
 

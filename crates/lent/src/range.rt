@@ -1,6 +1,6 @@
 // The range of the numbers that a call takes.
-use crate::limits::MAX_LIMIT;
-use crate::limits::MAX_VARIABLES;
+use limits::MAX_LIMIT;
+use limits::MAX_VARIABLES;
 use refusal::Verdict;
 ghost use mathlib.Core.Path.{_≡_};
 ghost use Rattle.refusal.specs.Reply.{refused, cause};

@@ -1,5 +1,5 @@
 // The soundness of a wish row.
-use crate::limits::MAX_WISHES;
+use limits::MAX_WISHES;
 ghost use mathlib.Core.Path.{_≡_};
 ghost use Rattle.lent.specs.Sound.{badWish};
 ghost use Rattle.lent.specs.Scans.{rowScan};

@@ -1,7 +1,7 @@
 // The length of a row or a choice, and the size of a problem with wishes.
-use crate::limits::MAX_WISH_CLAUSES;
-use crate::limits::MAX_WISH_LITERALS;
-use crate::limits::MAX_WISH_VARIABLES;
+use limits::MAX_WISH_CLAUSES;
+use limits::MAX_WISH_LITERALS;
+use limits::MAX_WISH_VARIABLES;
 use refusal::Verdict;
 ghost use mathlib.Core.Path.{_≡_};
 ghost use mathlib.Core.Bool.{not};

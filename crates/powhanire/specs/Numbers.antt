@@ -11,7 +11,8 @@ use Rattle.formula.specs.Formula.{clauses, literals}
 use Rattle.refusal.specs.declared.Refusal.{Refusal}
 use Rattle.refusal.specs.Reply.{refusal, first, cause, causeAt}
 use Rattle.lent.specs.Lent.{Lent, ofPart, outOfRange, wrongLength, oversized, refusalOf}
-use Rattle.lent.specs.Sound.{unread, badRule, badWish, badChoice}
+use Rattle.rule_list.specs.Sound.{unread, badRule}
+use Rattle.lent.specs.Sound.{badWish, badChoice}
 
 -- a cause whose number, if it applies, is not 0
 pub record Numbered (o : Option Refusal) : Type 0 where

@@ -10,8 +10,8 @@ use Rattle.literal.specs.Literal.{variable}
 use Rattle.formula.specs.Formula.{closes}
 use Rattle.refusal.specs.declared.Refusal.{Refusal}
 use Rattle.refusal.specs.Reply.{refusal}
-use Rattle.lent.specs.Limits.{maxLiterals}
-use Rattle.lent.specs.Sound.{Scan, mayJoin, after, unread, unclosed}
+use Rattle.limits.specs.Limits.{maxLiterals}
+use Rattle.rule_list.specs.Sound.{Scan, mayJoin, after, unread, unclosed}
 use Rattle.dimacs.specs.Format as rule-file
 use Rattle.dimacs.specs.Format.{Word, Header, tokensFrom}
 use Rattle.wish_file.specs.Format as wish-file

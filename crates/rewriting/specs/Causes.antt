@@ -14,12 +14,13 @@ use Rattle.refusal.specs.declared.Verdict.the-variants.{Pass, Refuse}
 use Rattle.refusal.specs.Laws.{no-first, causeAt-none}
 use Rattle.refusal.specs.Reply.{Reply, refused, first, cause, causeAt, refusing, answering, unless, filled}
 use Rattle.lent.specs.Lent.{refusalOf, outOfRange}
-use Rattle.lent.specs.Limits.{maxWishVariables, maxWishes}
+use Rattle.limits.specs.Limits.{maxWishVariables, maxWishes}
 use Rattle.lent.specs.declared.problem.Problem as P
 use Rattle.lent.specs.declared.problem.Problem.{Problem}
 use Rattle.lent.specs.ScanLaws.{problem-refused, problem-sound}
 use Rattle.lent.specs.Scans.{unsound, problem}
-use Rattle.lent.specs.Sound.{unread, badRule, badWish}
+use Rattle.rule_list.specs.Sound.{unread, badRule}
+use Rattle.lent.specs.Sound.{badWish}
 use Rattle.searches.specs.Admitted.{refused-unsound}
 use Rattle.admission.specs.Causes.{laterCauses, decided-late, later-none}
 use Rattle.totalizer.specs.Totalizer.{leaves, rewrittenVariables, rewritten}

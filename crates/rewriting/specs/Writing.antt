@@ -9,7 +9,7 @@ use lib.IntN.{ℤ}
 use lib.ListN.{length, take, length-append}
 use Rattle.refusal.specs.Reply.{filled}
 use Rattle.distance.specs.Distance.{wishes}
-use Rattle.lent.specs.Limits.{maxVariables, maxWishes}
+use Rattle.limits.specs.Limits.{maxVariables, maxWishes}
 use Rattle.soundness.specs.Flat.{flat}
 use Rattle.emit.specs.Wrote.{Wrote, wrote-as, wrote-more, wrote-length, wrote-whole, wrote-front}
 use Rattle.totalizer.specs.Totalizer.{leaves, tree, added, atMost, rewrittenVariables, rewritten}

@@ -12,8 +12,8 @@ use borrow.Author.Tests.{ne-eqb, le-ltb}
 use Rattle.refusal.specs.declared.Refusal.{Refusal}
 use Rattle.refusal.specs.Reply.{Reply, refusing, answering, cause, unless, tooShort, filled}
 use Rattle.lent.specs.Lent.{refusalOf, outOfRange}
-use Rattle.lent.specs.Limits.{maxVariables}
-use Rattle.lent.specs.Sound.{unread, badRule}
+use Rattle.limits.specs.Limits.{maxVariables}
+use Rattle.rule_list.specs.Sound.{unread, badRule}
 use Rattle.dimacs.specs.Sizes.{sound-length}
 use Rattle.dimacs.specs.Written.{written}
 use Rattle.searches.specs.Admitted.{Admitted}

@@ -11,8 +11,8 @@ use lib.ListN.{length, length-append}
 use borrow.Author.Tests.{leb-true, eqb-true}
 use Rattle.literal.specs.Literal.{variable}
 use Rattle.formula.specs.Formula.{closes, clauses}
-use Rattle.lent.specs.Limits.{maxVariables, maxClauses, maxLiterals}
-use Rattle.lent.specs.Sound.{Scan, mayJoin, stands, after, unread, badRule}
+use Rattle.limits.specs.Limits.{maxVariables, maxClauses, maxLiterals}
+use Rattle.rule_list.specs.Sound.{Scan, mayJoin, stands, after, unread, badRule}
 use Rattle.decimal.specs.Laws.{count-most}
 use Rattle.soundness.specs.Laws.{and-left}
 use Rattle.dimacs.specs.RoundTrip.{heading-length}

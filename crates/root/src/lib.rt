@@ -8,7 +8,7 @@ ghost use mathlib.Core.Option.{none};
 ghost use Prim.Native.Nat.{_+_, _*_, _≤_, _<_};
 ghost use lib.ListN.{length, replicate};
 ghost use Rattle.formula.specs.Formula.{clauses};
-ghost use Rattle.lent.specs.Sound.{unread, badRule};
+ghost use Rattle.rule_list.specs.Sound.{unread, badRule};
 ghost use Rattle.walk.specs.Walk.{walk};
 ghost use Rattle.root.specs.Root.{RootSays};
 pub use into::answer_of;

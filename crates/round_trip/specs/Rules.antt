@@ -12,7 +12,7 @@ use Rattle.refusal.specs.Laws.{cause-none, causeAt-none, no-first}
 use Rattle.refusal.specs.Reply.{cause, causeAt, answering, tooShort}
 use Rattle.lent.specs.Laws.{in-range}
 use Rattle.lent.specs.Lent.{refusalOf, outOfRange}
-use Rattle.lent.specs.Sound.{unread, badRule}
+use Rattle.rule_list.specs.Sound.{unread, badRule}
 use Rattle.dimacs.specs.Format.{gives, reading}
 use Rattle.dimacs.specs.RoundTrip.{read-written}
 use Rattle.dimacs.specs.Written.{written}

@@ -13,9 +13,9 @@ use mir.Val.{toZ, ofZ}
 use Rattle.literal.specs.Literal.{variable}
 use Rattle.refusal.specs.declared.Refusal.{Refusal}
 use Rattle.refusal.specs.Reply.{refusal, cause}
-use Rattle.lent.specs.Laws.{scan}
-use Rattle.lent.specs.Sound.{unread, unclosed}
-use Rattle.lent.specs.Stamps.{Stamped, stamped-none, stamped-closed, stamped-joined, stamp-free, stamp-taken}
+use Rattle.rule_list.specs.Laws.{scan}
+use Rattle.rule_list.specs.Sound.{unread, unclosed}
+use Rattle.rule_list.specs.Stamps.{Stamped, stamped-none, stamped-closed, stamped-joined, stamp-free, stamp-taken}
 use Rattle.dimacs.specs.Format.{tokensFrom, badTokens}
 use Rattle.rule_tokens.specs.declared.Token as T
 use Rattle.rule_tokens.specs.Laws.{Good, token-end, token-bad, token-good, held, signed-fits}

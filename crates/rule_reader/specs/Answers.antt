@@ -13,8 +13,8 @@ use lib.Seq.{sets, sets-eq}
 use borrow.Author.Tests.{lt-ltb, le-ltb, ltb-false}
 use Rattle.refusal.specs.declared.Refusal.{Refusal}
 use Rattle.refusal.specs.Reply.{Reply, refusal, refusing, answering}
-use Rattle.lent.specs.Limits.{maxVariables, maxClauses}
-use Rattle.lent.specs.Sound.{unread}
+use Rattle.limits.specs.Limits.{maxVariables, maxClauses}
+use Rattle.rule_list.specs.Sound.{unread}
 use Rattle.dimacs.specs.Format.{pastComments, Header, header, outside, Word, tokensFrom, element, badTokens, Reading, refuses, gives, readTokens, readFrom, reading}
 use Rattle.rule_header.specs.declared.Heading as H
 use Rattle.rule_header.specs.Heading.{headingAs}

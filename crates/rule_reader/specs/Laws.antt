@@ -13,9 +13,9 @@ use Rattle.literal.specs.Literal.{variable}
 use Rattle.refusal.specs.declared.Refusal.{Refusal}
 use Rattle.refusal.specs.Reply.{refusal, first, cause}
 use Rattle.refusal.specs.Laws.{first-last}
-use Rattle.lent.specs.Limits.{maxLiterals}
-use Rattle.lent.specs.Laws.{scan}
-use Rattle.lent.specs.Sound.{Scan, mayJoin, after}
+use Rattle.limits.specs.Limits.{maxLiterals}
+use Rattle.rule_list.specs.Laws.{scan}
+use Rattle.rule_list.specs.Sound.{Scan, mayJoin, after}
 use Rattle.dimacs.specs.Format.{Word, signed, element, badToken, badTokens}
 use Rattle.rule_reader.specs.declared.tokens.Check as C
 use Rattle.rule_reader.specs.declared.tokens.Check.{Check}

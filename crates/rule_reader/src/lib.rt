@@ -3,14 +3,14 @@
 mod fill;
 mod tokens;
 
-use lent::MAX_CLAUSES;
-use lent::MAX_VARIABLES;
+use limits::MAX_CLAUSES;
+use limits::MAX_VARIABLES;
 use refusal::Refusal;
 use rule_header::Heading;
 use tokens::Check;
 ghost use mathlib.Core.Path.{_≡_};
 ghost use Prim.Native.Nat.{_≤_};
-ghost use Rattle.lent.specs.Limits.{maxVariables, maxClauses};
+ghost use Rattle.limits.specs.Limits.{maxVariables, maxClauses};
 ghost use Rattle.dimacs.specs.Format.{reading, outside};
 ghost use Rattle.rule_reader.specs.Answers.{tokensRead};
 ghost use Rattle.rule_reader.specs.Read.{readReply, readOutput, replyOf};

@@ -1,5 +1,5 @@
 // The first pass over a rule file: whether its tokens are good, and how many there are.
-use lent::MAX_LITERALS;
+use limits::MAX_LITERALS;
 use literal::Clause;
 use literal::Variable;
 use refusal::Refusal;
@@ -9,9 +9,9 @@ ghost use mathlib.Core.Path.{_≡_};
 ghost use Prim.Native.Nat.{_+_, _≤_};
 ghost use lib.Dec.{ltb};
 ghost use lib.ListN.{length};
-ghost use Rattle.lent.specs.Limits.{maxVariables, maxClauses, maxLiterals};
+ghost use Rattle.limits.specs.Limits.{maxVariables, maxClauses, maxLiterals};
 ghost use Rattle.refusal.specs.Reply.{cause};
-ghost use Rattle.lent.specs.Sound.{unread};
+ghost use Rattle.rule_list.specs.Sound.{unread};
 ghost use Rattle.dimacs.specs.Format.{tokensFrom, badTokens};
 ghost use Rattle.rule_reader.specs.Laws.{faultOf, checkAs};
 
@@ -43,7 +43,7 @@ pub fn check_tokens(file: &[u8], from: usize, n: usize, count: usize) -> Check
     requires { ⌜ (n ≤ maxVariables) × (count ≤ maxClauses) ⌝ }
     ensures { λ r. ⌜ r ≡ checkAs (badTokens n count (length (now (file .entry))) unread (tokensFrom (now (file .entry)) from)) (length (tokensFrom (now (file .entry)) from)) ⌝ }
 {
-    let mut stamps = lent::no_stamps();
+    let mut stamps = rule_list::no_stamps();
     let mut clauses: usize = 0;
     let mut literals: usize = 0;
     let mut is_open = false;
@@ -67,10 +67,10 @@ pub fn check_tokens(file: &[u8], from: usize, n: usize, count: usize) -> Check
                     is_open = false;
                 } else {
                     let clause = Clause(clauses + 1);
-                    if lent::is_stamped(&stamps, v, clause) {
+                    if rule_list::is_stamped(&stamps, v, clause) {
                         return Check::Refused(Refusal { number: 5, place });
                     }
-                    lent::stamp(&mut stamps, v, clause);
+                    rule_list::stamp(&mut stamps, v, clause);
                     literals += 1;
                     is_open = true;
                 }

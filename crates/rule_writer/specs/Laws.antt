@@ -19,7 +19,7 @@ use Rattle.refusal.specs.Laws.{first-last}
 use Rattle.refusal.specs.declared.Refusal.{Refusal}
 use Rattle.refusal.specs.Reply.{Reply, refusal, cause, refusing, answering, unless, tooShort, filled}
 use Rattle.lent.specs.Lent.{refusalOf, outOfRange}
-use Rattle.lent.specs.Sound.{unread, badRule}
+use Rattle.rule_list.specs.Sound.{unread, badRule}
 use Rattle.decimal.specs.Decimal.{decimal}
 use Rattle.decimal.specs.Laws.{sets-append, count-most}
 use Rattle.dimacs.specs.Format.{preamble}

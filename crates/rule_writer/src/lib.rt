@@ -2,9 +2,9 @@
 mod count;
 mod put;
 
-use lent::RuleScan;
 use refusal::Refusal;
 use refusal::Verdict;
+use rule_list::RuleScan;
 ghost use mathlib.Core.Path.{_≡_};
 ghost use Prim.Native.Nat.{_≤_};
 ghost use lib.ListN.{length};
@@ -28,7 +28,7 @@ pub fn write_rules(n: usize, rules: &[i32], file: &mut [u8]) -> WrittenRules
     if let Verdict::Refuse(r) = lent::check_range(n, 0) {
         return WrittenRules::Refused(r);
     }
-    match lent::scan_rules(n, rules) {
+    match rule_list::scan_rules(n, rules) {
         RuleScan::Unsound(place) => WrittenRules::Refused(Refusal { number: 13, place }),
         RuleScan::Sound {
             clauses,

@@ -15,10 +15,11 @@ use Rattle.refusal.specs.Laws.{first-some, first-none, first-early, first-late,
 use Rattle.refusal.specs.Reply.{first, cause, causeAt, tooShort}
 use Rattle.lent.specs.Laws.{in-range}
 use Rattle.lent.specs.Lent.{Lent, refusalOf, outOfRange, wrongLength, oversized}
-use Rattle.lent.specs.Limits.{maxVariables, maxLimit, maxWishVariables, maxWishClauses, maxWishLiterals}
+use Rattle.limits.specs.Limits.{maxVariables, maxLimit, maxWishVariables, maxWishClauses, maxWishLiterals}
 use Rattle.lent.specs.ScanLaws.{by-none}
 use Rattle.lent.specs.Scans.{unsound}
-use Rattle.lent.specs.Sound.{unread, badRule, badWish}
+use Rattle.rule_list.specs.Sound.{unread, badRule}
+use Rattle.lent.specs.Sound.{badWish}
 
 -- n, the rules, the row and the limit of a call with wishes
 pub record Admitted (n : ℕ) (rules : List ℤ) (row : List ℕ) (d : ℕ) : Type 0 where

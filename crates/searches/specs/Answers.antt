@@ -11,7 +11,7 @@ use Rattle.distance.specs.Distance.{disagreement}
 use Rattle.refusal.specs.declared.Refusal.{Refusal}
 use Rattle.refusal.specs.Reply.{Reply, refusing, answering, unless}
 use Rattle.choices.specs.Choices.{Model}
-use Rattle.lent.specs.Sound.{unread, badRule}
+use Rattle.rule_list.specs.Sound.{unread, badRule}
 use Rattle.walk.specs.Promises as P
 use Rattle.walk.specs.Walk.{Answer, walk, plainWalk, nearestWalk}
 use Rattle.searches.specs.Meaning.{search-found, search-none, nearest-found, nearest-nothing, plain-found, plain-nothing}

@@ -10,7 +10,7 @@ use lib.IntN.{ℤ}
 use borrow.Author.Tests.{eqb-false, not-true, lt-ltb}
 use Rattle.literal.specs.Literal.{variable}
 use Rattle.formula.specs.Formula.{all, clauses, closes}
-use Rattle.lent.specs.Sound.{unread, badRule, mayJoin}
+use Rattle.rule_list.specs.Sound.{unread, badRule, mayJoin}
 use Rattle.soundness.specs.Flat.{joining}
 use Rattle.soundness.specs.Laws.{and-left, and-right, and-both, all-weaken}
 use Rattle.soundness.specs.Soundness.{sound}

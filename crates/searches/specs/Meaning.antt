@@ -10,7 +10,7 @@ use lib.ListN.{replicate}
 use Rattle.formula.specs.Formula.{clauses}
 use Rattle.distance.specs.Distance.{disagreement, nearest}
 use Rattle.choices.specs.Choices.{Model, nearest-none}
-use Rattle.lent.specs.Sound.{unread, badRule}
+use Rattle.rule_list.specs.Sound.{unread, badRule}
 use Rattle.walk.specs.Promises.{Found, Closest}
 use Rattle.walk.specs.Theorems.{walk-sound, walk-none, plain-none, nearest-sound, nearest-count}
 use Rattle.walk.specs.Walk.{Answer, walk, plainWalk, nearestWalk}

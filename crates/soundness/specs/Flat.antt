@@ -6,7 +6,7 @@ use lib.Dec.{leb}
 use lib.IntN.{ℤ, pos}
 use Rattle.literal.specs.Literal.{variable}
 use Rattle.formula.specs.Formula.{all, closes}
-use Rattle.lent.specs.Sound.{mayJoin}
+use Rattle.rule_list.specs.Sound.{mayJoin}
 
 -- "In memory, rules are one list of signed numbers, each rule closed by 0."
 abbrev pub flat : List (List ℤ) → List ℤ

@@ -10,7 +10,7 @@ use lib.ListN.{length, length-append}
 use borrow.Author.Tests.{leb-true, le-leb, not-true, ne-eqb}
 use Rattle.literal.specs.Literal.{variable, value, wanted}
 use Rattle.formula.specs.Formula.{all, closes, onto, clauses, literals, satisfied, models}
-use Rattle.lent.specs.Sound.{mayJoin}
+use Rattle.rule_list.specs.Sound.{mayJoin}
 use Rattle.soundness.specs.Flat.{flat, zeroFree, joining, wellFormed}
 
 -- both halves of a conjunction, and back

@@ -11,8 +11,8 @@ use lib.ListN.{length}
 use borrow.Author.Tests.{leb-true, le-leb, ltb-true, lt-ltb, eqb-true}
 use Rattle.literal.specs.Literal.{variable}
 use Rattle.formula.specs.Formula.{closes, onto, clauses, literals}
-use Rattle.lent.specs.Limits.{maxClauses, maxLiterals}
-use Rattle.lent.specs.Sound.{mayJoin, Scan, unread, stands, after, unclosed, badRule}
+use Rattle.limits.specs.Limits.{maxClauses, maxLiterals}
+use Rattle.rule_list.specs.Sound.{mayJoin, Scan, unread, stands, after, unclosed, badRule}
 use Rattle.soundness.specs.Flat.{flat, joining, wellFormed}
 use Rattle.soundness.specs.Laws.{and-left, and-right, and-both, Joined, joined, joins, all-append, flat-append, clauses-formed, wellFormed-more}
 

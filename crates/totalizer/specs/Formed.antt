@@ -10,7 +10,7 @@ use lib.IntN.{ℤ, pos, negsuc, negℤ}
 use lib.ListN.{length}
 use borrow.Author.Tests.{ne-eqb, ltb-true, le-ltb}
 use Rattle.literal.specs.Literal.{variable}
-use Rattle.lent.specs.Sound.{mayJoin}
+use Rattle.rule_list.specs.Sound.{mayJoin}
 use Rattle.soundness.specs.Flat.{joining, wellFormed}
 use Rattle.soundness.specs.Laws.{and-both, all-append, joins, mayJoin-new}
 use Rattle.totalizer.specs.Totalizer.{Tree, leaf, node, tree, size, added, output, lower, upper, up, down, below, adder, totalizer, limit, atMost, Over}

@@ -10,7 +10,7 @@ use lib.ListN.{length, take, length-take}
 use Rattle.literal.specs.Literal.{variable, holds}
 use Rattle.formula.specs.Formula.{clauses, satisfied, models}
 use Rattle.distance.specs.Distance.{disagreement}
-use Rattle.lent.specs.Sound.{unread, badRule}
+use Rattle.rule_list.specs.Sound.{unread, badRule}
 use Rattle.soundness.specs.Flat.{wellFormed}
 use Rattle.soundness.specs.Laws.{and-left, and-right, and-both, all-append, models-by-values}
 use Rattle.soundness.specs.Soundness.{sound, clauses-behind}

@@ -13,7 +13,7 @@ use borrow.Author.Tests.{leb-true}
 use Rattle.literal.specs.Literal.{variable, holds}
 use Rattle.distance.specs.Distance.{weight, cost, wishes, disagreement}
 use Rattle.distance.specs.Laws.{weight-free, cost-free}
-use Rattle.lent.specs.Limits.{maxWishes}
+use Rattle.limits.specs.Limits.{maxWishes}
 use Rattle.lent.specs.Sound.{badWish}
 use Rattle.soundness.specs.Laws.{and-right}
 use Rattle.totalizer.specs.Totalizer.{breaking, leavesFrom, leaves}

@@ -11,8 +11,9 @@ use lib.ListN.{length, take, length-append}
 use Rattle.literal.specs.Literal.{holds}
 use Rattle.formula.specs.Formula.{any, all, clauses, literals, models}
 use Rattle.distance.specs.Distance.{wishes, disagreement}
-use Rattle.lent.specs.Limits.{maxVariables, maxClauses, maxLiterals, maxWishVariables, maxWishClauses, maxWishLiterals}
-use Rattle.lent.specs.Sound.{unread, badRule, badWish}
+use Rattle.limits.specs.Limits.{maxVariables, maxClauses, maxLiterals, maxWishVariables, maxWishClauses, maxWishLiterals}
+use Rattle.rule_list.specs.Sound.{unread, badRule}
+use Rattle.lent.specs.Sound.{badWish}
 use Rattle.soundness.specs.Flat.{joining, wellFormed}
 use Rattle.soundness.specs.Laws.{and-both, all-append, literals-append, wellFormed-more}
 use Rattle.soundness.specs.Soundness.{sound, flat-sound, behind}

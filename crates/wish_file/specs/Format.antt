@@ -8,7 +8,7 @@ use lib.ListN.{getD, drop}
 use Rattle.distance.specs.Distance.{wishes}
 use Rattle.refusal.specs.declared.Refusal.{Refusal}
 use Rattle.refusal.specs.Reply.{refusal, first, cause}
-use Rattle.lent.specs.Limits.{maxWishVariables, maxWishes, maxLimit}
+use Rattle.limits.specs.Limits.{maxWishVariables, maxWishes, maxLimit}
 use Rattle.wish_file.specs.Layout.{line, lineSize, lineNumbers}
 use Rattle.wish_file.specs.Wishes.{Wish, wishList, rowOf}
 

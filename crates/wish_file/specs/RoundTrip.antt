@@ -14,7 +14,7 @@ use Rattle.distance.specs.Laws.{weight-most}
 use Rattle.refusal.specs.declared.Refusal.{Refusal}
 use Rattle.refusal.specs.Laws.{first-last, cause-none, no-first, neither}
 use Rattle.refusal.specs.Reply.{refusal, first, cause}
-use Rattle.lent.specs.Limits.{maxWishVariables, maxWishes, maxLimit}
+use Rattle.limits.specs.Limits.{maxWishVariables, maxWishes, maxLimit}
 use Rattle.lent.specs.Sound.{badWish}
 use Rattle.wish_file.specs.Format.{headerColumns, wishColumns, fields, wishOf, wishLines, written, fileSize, outside, misfit, badLine, wishAt, badLines, wishesIn, refuses, gives, readLines, readHeader, reading}
 use Rattle.wish_file.specs.Layout.{line, lineSize, lineNumbers}

@@ -11,7 +11,7 @@ use lib.ListN.{length, set, replicate, length-append, length-set, length-replica
 use lib.Seq.{set-at, append-snoc}
 use borrow.Author.Tests.{lt-ltb, le-leb, ltb-true, ltb-false, leb-true}
 use Rattle.distance.specs.Distance.{weight, wishes}
-use Rattle.lent.specs.Limits.{maxWishes}
+use Rattle.limits.specs.Limits.{maxWishes}
 use Rattle.lent.specs.Sound.{badWish}
 use Rattle.wish_file.specs.Wishes.{Wish, wishList, marked, rowOf}
 

@@ -13,7 +13,7 @@ use borrow.Author.Tests.{lt-ltb, le-ltb, le-leb, lt-leb, eq-eqb, ne-eqb}
 use Rattle.refusal.specs.declared.Refusal.{Refusal}
 use Rattle.refusal.specs.Laws.{first-last}
 use Rattle.refusal.specs.Reply.{Reply, refusal, first, cause, refusing, answering}
-use Rattle.lent.specs.Limits.{maxWishVariables, maxWishes, maxLimit}
+use Rattle.limits.specs.Limits.{maxWishVariables, maxWishes, maxLimit}
 use Rattle.wish_file.specs.Format.{headerColumns, wishColumns, wishOf, outside, misfit, badLine, wishAt, badLines, wishesIn, Reading, refuses, gives, readLines, readHeader, reading}
 use Rattle.wish_file.specs.Layout.{columnWidth, lineSize, lineNumbers}
 use Rattle.wish_file.specs.RoundTrip.{accepted-parts, accepted, lines-written}

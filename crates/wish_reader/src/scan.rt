@@ -1,7 +1,7 @@
 // The first cause to refuse a wish file, found before anything is written.
-use lent::MAX_LIMIT;
-use lent::MAX_WISH_VARIABLES;
-use lent::MAX_WISHES;
+use limits::MAX_LIMIT;
+use limits::MAX_WISH_VARIABLES;
+use limits::MAX_WISHES;
 use literal::Variable;
 use refusal::Refusal;
 use refusal::Verdict;

@@ -17,7 +17,7 @@ use Rattle.refusal.specs.Laws.{cause-none, no-first, enough-room}
 use Rattle.refusal.specs.Reply.{Reply, refusal, first, cause, causeAt, tooShort, refusing, answering}
 use Rattle.lent.specs.Laws.{in-range}
 use Rattle.lent.specs.Lent.{refusalOf, outOfRange, oversized}
-use Rattle.lent.specs.Limits.{maxWishVariables, maxWishClauses, maxWishLiterals, maxLimit}
+use Rattle.limits.specs.Limits.{maxWishVariables, maxWishClauses, maxWishLiterals, maxLimit}
 use Rattle.lent.specs.Sound.{badWish}
 use Rattle.decimal.specs.Decimal.{decimal}
 use Rattle.decimal.specs.Laws.{sets-append}

@@ -11,7 +11,7 @@ ghost use Prim.Native.Nat.{_≤_};
 ghost use lib.ListN.{length};
 ghost use Rattle.refusal.specs.Reply.{refused, first};
 ghost use Rattle.lent.specs.Lent.{refusalOf};
-ghost use Rattle.lent.specs.Limits.{maxWishes};
+ghost use Rattle.limits.specs.Limits.{maxWishes};
 ghost use Rattle.wish_writer.specs.Laws.{laterCauses};
 ghost use Rattle.wish_writer.specs.Write.{lentToWrite, writeReply, writeOutput, replyOf, wishScan};
 

@@ -4,8 +4,8 @@ use Rattle.refusal.specs.Laws.{cause-none}
 use Rattle.refusal.specs.Reply.{refused}
 use Rattle.lent.specs.Laws.{in-range}
 use Rattle.lent.specs.Lent.{outOfRange}
-use Rattle.lent.specs.ScanLaws.{rules-unsound, rules-sound}
-use Rattle.lent.specs.Sound.{unread, badRule}
+use Rattle.rule_list.specs.ScanLaws.{rules-unsound, rules-sound}
+use Rattle.rule_list.specs.Sound.{unread, badRule}
 use Rattle.admission.specs.Causes.{plain-range, plain-rules, plain-room}
 use borrow.Author.Needs.{needs}
 use Rattle.admission.proofs.check_plain.Statement.{statement}

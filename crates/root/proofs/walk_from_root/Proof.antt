@@ -6,7 +6,7 @@ use native.Mathlib.Omega.{arith}
 use lib.ListN.{length, replicate}
 use borrow.Author.Needs.{needs}
 use Rattle.formula.specs.Formula.{clauses}
-use Rattle.lent.specs.Sound.{unread, badRule}
+use Rattle.rule_list.specs.Sound.{unread, badRule}
 use Rattle.walk.specs.Walk.{walkFrom}
 use Rattle.dll.specs.Tried.{Says}
 use Rattle.root.specs.Root.{root-says, root-searching}

@@ -1,6 +1,6 @@
 -- `rule_reader::is_outside` meets its contract: each return is one of the tests.
 use borrow.Author.Tests.{lt-ltb, le-ltb, eq-eqb, ne-eqb}
-use Rattle.lent.specs.Limits.{maxVariables}
+use Rattle.limits.specs.Limits.{maxVariables}
 use Rattle.rule_reader.proofs.is_outside.Statement.{statement}
 use Rattle.rule_reader.proofs.is_outside.Tie as tie
 

@@ -4,7 +4,7 @@ use mathlib.Core.List.{List}
 use mathlib.Core.Option.{none}
 use native.Mathlib.Omega.{arith}
 use lib.ListN.{length}
-use Rattle.lent.specs.Sound.{unread}
+use Rattle.rule_list.specs.Sound.{unread}
 use Rattle.dimacs.specs.Format.{Word, tokensFrom, badTokens}
 use Rattle.rule_reader.specs.Answers.{check-refused, check-good, tokens-refused, tokens-short, tokens-read}
 use Rattle.rule_reader.specs.Laws.{passed-readable}

@@ -7,8 +7,8 @@ use Rattle.refusal.specs.Laws.{cause-none}
 use Rattle.refusal.specs.Reply.{refusal, refused as verdict, cause}
 use Rattle.lent.specs.Laws.{in-range}
 use Rattle.lent.specs.Lent.{outOfRange}
-use Rattle.lent.specs.ScanLaws.{rules-unsound, rules-sound}
-use Rattle.lent.specs.Sound.{unread, badRule}
+use Rattle.rule_list.specs.ScanLaws.{rules-unsound, rules-sound}
+use Rattle.rule_list.specs.Sound.{unread, badRule}
 use Rattle.dimacs.specs.Sizes.{sound-length}
 use Rattle.dimacs.specs.Written.{written}
 use Rattle.rule_writer.specs.Laws.{short, by-range, by-rules, by-room, refused, answered}

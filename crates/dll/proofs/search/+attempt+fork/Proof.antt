@@ -12,7 +12,7 @@ use borrow.Fn.Kinds.{In}
 use borrow.Fn.PlainCycle.{Measures, is, falls, and}
 use Rattle.formula.specs.Formula.{clauses, models}
 use Rattle.literal.specs.declared.Variable.{Variable}
-use Rattle.lent.specs.Sound.{unread, badRule}
+use Rattle.rule_list.specs.Sound.{unread, badRule}
 use Rattle.walk.specs.State.{unassigned, assign, fits}
 use Rattle.walk.specs.Walk.{Outcome, complete, decide, walkFrom}
 use Rattle.walk.specs.Walk.{fork as forkOf}

@@ -11,9 +11,11 @@ use Rattle.refusal.specs.Laws.{cause-none}
 use Rattle.refusal.specs.Reply.{refused, cause}
 use Rattle.lent.specs.Laws.{in-range}
 use Rattle.lent.specs.Lent.{outOfRange}
-use Rattle.lent.specs.ScanLaws.{rules-unsound, rules-sound, row-unsound, row-sound, by-range, by-rules, by-row, by-none, problem-of}
+use Rattle.rule_list.specs.ScanLaws.{rules-unsound, rules-sound}
+use Rattle.lent.specs.ScanLaws.{row-unsound, row-sound, by-range, by-rules, by-row, by-none, problem-of}
 use Rattle.lent.specs.Scans.{unsound, problem}
-use Rattle.lent.specs.Sound.{unread, badRule, badWish}
+use Rattle.rule_list.specs.Sound.{unread, badRule}
+use Rattle.lent.specs.Sound.{badWish}
 use Rattle.lent.proofs.problem.scan_problem.Statement.{statement}
 use Rattle.lent.proofs.problem.scan_problem.Tie as tie
 

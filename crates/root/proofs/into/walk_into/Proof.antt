@@ -7,7 +7,7 @@ use lib.ListN.{length, take, drop, length-append}
 use lib.Seq.{length-take-le, take-at}
 use borrow.Author.Needs.{needs}
 use Rattle.formula.specs.Formula.{clauses}
-use Rattle.lent.specs.Sound.{unread, badRule}
+use Rattle.rule_list.specs.Sound.{unread, badRule}
 use Rattle.walk.specs.Walk.{Outcome, walk}
 use Rattle.root.specs.Into.{reaches-found, reaches-nothing}
 use Rattle.root.specs.Root.{RootSays}

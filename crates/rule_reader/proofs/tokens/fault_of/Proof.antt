@@ -1,6 +1,6 @@
 -- `rule_reader::tokens::fault_of` meets its contract: each return is one of the tests, in their order.
 use borrow.Author.Tests.{lt-ltb, le-ltb, le-leb, lt-leb, eq-eqb, ne-eqb}
-use Rattle.lent.specs.Limits.{maxLiterals}
+use Rattle.limits.specs.Limits.{maxLiterals}
 use Rattle.rule_reader.proofs.tokens.fault_of.Statement.{statement}
 use Rattle.rule_reader.proofs.tokens.fault_of.Tie as tie
 

@@ -6,7 +6,7 @@ ghost use mathlib.Core.Path.{_≡_};
 ghost use Prim.Native.Nat.{ℕ, _+_, _≤_};
 ghost use lib.Dec.{eqb};
 ghost use lib.ListN.{length, getD, set};
-ghost use Rattle.lent.specs.Limits.{maxVariables, maxClauses};
+ghost use Rattle.limits.specs.Limits.{maxVariables, maxClauses};
 
 // No variable seen yet.
 pub fn no_stamps() -> [u16; 641]

@@ -1,4 +1,4 @@
--- `lent::rules::scan_rules` meets its contract: each turn is one of the laws of `Scanning`.
+-- `rule_list::scan::scan_rules` meets its contract: each turn is one of the laws of `Scanning`.
 use mathlib.Core.Path.{_≡_, sym, ap, subst, _∙_}
 use mathlib.Core.Bool.{true}
 use mathlib.Core.List.{List}
@@ -10,9 +10,9 @@ use borrow.Author.Needs.{needs}
 use borrow.Author.Tests.{eqb-true, eqb-false}
 use Rattle.literal.specs.Laws.{as-read}
 use Rattle.literal.specs.Literal.{variable}
-use Rattle.lent.proofs.Scanning.{Scanning, start, clauses-over, closed, outside, literals-over, twice, joined, left-open, complete}
-use Rattle.lent.proofs.rules.scan_rules.Statement.{statement}
-use Rattle.lent.proofs.rules.scan_rules.Tie as tie
+use Rattle.rule_list.proofs.Scanning.{Scanning, start, clauses-over, closed, outside, literals-over, twice, joined, left-open, complete}
+use Rattle.rule_list.proofs.scan.scan_rules.Statement.{statement}
+use Rattle.rule_list.proofs.scan.scan_rules.Tie as tie
 
 abbrev Inv-loop : tie.InvT-loop
 Inv-loop n rules stamps₀ clauses₀ literals₀ is-open₀ i₀ stamps clauses literals is-open i = Scanning n rules stamps clauses literals is-open i

@@ -10,11 +10,11 @@ use lib.IntN.{ℤ, pos}
 use lib.ListN.{length, getD, drop, set}
 use Rattle.literal.specs.Literal.{variable}
 use Rattle.formula.specs.Formula.{clauses, literals}
-use Rattle.lent.specs.declared.rules.RuleScan.the-variants.{Unsound, Sound}
-use Rattle.lent.specs.Laws.{scan, rule-closed, rule-clauses, rule-literal, rule-outside, rule-literals, rule-twice, rule-end, zeros, nonzeros, zeros-zero, zeros-literal, zeros-end, zeros-clauses, nonzeros-literals}
-use Rattle.lent.specs.Scans.{ruleScan}
-use Rattle.lent.specs.Sound.{unread, unclosed, badRule}
-use Rattle.lent.specs.Stamps.{Stamped, stamped-none, stamped-closed, stamped-joined, stamp-free, stamp-taken}
+use Rattle.rule_list.specs.declared.scan.RuleScan.the-variants.{Unsound, Sound}
+use Rattle.rule_list.specs.Laws.{scan, rule-closed, rule-clauses, rule-literal, rule-outside, rule-literals, rule-twice, rule-end, zeros, nonzeros, zeros-zero, zeros-literal, zeros-end, zeros-clauses, nonzeros-literals}
+use Rattle.rule_list.specs.Scans.{ruleScan}
+use Rattle.rule_list.specs.Sound.{unread, unclosed, badRule}
+use Rattle.rule_list.specs.Stamps.{Stamped, stamped-none, stamped-closed, stamped-joined, stamp-free, stamp-taken}
 
 -- After the elements before i: k clauses, m literals, and the literals of the open clause
 pub record Scanning (n : ℕ) (list : List ℤ) (stamps : List ℕ) (k m : ℕ) (is-open : Bool) (i : ℕ) : Type 0 where

@@ -1,15 +1,15 @@
 // The soundness of a rule list.
-use crate::limits::MAX_CLAUSES;
-use crate::limits::MAX_LITERALS;
 use crate::stamps::is_stamped;
 use crate::stamps::no_stamps;
 use crate::stamps::stamp;
+use limits::MAX_CLAUSES;
+use limits::MAX_LITERALS;
 use literal::Clause;
 ghost use mathlib.Core.Path.{_≡_};
 ghost use Prim.Native.Nat.{_+_, _≤_};
-ghost use Rattle.lent.specs.Limits.{maxVariables};
-ghost use Rattle.lent.specs.Sound.{unread, badRule};
-ghost use Rattle.lent.specs.Scans.{ruleScan};
+ghost use Rattle.limits.specs.Limits.{maxVariables};
+ghost use Rattle.rule_list.specs.Sound.{unread, badRule};
+ghost use Rattle.rule_list.specs.Scans.{ruleScan};
 
 // A list's first bad index, or what a sound list holds.
 pub enum RuleScan {

@@ -1,10 +1,10 @@
--- `lent::rules::is_stamped` meets its contract.
+-- `rule_list::stamps::is_stamped` meets its contract.
 use mathlib.Core.Path.{ap}
 use Prim.Native.Nat.{ℕ}
 use lib.Dec.{eqb}
 use borrow.Author.Needs.{needs}
-use Rattle.lent.proofs.stamps.is_stamped.Statement.{statement}
-use Rattle.lent.proofs.stamps.is_stamped.Tie as tie
+use Rattle.rule_list.proofs.stamps.is_stamped.Statement.{statement}
+use Rattle.rule_list.proofs.stamps.is_stamped.Tie as tie
 
 mul-wide : tie.Need-mul-wide
 mul-wide c = search needs

@@ -1,9 +1,9 @@
--- `lent::rules::no_stamps` meets its contract.
+-- `rule_list::stamps::no_stamps` meets its contract.
 use mathlib.Core.Path.{_≡_, refl}
 use Prim.Native.Nat.{ℕ, zero, suc}
 use lib.ListN.{getD, replicate}
-use Rattle.lent.proofs.stamps.no_stamps.Statement.{statement}
-use Rattle.lent.proofs.stamps.no_stamps.Tie as tie
+use Rattle.rule_list.proofs.stamps.no_stamps.Statement.{statement}
+use Rattle.rule_list.proofs.stamps.no_stamps.Tie as tie
 
 zero-at : (k v : ℕ) → getD {A = ℕ} (replicate k 0) v 0 ≡ 0
 zero-at zero v = refl

@@ -12,7 +12,7 @@ use lib.Seq.{getD-set-same, getD-set-other}
 use borrow.Author.Tests.{eq-eqb, ne-eqb}
 use Rattle.literal.specs.Literal.{variable}
 use Rattle.formula.specs.Formula.{any}
-use Rattle.lent.specs.Sound.{mayJoin}
+use Rattle.rule_list.specs.Sound.{mayJoin}
 
 pub record Stamped (stamps : List ℕ) (k : ℕ) (c : List ℤ) : Type 0 where
   pub long : length stamps ≡ 641
