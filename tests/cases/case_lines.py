@@ -107,3 +107,8 @@ def rewrite(text, n, rules, row, d, room):
     buffer = pattern(NUMBERS, room)
     label('rewrite: ' + text)
     lines.append('rewrite %d %s %s %d %s' % (n, encode(rules), encode(row), d, encode(buffer)))
+
+
+def forks(text, n, rules, row, d):
+    label('forks: ' + text)
+    lines.append('forks %d %s %s %d' % (n, encode(rules), encode(row), d))

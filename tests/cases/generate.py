@@ -18,6 +18,7 @@ import itertools
 import pathlib
 import random
 
+import forks
 import rule_files
 import searches
 import wish_files
@@ -273,6 +274,8 @@ def malformed():
         ('plain search without a buffer', 'plain 1 0'),
         ('nearest with a limit', 'nearest 1 0 1 2 0 1 7'),
         ('rewriting without a buffer', 'rewrite 1 0 1 2 0'),
+        ('forks without a limit', 'forks 1 0 1 2'),
+        ('forks with a buffer', 'forks 1 0 1 2 0 1 7'),
     ):
         label(NO_CASE + text)
         lines.append(line)
@@ -301,6 +304,7 @@ def main():
     rule_files.add(random.Random(2))
     wish_files.add(random.Random(3))
     searches.add(random.Random(4))
+    forks.add(random.Random(5))
     malformed()
     cases = '\n'.join(lines) + '\n'
     answers = all_answers(cases)
