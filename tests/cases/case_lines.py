@@ -1,8 +1,8 @@
-"""The lines of the cases, and of the answers to them."""
+"""The lines of the cases."""
 
-import oracle
+from asked import needed
 
-lines, answers = [], []
+lines = []
 
 # Elements of the buffers that are lent: no call writes any of them.
 NUMBERS = (901, -902, 2**31 - 1, -(2**31), 905, -906, 907)
@@ -11,7 +11,6 @@ BYTES = (201, 202, 203, 204, 205, 206, 207)
 
 def label(text):
     lines.append('# ' + text)
-    answers.append('# ' + text)
 
 
 def encode(elements):
@@ -42,37 +41,33 @@ def pattern(elements, length):
 def read_rules(text, file, room=None):
     """The rule file's reader, by default with a buffer that has room to spare."""
     if room is None:
-        cause, found = oracle.rule_file(file)
-        room = 6 if found is None else len(found[2]) + 3
+        length = needed('read_rules %s 0' % encode(file))
+        room = 6 if length is None else length + 3
     buffer = pattern(NUMBERS, room)
     label('read rules: ' + text)
     lines.append('read_rules %s %s' % (encode(file), encode(buffer)))
-    answers.append(oracle.read_rules(file, buffer))
 
 
 def write_rules(text, n, numbers, room):
     buffer = pattern(BYTES, room)
     label('write rules: ' + text)
     lines.append('write_rules %d %s %s' % (n, encode(numbers), encode(buffer)))
-    answers.append(oracle.write_rules(n, numbers, buffer))
 
 
 def read_wishes(text, file, room=None):
     """The wish file's reader, by default with a buffer that has room to spare."""
     if room is None:
-        cause, found = oracle.wish_file(file)
-        room = 6 if found is None else found[0] + 3
+        length = needed('read_wishes %s 0' % encode(file))
+        room = 6 if length is None else length + 3
     buffer = pattern(BYTES, room)
     label('read wishes: ' + text)
     lines.append('read_wishes %s %s' % (encode(file), encode(buffer)))
-    answers.append(oracle.read_wishes(file, buffer))
 
 
 def write_wishes(text, n, row, d, room):
     buffer = pattern(BYTES, room)
     label('write wishes: ' + text)
     lines.append('write_wishes %d %s %d %s' % (n, encode(row), d, encode(buffer)))
-    answers.append(oracle.write_wishes(n, row, d, buffer))
 
 
 def shown(file):
@@ -94,25 +89,26 @@ def search(text, n, rules, row, d, room):
     buffer = pattern(BYTES, room)
     label('search: ' + text)
     lines.append('search %d %s %s %d %s' % (n, encode(rules), encode(row), d, encode(buffer)))
-    answers.append(oracle.search(n, rules, row, d, buffer))
 
 
 def plain(text, n, rules, room):
     buffer = pattern(BYTES, room)
     label('plain: ' + text)
     lines.append('plain %d %s %s' % (n, encode(rules), encode(buffer)))
-    answers.append(oracle.plain(n, rules, buffer))
 
 
 def nearest(text, n, rules, row, room):
     buffer = pattern(BYTES, room)
     label('nearest: ' + text)
     lines.append('nearest %d %s %s %s' % (n, encode(rules), encode(row), encode(buffer)))
-    answers.append(oracle.nearest(n, rules, row, buffer))
 
 
 def rewrite(text, n, rules, row, d, room):
     buffer = pattern(NUMBERS, room)
     label('rewrite: ' + text)
     lines.append('rewrite %d %s %s %d %s' % (n, encode(rules), encode(row), d, encode(buffer)))
-    answers.append(oracle.rewrite(n, rules, row, d, buffer))
+
+
+def forks(text, n, rules, row, d):
+    label('forks: ' + text)
+    lines.append('forks %d %s %s %d' % (n, encode(rules), encode(row), d))

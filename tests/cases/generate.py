@@ -3,9 +3,9 @@
 
     python3 tests/cases/generate.py
 
-writes crates/cases/stdin, and crates/cases/stdout with the answers of oracle.py, which follows
-document 01 and not the library. `rt check cases` then runs the program and compares. The numbers
-are drawn from a fixed seed, so a second run writes the same files.
+writes crates/cases/stdin, and crates/cases/stdout with what the reference of tests/interface answers, which
+follows document 01 and not the library. `rt check cases` then runs the program and compares. The numbers are
+drawn from a fixed seed, so a second run writes the same files.
 
 A case is a line: the name of a call, then its values, single spaces between them. A list is its
 length and its elements; among these `@ COUNT BACK` stands for COUNT further elements, each of them
@@ -18,20 +18,21 @@ import itertools
 import pathlib
 import random
 
-import oracle
+import forks
 import rule_files
 import searches
 import wish_files
-from case_lines import answers, encode, label, lines
+from asked import all_answers
+from case_lines import encode, label, lines
 
 CRATE = pathlib.Path(__file__).resolve().parents[2] / 'crates' / 'cases'
 LEAST, GREATEST = -2**31, 2**31 - 1
-MALFORMED = 'bad case'
+MALFORMED, NO_CASE = 'bad case', 'no case: '
+
 
 def check(text, n, rules, row, choice):
     label(text)
     lines.append('check %d %s %s %s' % (n, encode(rules), encode(row), encode(choice)))
-    answers.append(oracle.check(n, rules, row, choice))
 
 
 def documented():
@@ -189,6 +190,17 @@ def orders():
         check('n = %d, a bad choice' % n, n, [], [2] * n, [1] * (n - 1) + [2])
 
 
+def rules_met(rules, choice):
+    """How many rules of a list have an entry that holds."""
+    met, holds = 0, False
+    for entry in rules:
+        if entry == 0:
+            met, holds = met + holds, False
+        else:
+            holds = holds or choice[abs(entry) - 1] == (entry > 0)
+    return met
+
+
 def random_problems(draw, count):
     """Small problems. Every other choice is the best of all in its problem, so that many are met."""
     for index in range(count):
@@ -205,8 +217,8 @@ def random_problems(draw, count):
             choice = max(
                 itertools.product((0, 1), repeat=n),
                 key=lambda values: (
-                    sum(oracle.meets([rule], values) for rule in oracle.rules_of(rules)),
-                    -oracle.broken(row, values),
+                    rules_met(rules, values),
+                    -sum(wish != 2 and wish != value for wish, value in zip(row, values)),
                 ),
             )
         check('random %d' % index, n, rules, row, choice)
@@ -262,10 +274,22 @@ def malformed():
         ('plain search without a buffer', 'plain 1 0'),
         ('nearest with a limit', 'nearest 1 0 1 2 0 1 7'),
         ('rewriting without a buffer', 'rewrite 1 0 1 2 0'),
+        ('forks without a limit', 'forks 1 0 1 2'),
+        ('forks with a buffer', 'forks 1 0 1 2 0 1 7'),
     ):
-        label('no case: ' + text)
+        label(NO_CASE + text)
         lines.append(line)
-        answers.append(MALFORMED)
+
+
+def misjudged(answers):
+    """The labels of lines that are meant to be no case and are not told to be none, or the other way round."""
+    text, labels = '', []
+    for line in answers:
+        if line.startswith('#'):
+            text = line
+        elif (line == MALFORMED) != text.startswith('# ' + NO_CASE):
+            labels.append(text)
+    return labels
 
 
 def main():
@@ -280,9 +304,13 @@ def main():
     rule_files.add(random.Random(2))
     wish_files.add(random.Random(3))
     searches.add(random.Random(4))
+    forks.add(random.Random(5))
     malformed()
-    (CRATE / 'stdin').write_text('\n'.join(lines) + '\n', encoding='ascii')
-    (CRATE / 'stdout').write_text('\n'.join(answers) + '\n', encoding='ascii')
+    cases = '\n'.join(lines) + '\n'
+    answers = all_answers(cases)
+    assert not misjudged(answers.splitlines()), misjudged(answers.splitlines())
+    (CRATE / 'stdin').write_text(cases, encoding='ascii')
+    (CRATE / 'stdout').write_text(answers, encoding='ascii')
 
 
 if __name__ == '__main__':

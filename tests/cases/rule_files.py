@@ -2,8 +2,8 @@
 
 import itertools
 
-import oracle
-from case_lines import damaged, read_rules, shown, write_rules
+from asked import written
+from case_lines import damaged, encode, read_rules, shown, write_rules
 
 LEAST, GREATEST = -(2**31), 2**31 - 1
 FOUR = b'1 2 3 4 0\n'
@@ -178,7 +178,7 @@ def rooms():
 
 def round_trip(text, n, numbers):
     """A list written, with room as needed, more and less, and its file read."""
-    file = oracle.written_rules(n, numbers)
+    file = written('write_rules %d %s' % (n, encode(numbers)))
     for room in (len(file) - 1, len(file), len(file) + 1, len(file) + 70):
         write_rules('%s, room for %d' % (text, room), n, numbers, room)
     for room in (len(numbers) - 1, len(numbers), len(numbers) + 1):

@@ -2,8 +2,8 @@
 
 import itertools
 
-import oracle
-from case_lines import nearest, plain, rewrite, search
+from asked import ask, needed
+from case_lines import encode, nearest, plain, rewrite, search
 
 
 def every(text, n, rules, row, limits, room=None):
@@ -66,6 +66,12 @@ def long_ones():
     every('a chain of 256 with wishes', 256, chain(256, False), [0] * 5 + [2] * 251, (4, 5))
 
 
+def least(n, rules, row):
+    """The least number of broken wishes, None if the rules can't be met."""
+    word, *count = ask('nearest %d %s %s %s' % (n, encode(rules), encode(row), encode([0] * n)))[0].split()
+    return int(count[0]) if word == 'found' else None
+
+
 def random_ones(draw, count):
     for index in range(count):
         n = draw.choice((1, 2, 3, 4, 5, 6, 6, 7, 7, 8, 8, 9, 10))
@@ -74,7 +80,7 @@ def random_ones(draw, count):
             settings = draw.sample(range(1, n + 1), min(n, width if draw.random() < 0.9 else draw.randint(1, 5)))
             rules += [draw.choice((-1, 1)) * setting for setting in settings] + [0]
         row = [draw.choice((0, 1, 2)) for _ in range(n)]
-        fewest = oracle.least(n, oracle.rules_of(rules), row)
+        fewest = least(n, rules, row)
         limits = (draw.randint(0, n),) if fewest is None else (max(fewest - 1, 0), fewest)
         every('random %d' % index, n, rules, row, limits)
 
@@ -130,8 +136,8 @@ def rewritings():
             row += [2] * (n - len(row))
             for d in sorted({0, max(count - 1, 0), count, 64}):
                 rules = [1, -n, 0] if n > 1 else [1, 0]
-                needed = len(oracle.rewritten(n, rules, row, d)[1])
-                for room in (needed - 1, needed, needed + 3):
+                length = needed('rewrite %d %s %s %d 0' % (n, encode(rules), encode(row), d))
+                for room in (length - 1, length, length + 3):
                     rewrite('%d wishes of %d, limit %d, room for %d' % (count, n, d, room), n, rules, row, d, room)
     rewrite("document 01's example", 2, [1, 2, 0], [0, 0], 1, 30)
     rewrite('an empty rule, no room', 1, [0], [0], 0, 0)

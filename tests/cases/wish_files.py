@@ -2,8 +2,8 @@
 
 import itertools
 
-import oracle
-from case_lines import damaged, read_wishes, shown, write_wishes
+from asked import written
+from case_lines import damaged, encode, read_wishes, shown, write_wishes
 
 
 def read(file, room=None):
@@ -116,7 +116,7 @@ def rooms():
 
 def round_trip(text, n, row, d):
     """A row written, with room as needed, more and less, and its file read."""
-    file = oracle.written_wishes(n, row, d)
+    file = written('write_wishes %d %s %d' % (n, encode(row), d))
     for room in (len(file) - 1, len(file), len(file) + 1, len(file) + 70):
         write_wishes('%s, room for %d' % (text, room), n, row, d, room)
     for room in (n - 1, n, n + 1):

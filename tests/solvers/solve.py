@@ -4,16 +4,18 @@ results.txt. It stops where two of them disagree.
 
 clasp gets the rules and the wishes as a pseudo-Boolean problem and gives the least number of broken wishes.
 cadical and minisat get the given rule file, and the rewritten one for each limit from 0 to the number of wishes:
-above that it is the same file. Debian's packages clasp, cadical and minisat have the three programs."""
+above that it is the same file. The reference of tests/interface rewrites. Debian's packages clasp, cadical and minisat have the three programs."""
 
 import pathlib
 import subprocess
 import sys
 import tempfile
 
+sys.path.append(str(pathlib.Path(__file__).resolve().parents[1]))
 import books
-import rewriting
+import reference
 
+REWRITE = reference.program('reference', 'rewrite')
 SATISFIABLE, UNSATISFIABLE = '+', '-'
 
 # With which words each solver is run on a file.
@@ -67,6 +69,16 @@ def verdict(book, command, folder, content):
     return VERDICTS[result.returncode]
 
 
+def rewritten(book, folder, n, wishes, d):
+    """The file that document 01's rewriting program prints for a limit, by the reference."""
+    (folder / 'rules.cnf').write_bytes(book.rule_file)
+    (folder / 'wish.txt').write_bytes(books.wish_file(n, wishes, d))
+    file = subprocess.run([REWRITE, folder], stdout=subprocess.PIPE, check=True).stdout
+    if not file.startswith(b'p cnf'):
+        fail(book, 'rewriting gives', file)
+    return file
+
+
 def solved(book, folder):
     """The line of a book."""
     n, rules = books.parse_rules(book.rule_file)
@@ -75,15 +87,15 @@ def solved(book, folder):
         fail(book, 'its two files differ in the number of settings')
     least = least_broken(book, folder, (n, rules, wishes))
     limits = range(len(wishes) + 1)
-    files = [books.rule_file(*rewriting.rewrite(n, rules, wishes, d)) for d in limits]
+    files = [rewritten(book, folder, n, wishes, d) for d in limits]
     words = ['clasp', 'none' if least is None else least]
     for command in (CADICAL, MINISAT):
         given = verdict(book, command, folder, book.rule_file)
-        rewritten = ''.join(verdict(book, command, folder, file) for file in files)
+        verdicts = ''.join(verdict(book, command, folder, file) for file in files)
         expected = ''.join(UNSATISFIABLE if least is None or least > d else SATISFIABLE for d in limits)
-        if given != (UNSATISFIABLE if least is None else SATISFIABLE) or rewritten != expected:
-            fail(book, 'clasp', least, 'and', command[0], given, rewritten, 'disagree')
-        words += [command[0], given, rewritten]
+        if given != (UNSATISFIABLE if least is None else SATISFIABLE) or verdicts != expected:
+            fail(book, 'clasp', least, 'and', command[0], given, verdicts, 'disagree')
+        words += [command[0], given, verdicts]
     sizes = n, len(rules), len(wishes), limit, book.limits
     return ' '.join(map(str, (book.name, *sizes, *words)))
 

@@ -3,6 +3,7 @@
 // call, then its values, as the library casefile reads them. What is no case is answered too, so
 // nothing is left out.
 mod check_case;
+mod forks_case;
 mod held;
 mod nearest_case;
 mod plain_case;
@@ -82,6 +83,9 @@ fn search(line: &[u8]) {
         return;
     }
     if rewrite_case::run(line) {
+        return;
+    }
+    if forks_case::run(line) {
         return;
     }
     report::malformed();

@@ -81,7 +81,7 @@ pub fn check(n: u64, rules: &[i32], row: &[u8], choice: &[u8]) -> Answer {
 }
 
 /// What every call with rules and a wish row refuses before its output is looked at.
-fn wished(n: u64, rules: &[i32], row: &[u8], d: u64) -> Result<(), Refusal> {
+pub fn wished(n: u64, rules: &[i32], row: &[u8], d: u64) -> Result<(), Refusal> {
     lent::n_and_d(n, d)?;
     lent::rules(n, rules)?;
     lent::row(row)?;
@@ -105,6 +105,16 @@ pub fn search(n: u64, rules: &[i32], row: &[u8], d: u64, choice: &mut [u8]) -> A
         wished(n, rules, row, d)?;
         lent::room(choice, n as usize)?;
         Ok(found(row, walk::search(rules, row, d).choice, choice))
+    })())
+}
+
+/// The forks that the wish search makes, whether it finds or not. Document 01 has no call for them; they are
+/// counted as document 02 (L11) says: "A fork counts when step 5 is entered".
+pub fn forks(n: u64, rules: &[i32], row: &[u8], d: u64) -> Answer {
+    replied((|| {
+        wished(n, rules, row, d)?;
+        let outcome = walk::search(rules, row, d);
+        Ok(answer(outcome.choice.is_some(), [outcome.forks, 0, 0]))
     })())
 }
 
