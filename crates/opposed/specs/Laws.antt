@@ -3,16 +3,18 @@ use mathlib.Core.Path.{_≡_, refl, sym, ap, ap₂, _∙_}
 use mathlib.Core.Bool.{Bool, true, false, cond, not, _&&_, _||_}
 use mathlib.Core.List.{List, [], _∷_}
 use mathlib.Core.Option.{Option, none, some}
-use Prim.Native.Nat.{ℕ, min, _≤_}
+use Prim.Native.Nat.{ℕ, _+_, _-_, _≤_}
+use native.Mathlib.Omega.{arith}
 use lib.Dec.{ltb}
 use lib.IntN.{ℤ}
-use lib.ListN.{length, drop, drop-of-length-le}
+use lib.ListN.{length, take, drop, drop-of-length-le}
+use borrow.Author.Tests.{lt-ltb, le-ltb, ltb-true, ltb-false}
 use Rattle.literal.specs.Literal.{holds}
-use Rattle.formula.specs.Formula.{any, all, clauses, satisfied}
+use Rattle.formula.specs.Formula.{any, all, clauses, clauseLength, satisfied}
 use Rattle.walk.specs.State.{isUnassigned, unassignedIn}
-use Rattle.walk.specs.Branching.{isAgainst, assignedOrAgainst, isOpposed, shorter, fewest}
-use Rattle.walk.specs.BranchingLaws.{fewer, fewer-assoc, shorter-fewer, fewest-opposed, fewest-other}
-use Rattle.opposed.specs.Opposed.{opposes}
+use Rattle.walk.specs.Branching.{isAgainst, assignedOrAgainst, isOpposed, shorter, shorterOf, shortest, fewest}
+use Rattle.walk.specs.BranchingLaws.{fewer, fewest-opposed, fewest-other}
+use Rattle.opposed.specs.Opposed.{opposes, clauseAt}
 
 -- a literal that holds, one that is unassigned, and one that is assigned and does not hold
 pub opposes-held : (row a : List ℕ) (x : ℤ) → holds a x ≡ true → opposes row a x ≡ false
@@ -35,41 +37,44 @@ opposed-all row a (x ∷ c) = go (holds a x) (assignedOrAgainst row a x) (satisf
     go false false true = refl
     go false false false = refl
 
--- how many unassigned literals the shortest opposed clause so far has, if one was found
-abbrev pub size : List ℕ → Bool → List ℤ → Option ℕ
-size a found s = cond found (some (unassignedIn a s)) none
+-- the shorter of three clauses is the same from either side
+pub shorter-assoc : (a : List ℕ) (s c e : List ℤ) → shorter a s (shorter a c e) ≡ shorter a (shorter a s c) e
+shorter-assoc a s c e = go (ltb (unassignedIn a e) (unassignedIn a c)) refl (ltb (unassignedIn a c) (unassignedIn a s)) refl
+  where
+    go : (t : Bool) → ltb (unassignedIn a e) (unassignedIn a c) ≡ t → (u : Bool) → ltb (unassignedIn a c) (unassignedIn a s) ≡ u
+        → shorter a s (cond t e c) ≡ shorter a (cond u c s) e
+    go true p true q =
+        rw (p, lt-ltb (unassignedIn a e) (unassignedIn a s) (omega (arith, ltb-true (unassignedIn a e) (unassignedIn a c) p, ltb-true (unassignedIn a c) (unassignedIn a s) q)))
+    go true p false q = refl
+    go false p true q = rw (p, q)
+    go false p false q =
+        rw (q, le-ltb (unassignedIn a e) (unassignedIn a s) (omega (arith, ltb-false (unassignedIn a e) (unassignedIn a c) p, ltb-false (unassignedIn a c) (unassignedIn a s) q)))
 
--- what is kept of two clauses, told by their counts, is the shorter, and its count the smaller
-module _ (a : List ℕ) (s c : List ℤ) (least count : ℕ) (kept : least ≡ unassignedIn a s) (counted : count ≡ unassignedIn a c) where
-  pub shorter-counted : cond (ltb count least) c s ≡ shorter a s c
-  shorter-counted = ap₂ (λ (k m : ℕ). cond (ltb k m) c s) counted kept
+-- the search by one more clause: one that is not opposed, the first that is, and another beside the one that is kept
+module _ (row a : List ℕ) (c : List ℤ) (f : List (List ℤ)) where
+  pub shortest-other : isOpposed row a c ≡ false → shortest row a (c ∷ f) ≡ shortest row a f
+  shortest-other e = rw e
 
-  pub least-counted : min least count ≡ unassignedIn a (shorter a s c)
-  least-counted = ap₂ min kept counted ∙ sym (shorter-fewer a s c)
+  pub shortest-first : isOpposed row a c ≡ true → shortest row a (c ∷ f) ≡ some (shorterOf a c (shortest row a f))
+  shortest-first e = rw e
 
--- one more clause: not opposed, the first that is opposed, and another
-module _ (row a : List ℕ) (found : Bool) (s c : List ℤ) (f : List (List ℤ)) where
-  pub fewest-kept : isOpposed row a c ≡ false → fewer (size a found s) (fewest row a (c ∷ f)) ≡ fewer (size a found s) (fewest row a f)
-  fewest-kept e = ap (fewer (size a found s)) (fewest-other row a c f e)
+  pub kept-other : isOpposed row a c ≡ false → (s : List ℤ) → shorterOf a s (shortest row a (c ∷ f)) ≡ shorterOf a s (shortest row a f)
+  kept-other e s = rw e
 
-  pub fewest-first : found ≡ false → isOpposed row a c ≡ true → fewer (size a found s) (fewest row a (c ∷ f)) ≡ fewer (size a true c) (fewest row a f)
-  fewest-first h e = ap (λ (b : Bool). fewer (size a b s) (fewest row a (c ∷ f))) h ∙ fewest-opposed row a c f e
+  pub kept-shorter : isOpposed row a c ≡ true → (s : List ℤ) → shorterOf a s (shortest row a (c ∷ f)) ≡ shorterOf a (shorter a s c) (shortest row a f)
+  kept-shorter e s = ap (shorterOf a s) (shortest-first e) ∙ go (shortest row a f)
+    where
+      go : (o : Option (List ℤ)) → shorterOf a s (some (shorterOf a c o)) ≡ shorterOf a (shorter a s c) o
+      go none = refl
+      go (some g) = shorter-assoc a s c g
 
-  pub fewest-shorter : found ≡ true → isOpposed row a c ≡ true
-      → fewer (size a found s) (fewest row a (c ∷ f)) ≡ fewer (size a true (shorter a s c)) (fewest row a f)
-  fewest-shorter h e =
-      ap (λ (b : Bool). fewer (size a b s) (fewest row a (c ∷ f))) h
-      ∙ ap (fewer (some (unassignedIn a s))) (fewest-opposed row a c f e)
-      ∙ sym (fewer-assoc (some (unassignedIn a s)) (some (unassignedIn a c)) (fewest row a f))
-      ∙ ap (λ (k : ℕ). fewer (some k) (fewest row a f)) (sym (shorter-fewer a s c))
+-- the clause from i to its end e is the one that begins at i
+pub clause-at : (l : List ℤ) (i e : ℕ) → e ≡ i + clauseLength (drop i l) → take (e - i) (drop i l) ≡ clauseAt i l
+clause-at l i e q = let n : e - i ≡ clauseLength (drop i l) = omega arith in ap (λ (k : ℕ). take k (drop i l)) n
 
 -- at the end of the list
-pub fewest-found : (row a : List ℕ) (found : Bool) (s : List ℤ) (l : List ℤ) (i : ℕ) → length l ≤ i → fewer (size a found s) (fewest row a (clauses (drop i l))) ≡ size a found s
-fewest-found row a found s l i h = rw (drop-of-length-le l h) (alone (size a found s))
-  where
-    alone : (o : Option ℕ) → fewer o none ≡ o
-    alone none = refl
-    alone (some k) = refl
+pub shortest-past : (row a : List ℕ) (l : List ℤ) (i : ℕ) → length l ≤ i → shortest row a (clauses (drop i l)) ≡ none
+shortest-past row a l i h = rw (drop-of-length-le l h)
 
 -- step 3 asks whether some clause is opposed: there is one where there is a shortest
 abbrev pub isSome : Option ℕ → Bool

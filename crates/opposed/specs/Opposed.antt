@@ -1,13 +1,18 @@
--- Opposed clauses, literal by literal.
-use mathlib.Core.Bool.{Bool, not, _&&_}
+-- Opposed clauses, literal by literal and in a list.
+use mathlib.Core.Path.{_≡_}
+use mathlib.Core.Bool.{Bool, true, not, _&&_}
 use mathlib.Core.List.{List}
 use mathlib.Core.Option.{Option, none, some}
-use Prim.Native.Nat.{ℕ}
+use Prim.Native.Nat.{ℕ, _<_}
 use lib.IntN.{ℤ}
+use lib.ListN.{length, take, drop}
 use Rattle.literal.specs.Literal.{holds}
-use Rattle.walk.specs.Branching.{assignedOrAgainst}
+use Rattle.formula.specs.Formula.{clauses, clauseLength}
+use Rattle.walk.specs.Branching.{assignedOrAgainst, isOpposed, shortest}
 use Rattle.opposed.specs.declared.fewest.Fewest.{Fewest}
-use Rattle.opposed.specs.declared.fewest.Fewest.the-variants.{Nothing, Literals}
+use Rattle.opposed.specs.declared.fewest.Fewest.the-variants as F
+use Rattle.opposed.specs.declared.shortest.Found.{Found}
+use Rattle.opposed.specs.declared.shortest.Found.the-variants as W
 
 -- a literal of an opposed clause
 abbrev pub opposes : List ℕ → List ℕ → ℤ → Bool
@@ -15,5 +20,15 @@ opposes row a x = not (holds a x) && assignedOrAgainst row a x
 
 -- the number that a `Fewest` holds
 abbrev pub sizeOf : Fewest → Option ℕ
-sizeOf Nothing = none
-sizeOf (Literals k) = some k
+sizeOf F.Nothing = none
+sizeOf (F.Literals k) = some k
+
+-- the clause of a list that begins at index i
+abbrev pub clauseAt : ℕ → List ℤ → List ℤ
+clauseAt i l = take (clauseLength (drop i l)) (drop i l)
+
+-- there is no opposed clause, or one begins at i and the shortest is not before it
+abbrev pub IsFirst : List ℕ → List ℕ → List ℤ → Found → Type 0
+IsFirst row a l W.Nothing = shortest row a (clauses l) ≡ none
+IsFirst row a l (W.At i) =
+    (i < length l) × (isOpposed row a (clauseAt i l) ≡ true) × (shortest row a (clauses l) ≡ shortest row a (clauses (drop i l)))

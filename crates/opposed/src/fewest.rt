@@ -1,8 +1,8 @@
-// The shortest opposed clause of a list.
-use crate::clause::is_opposed;
-use crate::pair::shorter;
-use crate::pair::smaller;
+// How many unassigned literals the shortest opposed clause has.
 use crate::pair::unassigned_in;
+use crate::shortest::Found;
+use crate::shortest::first_opposed;
+use crate::shortest::shortest_opposed;
 ghost use mathlib.Core.Path.{_≡_};
 ghost use Rattle.formula.specs.Formula.{clauses};
 ghost use Rattle.walk.specs.Branching.{fewest};
@@ -14,35 +14,15 @@ pub enum Fewest {
     Literals(usize),
 }
 
-// Finds the shortest opposed clause in one pass over the list, and counts its unassigned literals.
-// `least` is the count of the clause that is kept, so that it is not counted beside each later one.
+// Counts the unassigned literals of the shortest opposed clause.
 pub fn fewest_opposed(list: &[i32], row: &[u8], assignment: &[u8]) -> Fewest
     ensures { λ r. ⌜ sizeOf r ≡ fewest (now (row .entry)) (now (assignment .entry)) (clauses (now (list .entry))) ⌝ }
 {
-    let mut shortest = &list[0..0];
-    let mut least: usize = 0;
-    let mut found = false;
-    let mut from = 0;
-    while from < list.len() {
-        let end = formula::clause_end(list, from);
-        let clause = &list[from..end];
-        if is_opposed(clause, row, assignment) {
-            let count = unassigned_in(clause, assignment);
-            if found {
-                let best = shorter(shortest, least, clause, count);
-                shortest = best;
-                least = smaller(least, count);
-            } else {
-                shortest = clause;
-                least = count;
-                found = true;
-            }
+    match first_opposed(list, row, assignment) {
+        Found::Nothing => Fewest::Nothing,
+        Found::At(from) => {
+            let shortest = shortest_opposed(list, from, row, assignment);
+            Fewest::Literals(unassigned_in(shortest, assignment))
         }
-        from = end + 1;
     }
-    if found {
-        // the count of the clause that was handed back, once more
-        return Fewest::Literals(unassigned_in(shortest, assignment));
-    }
-    Fewest::Nothing
 }

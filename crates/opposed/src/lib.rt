@@ -2,9 +2,12 @@
 mod clause;
 mod fewest;
 mod pair;
+mod shortest;
 
 pub use clause::is_opposed;
 pub use fewest::Fewest;
 pub use fewest::fewest_opposed;
 pub use pair::shorter;
 pub use pair::unassigned_in;
+pub use shortest::first_opposed;
+pub use shortest::shortest_opposed;

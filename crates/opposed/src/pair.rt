@@ -1,8 +1,6 @@
 // The shorter of two clauses.
-ghost use mathlib.Core.Bool.{cond};
 ghost use mathlib.Core.Path.{_≡_};
-ghost use Prim.Native.Nat.{min};
-ghost use lib.Dec.{ltb};
+ghost use Rattle.walk.specs.Branching.{shorter};
 ghost use Rattle.walk.specs.State.{unassignedIn};
 
 // The number of unassigned literals of a clause.
@@ -20,22 +18,13 @@ pub fn unassigned_in(clause: &[i32], assignment: &[u8]) -> usize
     count
 }
 
-// The smaller of two counts.
-pub fn smaller(first: usize, second: usize) -> usize
-    ensures { λ r. ⌜ r ≡ min first second ⌝ }
+// Of two clauses the one with fewer unassigned literals, the first if equal, handed back as itself.
+pub fn shorter<'a>(first: &'a [i32], second: &'a [i32], assignment: &[u8]) -> &'a [i32]
+    ensures { λ r. ⌜ now r ≡ shorter (now (assignment .entry)) (now (first .entry)) (now (second .entry)) ⌝ }
 {
-    if second < first { second } else { first }
-}
-
-// Of two clauses the one with fewer unassigned literals, the first if equal, handed back as itself. The
-// counts are handed in: a clause that is kept is not counted again beside each later one.
-pub fn shorter<'a>(
-    first: &'a [i32],
-    in_first: usize,
-    second: &'a [i32],
-    in_second: usize,
-) -> &'a [i32]
-    ensures { λ r. ⌜ now r ≡ cond (ltb in_second in_first) (now (second .entry)) (now (first .entry)) ⌝ }
-{
-    if in_second < in_first { second } else { first }
+    if unassigned_in(second, assignment) < unassigned_in(first, assignment) {
+        second
+    } else {
+        first
+    }
 }

@@ -1,0 +1,57 @@
+// The shortest opposed clause of a list.
+use crate::clause::is_opposed;
+use crate::pair::shorter;
+ghost use mathlib.Core.Path.{_≡_};
+ghost use mathlib.Core.Bool.{true};
+ghost use mathlib.Core.Option.{some};
+ghost use Prim.Native.Nat.{_<_};
+ghost use lib.ListN.{length, drop};
+ghost use Rattle.formula.specs.Formula.{clauses};
+ghost use Rattle.walk.specs.Branching.{isOpposed, shortest};
+ghost use Rattle.opposed.specs.Opposed.{clauseAt, IsFirst};
+
+// Where the first opposed clause begins, if there is one.
+pub enum Found {
+    At(usize),
+    Nothing,
+}
+
+// Goes through the list until a clause is opposed.
+pub fn first_opposed(list: &[i32], row: &[u8], assignment: &[u8]) -> Found
+    ensures { λ r. ⌜ IsFirst (now (row .entry)) (now (assignment .entry)) (now (list .entry)) r ⌝ }
+{
+    let mut from = 0;
+    while from < list.len() {
+        let end = formula::clause_end(list, from);
+        if is_opposed(&list[from..end], row, assignment) {
+            return Found::At(from);
+        }
+        from = end + 1;
+    }
+    Found::Nothing
+}
+
+// The shortest opposed clause, handed back as itself, given where the first one begins.
+pub fn shortest_opposed<'a>(
+    list: &'a [i32],
+    first: usize,
+    row: &[u8],
+    assignment: &[u8],
+) -> &'a [i32]
+    requires { ⌜ (first < length (now list)) × (isOpposed (now row) (now assignment) (clauseAt first (now list)) ≡ true) ⌝ }
+    ensures { λ r. ⌜ some (now r) ≡ shortest (now (row .entry)) (now (assignment .entry)) (clauses (drop first (now (list .entry)))) ⌝ }
+{
+    let first_end = formula::clause_end(list, first);
+    let mut kept = &list[first..first_end];
+    let mut from = first_end + 1;
+    while from < list.len() {
+        let end = formula::clause_end(list, from);
+        let clause = &list[from..end];
+        if is_opposed(clause, row, assignment) {
+            let best = shorter(kept, clause, assignment);
+            kept = best;
+        }
+        from = end + 1;
+    }
+    kept
+}
