@@ -1,2 +1,4 @@
 pub mod Decimal
 pub mod Laws
+pub mod Read
+pub mod ReadLaws

@@ -1,4 +1,8 @@
-// Decimal numbers, written into bytes.
+// Decimal numbers, written into bytes and read from them.
+mod read;
+
+pub use read::Number;
+pub use read::number_of;
 ghost use mathlib.Core.Path.{_≡_};
 ghost use Prim.Native.Nat.{_+_, _≤_};
 ghost use lib.ListN.{length};

@@ -1,5 +1,5 @@
 // The header of a rule file, and the comment lines before it.
-use rule_tokens::Number;
+use decimal::Number;
 ghost use mathlib.Core.Bool.{false};
 ghost use mathlib.Core.Path.{_≡_};
 ghost use Prim.Native.Nat.{_+_, _≤_};
@@ -86,10 +86,10 @@ pub fn heading_at(file: &[u8], at: usize) -> Heading
     if file.len() <= c_end {
         return Heading::Malformed;
     }
-    let Number::Value(variables) = rule_tokens::number_of(&file[n_from..n_end]) else {
+    let Number::Value(variables) = decimal::number_of(&file[n_from..n_end]) else {
         return Heading::Malformed;
     };
-    let Number::Value(clauses) = rule_tokens::number_of(&file[c_from..c_end]) else {
+    let Number::Value(clauses) = decimal::number_of(&file[c_from..c_end]) else {
         return Heading::Malformed;
     };
     Heading::Found {

@@ -1,11 +1,10 @@
--- The equations by which proofs read a number and a token, byte by byte.
+-- The equations by which proofs read a token, byte by byte.
 use mathlib.Core.Path.{_≡_, refl, sym, ap, ap₂, _∙_, subst}
-use mathlib.Core.Bool.{Bool, true, false, cond, not, and-false}
+use mathlib.Core.Bool.{Bool, true, false, cond, not}
 use mathlib.Core.List.{List, [], _∷_}
 use mathlib.Core.Option.{Option, none, some, Option·some-injective, Option·none-ne-some}
-use Prim.Native.Nat.{ℕ, zero, suc, _+_, _-_, _*_, _≤_, _<_}
+use Prim.Native.Nat.{ℕ, zero, suc, _+_, _-_, _≤_, _<_}
 use native.Mathlib.Nat.{not-suc-le-zero, add-zero}
-use native.Mathlib.Numerals.{add-one}
 use native.Mathlib.Omega.{arith}
 use lib.Dec.{eqb, ltb}
 use lib.IntN.{ℤ, pos, negsuc, negℤ}
@@ -14,66 +13,17 @@ use lib.Seq.{drop-cons, drop-drop, take-all, getD-drop}
 use mir.Syntax.{w32}
 use mir.Val.{SFits, toZ, ofZ}
 use mir.ValLaws.{toZ-ofZ}
-use borrow.Author.Tests.{lt-ltb, le-ltb, ne-eqb, ltb-true, ltb-false}
-use Rattle.decimal.specs.Decimal.{isDigit, number}
-use Rattle.decimal.specs.Laws.{numberAfter, number-by-value, number-small, digit-low, digit-high}
-use Rattle.dimacs.specs.Class.{digit, minus, classOf}
-use Rattle.dimacs.specs.Laws.{class-digit, class-other, run-inside, run-ends, run-take, run-more, words-gap, words-first}
+use borrow.Author.Tests.{ne-eqb, ltb-true, ltb-false}
+use Rattle.decimal.specs.Decimal.{number}
+use Rattle.decimal.specs.Laws.{number-small}
+use Rattle.dimacs.specs.Class.{minus, classOf}
+use Rattle.dimacs.specs.Laws.{run-inside, run-ends, run-take, run-more, words-gap, words-first}
 use Rattle.dimacs.specs.Format.{leading, isGap, inToken, Word, words, tokensFrom, positive, negative, signed}
 use Rattle.rule_tokens.specs.declared.Token as T
-use Rattle.rule_tokens.specs.declared.number.Number as N
 use Rattle.rule_tokens.specs.declared.number.Numeral as L
-use Rattle.rule_tokens.specs.Token.{numberAs, numeralAs, tokenAs, firstToken}
-
--- the first byte of a number
-pub number-empty : (w : List ℕ) → length w ≡ 0 → number w ≡ none
-number-empty [] e = refl
-number-empty (b ∷ w) e = absurd (omega arith)
-
-pub number-first : (w : List ℕ) → 0 < length w → classOf (getD w 0 0) ≡ digit → number w ≡ numberAfter (getD w 0 0 - 48) (drop 1 w)
-number-first [] h e = absurd (not-suc-le-zero h)
-number-first (b ∷ w) h e = number-by-value (b ∷ w) ∙ rw (class-digit b e)
-
-pub number-other : (w : List ℕ) → 0 < length w → (classOf (getD w 0 0) ≡ digit → ⊥) → number w ≡ none
-number-other [] h e = absurd (not-suc-le-zero h)
-number-other (b ∷ w) h e = number-by-value (b ∷ w) ∙ rw (class-other b e)
-
--- the bytes after it: a digit that may follow the value v, a byte that may not, the end
-module _ (w : List ℕ) (v i : ℕ) (h : i < length w) where
-  abbrev b : ℕ
-  b = getD w i 0
-
-  pub after-digit : classOf b ≡ digit → (v ≡ 0 → ⊥) → v < 10000 → numberAfter v (drop i w) ≡ numberAfter (v * 10 + (b - 48)) (drop (i + 1) w)
-  after-digit e z m = rw (drop-cons w i 0 h, class-digit b e, lt-ltb 0 v (omega arith), lt-ltb v 10000 m, add-one i)
-
-  pub after-other : (classOf b ≡ digit → ⊥) → numberAfter v (drop i w) ≡ none
-  after-other e = rw (drop-cons w i 0 h, class-other b e)
-
-  pub after-zero : v ≡ 0 → numberAfter v (drop i w) ≡ none
-  after-zero z = rw (drop-cons w i 0 h, le-ltb 0 v (omega arith), and-false (isDigit b))
-
-  pub after-many : 10000 ≤ v → numberAfter v (drop i w) ≡ none
-  after-many m = rw (drop-cons w i 0 h, le-ltb v 10000 m, and-false (ltb 0 v), and-false (isDigit b))
-
-pub after-end : (w : List ℕ) (v i : ℕ) → length w ≤ i → numberAfter v (drop i w) ≡ some v
-after-end w v i h = rw (drop-of-length-le w h)
-
--- a digit's byte
-pub digit-least : (b : ℕ) → classOf b ≡ digit → 48 ≤ b
-digit-least b e = digit-low b (class-digit b e)
-
-pub digit-most : (b : ℕ) → classOf b ≡ digit → b - 48 < 10
-digit-most b e = omega (arith, digit-high b (class-digit b e))
+use Rattle.rule_tokens.specs.Token.{numeralAs, tokenAs, firstToken}
 
 -- what the answers tell
-pub number-none : (o : Option ℕ) → numberAs o ≡ N.the-variants.Malformed → o ≡ none
-number-none none e = refl
-number-none (some v) e = cc
-
-pub number-some : (o : Option ℕ) (v : ℕ) → numberAs o ≡ N.the-variants.Value v → o ≡ some v
-number-some none v e = cc
-number-some (some u) v e = cc
-
 pub numeral-none : (o : Option ℤ) → numeralAs o ≡ L.the-variants.Malformed → o ≡ none
 numeral-none none e = refl
 numeral-none (some x) e = cc

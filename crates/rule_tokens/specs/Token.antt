@@ -5,18 +5,12 @@ use Prim.Native.Nat.{ℕ, _+_}
 use lib.IntN.{ℤ}
 use lib.ListN.{length}
 use Rattle.dimacs.specs.Format.{Word, signed}
-use Rattle.rule_tokens.specs.declared.number.Number as N
-use Rattle.rule_tokens.specs.declared.number.Number.{Number}
 use Rattle.rule_tokens.specs.declared.number.Numeral as L
 use Rattle.rule_tokens.specs.declared.number.Numeral.{Numeral}
 use Rattle.rule_tokens.specs.declared.Token as T
 use Rattle.rule_tokens.specs.declared.Token.{Token}
 
 -- the answers, by the definitions' own
-abbrev pub numberAs : Option ℕ → Number
-numberAs none = N.the-variants.Malformed
-numberAs (some v) = N.the-variants.Value v
-
 abbrev pub numeralAs : Option ℤ → Numeral
 numeralAs none = L.the-variants.Malformed
 numeralAs (some x) = L.the-variants.Value x

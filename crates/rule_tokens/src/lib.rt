@@ -1,9 +1,7 @@
 // The tokens of a rule file.
 mod number;
 
-pub use number::Number;
 use number::Numeral;
-pub use number::number_of;
 ghost use mathlib.Core.Path.{_≡_};
 ghost use Prim.Native.Nat.{_+_};
 ghost use lib.ListN.{length, drop};

@@ -1,10 +1,10 @@
 // The lines of a wish file, read.
-use rule_tokens::Number;
+use decimal::Number;
 use wish_file::COLUMN_WIDTH;
 ghost use mathlib.Core.Path.{_≡_};
 ghost use Prim.Native.Nat.{_+_, _≤_};
 ghost use lib.ListN.{length, drop};
-ghost use Rattle.rule_tokens.specs.Token.{numberAs};
+ghost use Rattle.decimal.specs.Read.{numberAs};
 ghost use Rattle.wish_file.specs.Layout.{pastSpaces, columnNumber};
 ghost use Rattle.wish_lines.specs.Lines.{isLine, field};
 
@@ -30,7 +30,7 @@ fn column_number(file: &[u8], at: usize) -> Number
     let end = at + COLUMN_WIDTH;
     let column = &file[at..end];
     let start = leading_spaces(column);
-    rule_tokens::number_of(&column[start..])
+    decimal::number_of(&column[start..])
 }
 
 // Whether a line of so many columns begins at a place.

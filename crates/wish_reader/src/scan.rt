@@ -2,7 +2,6 @@
 use limits::MAX_LIMIT;
 use limits::MAX_WISH_VARIABLES;
 use limits::MAX_WISHES;
-use literal::Variable;
 use refusal::Refusal;
 use refusal::Verdict;
 use wish_file::COLUMN_WIDTH;
@@ -48,14 +47,15 @@ fn is_outside(n: usize, wishes: usize, limit: usize) -> bool
     MAX_LIMIT < limit
 }
 
-// Whether a wish may not come after that of another variable.
-fn is_misfit(n: usize, last: Variable, variable: Variable, mark: usize) -> bool
-    ensures { λ r. ⌜ r ≡ misfit n (last .0) (record { variable = variable .0; mark = mark }) ⌝ }
+// Whether the wish on a line may not stand there. The numbers are as they were read, so 0 may be among
+// them; `last` is that of the line before, and 0 before the first, so that no variable is too low there.
+fn is_misfit(n: usize, last: usize, number: usize, mark: usize) -> bool
+    ensures { λ r. ⌜ r ≡ misfit n last (record { variable = number; mark = mark }) ⌝ }
 {
-    if variable.0 <= last.0 {
+    if number <= last {
         return true;
     }
-    if n < variable.0 {
+    if n < number {
         return true;
     }
     1 < mark
@@ -73,12 +73,12 @@ fn scan_lines(file: &[u8], n: usize, wishes: usize) -> Verdict
         if !wish_lines::is_line(file, at, WISH_COLUMNS) {
             return refusal::refuse(8, at);
         }
-        let variable = wish_lines::field_at(file, at);
+        let number = wish_lines::field_at(file, at);
         let mark = wish_lines::field_at(file, at + COLUMN_WIDTH);
-        if is_misfit(n, Variable(last), Variable(variable), mark) {
+        if is_misfit(n, last, number, mark) {
             return refusal::refuse(10, at);
         }
-        last = variable;
+        last = number;
         at += WISH_SIZE;
         left -= 1;
     }

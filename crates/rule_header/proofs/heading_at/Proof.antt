@@ -8,7 +8,7 @@ use lib.ListN.{take, drop}
 use borrow.Author.Tests.{not-true, not-false}
 use Rattle.decimal.specs.Decimal.{number}
 use Rattle.dimacs.specs.Format.{preamble, startsWith, header, numbered}
-use Rattle.rule_tokens.specs.Laws.{number-none, number-some}
+use Rattle.decimal.specs.ReadLaws.{number-none, number-some}
 use Rattle.rule_header.specs.declared.Heading as D
 use Rattle.rule_header.specs.Heading.{headingAs}
 use Rattle.rule_header.specs.Laws.{header-at, header-open, header-other, field-most, n-malformed, c-malformed, both-read}

@@ -3,7 +3,7 @@ use Prim.Native.Nat.{_+_, _-_}
 use native.Mathlib.Omega.{arith}
 use Rattle.wish_lines.specs.Laws.{column-part}
 use mathlib.Core.Path.{_≡_, ap, _∙_}
-use Rattle.rule_tokens.specs.Token.{numberAs}
+use Rattle.decimal.specs.Read.{numberAs}
 use borrow.Author.Needs.{needs}
 use Rattle.wish_lines.proofs.column_number.Statement.{statement}
 use Rattle.wish_lines.proofs.column_number.Tie as tie

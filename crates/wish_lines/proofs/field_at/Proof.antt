@@ -1,7 +1,7 @@
 -- `wish_lines::field_at` meets its contract: the column's number, or 0.
 use mathlib.Core.Path.{sym, _∙_}
 use lib.ListN.{drop}
-use Rattle.rule_tokens.specs.Laws.{number-none, number-some}
+use Rattle.decimal.specs.ReadLaws.{number-none, number-some}
 use Rattle.wish_file.specs.Layout.{columnNumber}
 use Rattle.wish_lines.specs.Laws.{field-some, field-none}
 use borrow.Author.Needs.{needs}

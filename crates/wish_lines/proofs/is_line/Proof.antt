@@ -4,7 +4,7 @@ use Prim.Native.Nat.{ℕ, _≤_}
 use native.Mathlib.Omega.{arith}
 use lib.ListN.{length, drop}
 use borrow.Author.Needs.{needs}
-use Rattle.rule_tokens.specs.Laws.{number-none, number-some}
+use Rattle.decimal.specs.ReadLaws.{number-none, number-some}
 use Rattle.wish_file.specs.Layout.{columnNumber}
 use Rattle.wish_lines.specs.Laws.{line-cut, line-malformed, line-more, line-ends, line-stops}
 use Rattle.wish_lines.specs.Lines.{isLine}

@@ -6,9 +6,10 @@ use native.Mathlib.Omega.{arith}
 use lib.IntN.{ℤ, pos}
 use Rattle.decimal.specs.Decimal.{number}
 use Rattle.decimal.specs.Laws.{number-small}
+use Rattle.decimal.specs.ReadLaws.{number-none, number-some}
 use Rattle.dimacs.specs.Format.{positive, signed}
 use Rattle.rule_tokens.specs.declared.number.Numeral as L
-use Rattle.rule_tokens.specs.Laws.{number-none, number-some, signed-empty, signed-minus, signed-plain, positive-fits, held}
+use Rattle.rule_tokens.specs.Laws.{signed-empty, signed-minus, signed-plain, positive-fits, held}
 use Rattle.rule_tokens.specs.Token.{numeralAs}
 use borrow.Author.Needs.{needs}
 use Rattle.rule_tokens.proofs.number.numeral_of.Statement.{statement}

@@ -6,18 +6,18 @@ use Rattle.wish_reader.proofs.scan.is_misfit.Tie as tie
 
 returns : tie.Need-returns
 returns c =
-    let args = c .before .before .before .args in
-    sym (not-rising (args .n) (args .last .0) (record { variable = args .variable .0; mark = args .mark }) (c .if1 .taken))
+    let args = c .before .args in
+    sym (not-rising (args .n) (args .last) (record { variable = args .number; mark = args .mark }) (c .if1 .taken))
 
 returns-2 : tie.Need-returns-2
 returns-2 c =
-    let args = c .before .before .before .before .before .args in
-    sym (above (args .n) (args .last .0) (record { variable = args .variable .0; mark = args .mark }) (c .before .before .if1 .left) (c .if2 .taken))
+    let args = c .before .before .args in
+    sym (above (args .n) (args .last) (record { variable = args .number; mark = args .mark }) (c .before .if1 .left) (c .if2 .taken))
 
 returns-3 : tie.Need-returns-3
 returns-3 c =
-    let args = c .before .before .before .before .before .args in
-    sym (by-mark (args .n) (args .last .0) (record { variable = args .variable .0; mark = args .mark }) (c .before .before .if1 .left) (c .if2 .left))
+    let args = c .before .before .args in
+    sym (by-mark (args .n) (args .last) (record { variable = args .number; mark = args .mark }) (c .before .if1 .left) (c .if2 .left))
 
 pub is-misfit-spec : {M : Type 1} → statement M
 is-misfit-spec = tie.close (tie.spec returns returns-2 returns-3)
