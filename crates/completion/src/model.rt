@@ -2,8 +2,9 @@
 use crate::byte::completed_value;
 ghost use mathlib.Core.Path.{_≡_};
 ghost use Rattle.literal.specs.Literal.{holds};
-ghost use Rattle.formula.specs.Formula.{clauses, satisfied, models};
+ghost use Rattle.formula.specs.Formula.{clauses, models};
 ghost use Rattle.walk.specs.Walk.{complete};
+ghost use Rattle.standing.specs.Clause.{Tested};
 
 // Whether a literal holds in the completion.
 pub fn holds_completed(x: i32, row: &[u8], assignment: &[u8]) -> bool
@@ -12,18 +13,38 @@ pub fn holds_completed(x: i32, row: &[u8], assignment: &[u8]) -> bool
     completed_value(literal::variable_of(x), row, assignment) == literal::wanted_by(x)
 }
 
-// Whether the completion makes some literal of a clause hold.
-pub fn satisfied_completed(clause: &[i32], row: &[u8], assignment: &[u8]) -> bool
-    ensures { λ r. ⌜ r ≡ satisfied (complete (now (row .entry)) (now (assignment .entry))) (now (clause .entry)) ⌝ }
+// A clause of a list: where it ends, and whether the completion makes some literal of it hold.
+pub struct Completed {
+    pub end: usize,
+    pub satisfied: bool,
+}
+
+// Reads the clause that begins at an index, each literal once. After one that holds it looks only for
+// the clause's end.
+pub fn read_completed(list: &[i32], from: usize, row: &[u8], assignment: &[u8]) -> Completed
+    ensures { λ r. ⌜ Tested (holds (complete (now (row .entry)) (now (assignment .entry)))) (now (list .entry)) from (r .end) (r .satisfied) ⌝ }
 {
-    let mut i = 0;
-    while i < clause.len() {
-        if holds_completed(clause[i], row, assignment) {
-            return true;
+    let mut i = from;
+    while i < list.len() {
+        if literal::variable_of(list[i]).0 == 0 {
+            return Completed {
+                end: i,
+                satisfied: false,
+            };
+        }
+        if holds_completed(list[i], row, assignment) {
+            let end = formula::clause_end(list, i + 1);
+            return Completed {
+                end: end,
+                satisfied: true,
+            };
         }
         i += 1;
     }
-    false
+    Completed {
+        end: i,
+        satisfied: false,
+    }
 }
 
 // Whether the completion satisfies every clause of a list, in one pass over it.
@@ -32,11 +53,11 @@ pub fn completes(list: &[i32], row: &[u8], assignment: &[u8]) -> bool
 {
     let mut from = 0;
     while from < list.len() {
-        let end = formula::clause_end(list, from);
-        if !satisfied_completed(&list[from..end], row, assignment) {
+        let clause = read_completed(list, from, row, assignment);
+        if !clause.satisfied {
             return false;
         }
-        from = end + 1;
+        from = clause.end + 1;
     }
     true
 }

@@ -3,18 +3,18 @@ use mathlib.Core.Path.{_≡_, refl, sym, ap, ap₂, _∙_}
 use mathlib.Core.Bool.{Bool, true, false, cond, not, _&&_, _||_}
 use mathlib.Core.List.{List, [], _∷_}
 use mathlib.Core.Option.{Option, none, some}
-use Prim.Native.Nat.{ℕ, _+_, _-_, _≤_}
+use Prim.Native.Nat.{ℕ, _≤_}
 use native.Mathlib.Omega.{arith}
 use lib.Dec.{ltb}
 use lib.IntN.{ℤ}
-use lib.ListN.{length, take, drop, drop-of-length-le}
+use lib.ListN.{length, drop, drop-of-length-le}
 use borrow.Author.Tests.{lt-ltb, le-ltb, ltb-true, ltb-false}
 use Rattle.literal.specs.Literal.{holds}
-use Rattle.formula.specs.Formula.{any, all, clauses, clauseLength, satisfied}
+use Rattle.formula.specs.Formula.{any, all, clauses, satisfied}
 use Rattle.walk.specs.State.{isUnassigned, unassignedIn}
 use Rattle.walk.specs.Branching.{isAgainst, assignedOrAgainst, isOpposed, shorter, shorterOf, shortest, fewest}
 use Rattle.walk.specs.BranchingLaws.{fewer, fewest-opposed, fewest-other}
-use Rattle.opposed.specs.Opposed.{opposes, clauseAt}
+use Rattle.opposed.specs.Opposed.{opposes}
 
 -- a literal that holds, one that is unassigned, and one that is assigned and does not hold
 pub opposes-held : (row a : List ℕ) (x : ℤ) → holds a x ≡ true → opposes row a x ≡ false
@@ -68,10 +68,6 @@ module _ (row a : List ℕ) (c : List ℤ) (f : List (List ℤ)) where
       go none = refl
       go (some g) = shorter-assoc a s c g
 
--- the clause from i to its end e is the one that begins at i
-pub clause-at : (l : List ℤ) (i e : ℕ) → e ≡ i + clauseLength (drop i l) → take (e - i) (drop i l) ≡ clauseAt i l
-clause-at l i e q = let n : e - i ≡ clauseLength (drop i l) = omega arith in ap (λ (k : ℕ). take k (drop i l)) n
-
 -- at the end of the list
 pub shortest-past : (row a : List ℕ) (l : List ℤ) (i : ℕ) → length l ≤ i → shortest row a (clauses (drop i l)) ≡ none
 shortest-past row a l i h = rw (drop-of-length-le l h)
@@ -85,12 +81,12 @@ pub any-opposed : (row a : List ℕ) (f : List (List ℤ)) → any (isOpposed ro
 any-opposed row a [] = refl
 any-opposed row a (c ∷ f) = go (isOpposed row a c) refl (any-opposed row a f)
   where
-    counted : (o : Option ℕ) → isSome (fewer (some (unassignedIn a c)) o) ≡ true
-    counted none = refl
-    counted (some k) = refl
+    there : (o : Option ℕ) → isSome (fewer (some (unassignedIn a c)) o) ≡ true
+    there none = refl
+    there (some k) = refl
 
     go : (b : Bool) → isOpposed row a c ≡ b → any (isOpposed row a) f ≡ isSome (fewest row a f) → isOpposed row a c || any (isOpposed row a) f ≡ isSome (fewest row a (c ∷ f))
     go true e ih =
         ap (λ (t : Bool). t || any (isOpposed row a) f) e
-        ∙ sym (ap isSome (fewest-opposed row a c f e) ∙ counted (fewest row a f))
+        ∙ sym (ap isSome (fewest-opposed row a c f e) ∙ there (fewest row a f))
     go false e ih = ap (λ (t : Bool). t || any (isOpposed row a) f) e ∙ ih ∙ sym (ap isSome (fewest-other row a c f e))

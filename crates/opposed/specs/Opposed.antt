@@ -5,10 +5,11 @@ use mathlib.Core.List.{List}
 use mathlib.Core.Option.{Option, none, some}
 use Prim.Native.Nat.{ℕ, _<_}
 use lib.IntN.{ℤ}
-use lib.ListN.{length, take, drop}
+use lib.ListN.{length, drop}
 use Rattle.literal.specs.Literal.{holds}
-use Rattle.formula.specs.Formula.{clauses, clauseLength}
+use Rattle.formula.specs.Formula.{clauses}
 use Rattle.walk.specs.Branching.{assignedOrAgainst, isOpposed, shortest}
+use Rattle.standing.specs.Clause.{clauseAt}
 use Rattle.opposed.specs.declared.fewest.Fewest.{Fewest}
 use Rattle.opposed.specs.declared.fewest.Fewest.the-variants as F
 use Rattle.opposed.specs.declared.shortest.Found.{Found}
@@ -22,10 +23,6 @@ opposes row a x = not (holds a x) && assignedOrAgainst row a x
 abbrev pub sizeOf : Fewest → Option ℕ
 sizeOf F.Nothing = none
 sizeOf (F.Literals k) = some k
-
--- the clause of a list that begins at index i
-abbrev pub clauseAt : ℕ → List ℤ → List ℤ
-clauseAt i l = take (clauseLength (drop i l)) (drop i l)
 
 -- there is no opposed clause, or one begins at i and the shortest is not before it
 abbrev pub IsFirst : List ℕ → List ℕ → List ℤ → Found → Type 0

@@ -1,17 +1,18 @@
 -- What a pass over the clauses finds: the first that is falsified or unit.
-use mathlib.Core.Path.{_≡_, refl, sym, _∙_}
-use mathlib.Core.Bool.{Bool, true, false, cond, _&&_, _||_, true≢false}
+use mathlib.Core.Path.{_≡_, refl, sym, ap, ap₂, _∙_}
+use mathlib.Core.Bool.{Bool, true, false, cond, not, _&&_, _||_, true≢false}
 use mathlib.Core.List.{List, [], _∷_}
 use mathlib.Core.Option.{Option, none, some}
 use Prim.Native.Nat.{ℕ, _<_}
 use native.Mathlib.Omega.{arith}
 use lib.Dec.{eqb}
 use lib.IntN.{ℤ}
-use borrow.Author.Tests.{eqb-true, ne-eqb}
+use borrow.Author.Tests.{eqb-true}
 use Rattle.formula.specs.Formula.{any, satisfied}
 use Rattle.walk.specs.State.{find, isUnassigned, unassignedIn, isOpen, isUnit, isFalsified}
 use Rattle.walk.specs.Propagation.{unitLiteral}
 use Rattle.walk.specs.Counting.{find-some}
+use Rattle.standing.specs.declared.Standing.{Standing}
 use Rattle.standing.specs.declared.Standing.the-variants.{Satisfied, Open}
 use Rattle.standing.specs.Standing.{standingOf}
 use Rattle.propagation.specs.declared.unit.Unit as U
@@ -25,33 +26,21 @@ abbrev pub scan : List ℕ → List (List ℤ) → Unit
 scan a [] = U.the-variants.Nothing
 scan a (c ∷ f) = cond (isFalsified a c) U.the-variants.Conflict (cond (isUnit a c) (unitOf (find (isUnassigned a) c)) (scan a f))
 
--- a clause by its standing
-module _ (a : List ℕ) (c : List ℤ) where
-  satisfied-is : standingOf a c ≡ Satisfied → satisfied a c ≡ true
-  satisfied-is e = go (satisfied a c) e
-    where
-      go : (t : Bool) → cond t Satisfied (Open (unassignedIn a c)) ≡ Satisfied → t ≡ true
-      go true q = refl
-      go false q = cc
+-- what a clause's standing tells, x being its literal if it is unit
+abbrev pub unitBy : Standing → ℤ → Unit
+unitBy Satisfied x = U.the-variants.Nothing
+unitBy (Open k) x = cond (eqb k 0) U.the-variants.Conflict (cond (eqb k 1) (U.the-variants.Literal x) U.the-variants.Nothing)
 
-  open-is : (k : ℕ) → standingOf a c ≡ Open k → (satisfied a c ≡ false) × (unassignedIn a c ≡ k)
-  open-is k e = go (satisfied a c) e
-    where
-      go : (t : Bool) → cond t Satisfied (Open (unassignedIn a c)) ≡ Open k → (t ≡ false) × (unassignedIn a c ≡ k)
-      go true q = ((cc), (cc))
-      go false q = (refl, (cc))
-
-  pub scan-satisfied : (f : List (List ℤ)) → standingOf a c ≡ Satisfied → scan a (c ∷ f) ≡ scan a f
-  scan-satisfied f e = rw (satisfied-is e)
-
-  pub scan-falsified : (f : List (List ℤ)) → standingOf a c ≡ Open 0 → scan a (c ∷ f) ≡ U.the-variants.Conflict
-  scan-falsified f e = rw (open-is 0 e .0, open-is 0 e .1)
-
-  pub scan-unit : (f : List (List ℤ)) → standingOf a c ≡ Open 1 → scan a (c ∷ f) ≡ unitOf (find (isUnassigned a) c)
-  scan-unit f e = rw (open-is 1 e .0, open-is 1 e .1)
-
-  pub scan-open : (f : List (List ℤ)) (k : ℕ) → standingOf a c ≡ Open k → (k ≡ 0 → ⊥) → (k ≡ 1 → ⊥) → scan a (c ∷ f) ≡ scan a f
-  scan-open f k e z o = rw (open-is k e .0, open-is k e .1, ne-eqb k 0 z, ne-eqb k 1 o)
+pub scan-by : (a : List ℕ) (c : List ℤ) (s : Standing) (x : ℤ) → s ≡ standingOf a c → (s ≡ Open 1 → find (isUnassigned a) c ≡ some x) → unitBy s x ≡ scan a (c ∷ [])
+scan-by a c s x e h = ap (λ (t : Standing). unitBy t x) e ∙ go (satisfied a c) refl (eqb (unassignedIn a c) 1) refl
+  where
+    go : (t : Bool) → satisfied a c ≡ t → (u : Bool) → eqb (unassignedIn a c) 1 ≡ u → unitBy (cond t Satisfied (Open (unassignedIn a c))) x
+        ≡ cond (not t && eqb (unassignedIn a c) 0) U.the-variants.Conflict (cond (not t && eqb (unassignedIn a c) 1) (unitOf (find (isUnassigned a) c)) U.the-variants.Nothing)
+    go true p u q = refl
+    go false p false q = rw q
+    go false p true q =
+        let unit : s ≡ Open 1 = e ∙ ap₂ (λ (b : Bool) (k : ℕ). cond b Satisfied (Open k)) p (eqb-true (unassignedIn a c) 1 q) in
+        ap (λ (o : Option ℤ). cond (eqb (unassignedIn a c) 0) U.the-variants.Conflict (cond (eqb (unassignedIn a c) 1) (unitOf o) U.the-variants.Nothing)) (sym (h unit))
 
 -- a unit clause has its literal
 unit-found : (a : List ℕ) (c : List ℤ) → isUnit a c ≡ true → (x : ℤ) × (find (isUnassigned a) c ≡ some x)

@@ -1,11 +1,11 @@
 // The next unit clause.
-use standing::Literal;
 use standing::Standing;
 ghost use mathlib.Core.Path.{_≡_};
-ghost use mathlib.Core.List.{[], _∷_};
+ghost use Prim.Native.Nat.{_<_};
+ghost use lib.IntN.{pos};
+ghost use lib.ListN.{length, getD};
 ghost use Rattle.formula.specs.Formula.{clauses};
-ghost use Rattle.propagation.specs.Unit.{scan, unitOf};
-ghost use Rattle.walk.specs.State.{find, isUnassigned};
+ghost use Rattle.propagation.specs.Unit.{scan, unitBy};
 
 // A falsified clause, the one unassigned literal of a unit clause, or neither.
 pub enum Unit {
@@ -20,9 +20,10 @@ pub fn find_unit(list: &[i32], a: &[u8]) -> Unit
 {
     let mut from = 0;
     while from < list.len() {
-        let end = formula::clause_end(list, from);
-        let next = end + 1;
-        match unit_in(&list[from..end], a) {
+        let reading = standing::read_clause(list, from, a);
+        let standing = reading.standing;
+        let next = reading.end + 1;
+        match unit_by(list, standing, reading.last) {
             Unit::Conflict => return Unit::Conflict,
             Unit::Literal(x) => return Unit::Literal(x),
             Unit::Nothing => from = next,
@@ -31,29 +32,21 @@ pub fn find_unit(list: &[i32], a: &[u8]) -> Unit
     Unit::Nothing
 }
 
-// The same of one clause.
-fn unit_in(clause: &[i32], a: &[u8]) -> Unit
-    ensures { λ r. ⌜ r ≡ scan (now (a .entry)) (now (clause .entry) ∷ []) ⌝ }
+// The same of one clause, by how it stands and where its last unassigned literal is.
+fn unit_by(list: &[i32], standing: Standing, last: usize) -> Unit
+    requires { ⌜ (standing ≡ Standing.Open 1 → last < length (now list)) ⌝ }
+    ensures { λ r. ⌜ r ≡ unitBy standing (getD (now (list .entry)) last (pos 0)) ⌝ }
 {
-    match standing::standing_of(clause, a) {
+    match standing {
         Standing::Satisfied => Unit::Nothing,
         Standing::Open(k) => {
             if k == 0 {
                 return Unit::Conflict;
             }
             if k == 1 {
-                return unit_literal(clause, a);
+                return Unit::Literal(list[last]);
             }
             Unit::Nothing
         }
-    }
-}
-
-fn unit_literal(clause: &[i32], a: &[u8]) -> Unit
-    ensures { λ r. ⌜ r ≡ unitOf (find (isUnassigned (now (a .entry))) (now (clause .entry))) ⌝ }
-{
-    match standing::first_unassigned(clause, a) {
-        Literal::At(x) => Unit::Literal(x),
-        Literal::Nothing => Unit::Nothing,
     }
 }

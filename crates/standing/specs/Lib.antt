@@ -1,2 +1,4 @@
+pub mod Clause
 pub mod Laws
+pub mod Reading
 pub mod Standing

@@ -1,7 +1,7 @@
 // How a clause stands in an assignment.
 ghost use mathlib.Core.Path.{_≡_};
-ghost use Rattle.walk.specs.State.{find, isUnassigned};
-ghost use Rattle.standing.specs.Standing.{standingOf, literalOf};
+ghost use Rattle.walk.specs.State.{isUnassigned};
+ghost use Rattle.standing.specs.Standing.{IsRead};
 
 // A clause has a literal that holds, or it is open and has so many unassigned literals.
 pub enum Standing {
@@ -9,10 +9,12 @@ pub enum Standing {
     Open(usize),
 }
 
-// A literal of a clause, or none.
-pub enum Literal {
-    At(i32),
-    Nothing,
+// A clause of a list: where it ends, how it stands, and the index of its last unassigned literal as far
+// as it was looked at, which in a unit clause is its one unassigned literal.
+pub struct Reading {
+    pub end: usize,
+    pub standing: Standing,
+    pub last: usize,
 }
 
 // Whether the variable of a literal is unassigned.
@@ -22,34 +24,39 @@ pub fn is_unassigned(x: i32, assignment: &[u8]) -> bool
     literal::value_of(literal::variable_of(x), assignment) == 2
 }
 
-// How a clause stands.
-pub fn standing_of(clause: &[i32], assignment: &[u8]) -> Standing
-    ensures { λ r. ⌜ r ≡ standingOf (now (assignment .entry)) (now (clause .entry)) ⌝ }
+// Reads the clause that begins at an index, each literal once. After one that holds it looks only for
+// the clause's end.
+pub fn read_clause(list: &[i32], from: usize, assignment: &[u8]) -> Reading
+    ensures { λ r. ⌜ IsRead (now (assignment .entry)) (now (list .entry)) from (r .end) (r .standing) (r .last) ⌝ }
 {
     let mut count: usize = 0;
-    let mut i = 0;
-    while i < clause.len() {
-        if literal::holds_in(clause[i], assignment) {
-            return Standing::Satisfied;
+    let mut last: usize = 0;
+    let mut i = from;
+    while i < list.len() {
+        if literal::variable_of(list[i]).0 == 0 {
+            return Reading {
+                end: i,
+                standing: Standing::Open(count),
+                last: last,
+            };
         }
-        if is_unassigned(clause[i], assignment) {
+        if literal::holds_in(list[i], assignment) {
+            let end = formula::clause_end(list, i + 1);
+            return Reading {
+                end: end,
+                standing: Standing::Satisfied,
+                last: last,
+            };
+        }
+        if is_unassigned(list[i], assignment) {
             count += 1;
+            last = i;
         }
         i += 1;
     }
-    Standing::Open(count)
-}
-
-// The first unassigned literal of a clause.
-pub fn first_unassigned(clause: &[i32], assignment: &[u8]) -> Literal
-    ensures { λ r. ⌜ r ≡ literalOf (find (isUnassigned (now (assignment .entry))) (now (clause .entry))) ⌝ }
-{
-    let mut i = 0;
-    while i < clause.len() {
-        if is_unassigned(clause[i], assignment) {
-            return Literal::At(clause[i]);
-        }
-        i += 1;
+    Reading {
+        end: i,
+        standing: Standing::Open(count),
+        last: last,
     }
-    Literal::Nothing
 }

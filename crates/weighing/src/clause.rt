@@ -14,7 +14,7 @@ ghost use Rattle.weighing.specs.Weights.{Weighable, Weighed};
 const POWERS: [u64; 10] = [1048576, 262144, 65536, 16384, 4096, 1024, 256, 64, 16, 4];
 
 // The weight of an open clause with so many unassigned literals.
-pub fn weight_of(count: usize) -> u64
+pub fn clause_weight(count: usize) -> u64
     ensures { λ r. ⌜ r ≡ 4 ^ (10 - min count 10) ⌝ }
 {
     if count < 10 { POWERS[count] } else { 1 }
@@ -43,19 +43,21 @@ pub fn is_source(
 // Adds a clause's weight where it is open, and marks its variables where it gives candidates.
 pub fn weigh_clause(
     clause: &[i32],
+    standing: Standing,
     row: &[u8],
     assignment: &[u8],
     fewest: Fewest,
     weights: &mut [u64],
     marks: &mut [u64],
 )
+    requires { ⌜ standing ≡ standingOf (now assignment) (now clause) ⌝ }
     requires { ⌜ Weighable (now clause) (now weights) (now marks) ⌝ }
     ensures { λ _. ⌜ Weighed (now (row .entry)) (now (assignment .entry)) (sizeOf fewest) (now (clause .entry)) (now (weights .entry)) (now (marks .entry)) (now (weights .exit)) (now (marks .exit)) ⌝ }
 {
-    let Standing::Open(count) = standing::standing_of(clause, assignment) else {
+    let Standing::Open(count) = standing else {
         return;
     };
-    add_weight(clause, weight_of(count), &mut *weights);
+    add_weight(clause, clause_weight(count), &mut *weights);
     if is_source(clause, count, row, assignment, fewest) {
         mark_variables(clause, &mut *marks);
     }

@@ -23,9 +23,12 @@ pub fn weigh_list(
     clear(&mut *marks);
     let mut from = 0;
     while from < list.len() {
-        let end = formula::clause_end(list, from);
+        let reading = standing::read_clause(list, from, assignment);
+        let end = reading.end;
+        let standing = reading.standing;
         weigh_clause(
             &list[from..end],
+            standing,
             row,
             assignment,
             fewest,

@@ -1,12 +1,14 @@
 -- `completion::completes` meets its contract. The loop's invariant: the completion satisfies the clauses passed.
 use mathlib.Core.Path.{_≡_, sym, ap, _∙_}
 use mathlib.Core.Bool.{Bool, true, false, _&&_}
-use Prim.Native.Nat.{_+_, _-_}
+use mathlib.Core.List.{List}
+use Prim.Native.Nat.{ℕ, _+_, _-_}
 use native.Mathlib.Omega.{arith}
 use lib.ListN.{length, drop}
 use borrow.Author.Tests.{not-true, not-false}
 use Rattle.formula.specs.Formula.{clauses, models}
-use Rattle.formula.specs.Laws.{end-inside, models-step, models-past}
+use Rattle.formula.specs.Laws.{end-inside, models-past}
+use Rattle.standing.specs.Clause.{tested-models}
 use Rattle.walk.specs.Walk.{complete}
 use borrow.Author.Needs.{needs}
 use Rattle.completion.proofs.model.completes.Statement.{statement}
@@ -18,52 +20,55 @@ Inv-loop list row assignment from₀ from = models (complete row assignment) (cl
 abbrev μ-loop : tie.MeasureT-loop
 μ-loop list row assignment from₀ from = length list - from
 
+-- Points of the program: the entry, and the loop's head before a clause is read.
+abbrev entry : tie.At-loop Inv-loop μ-loop → tie.Start Inv-loop μ-loop
+entry c = c .before .before .before
+
+abbrev head : tie.After-read-completed Inv-loop μ-loop → tie.At-loop Inv-loop μ-loop
+head c = c .before .before
+
+-- the completion
+abbrev filled : tie.At-loop Inv-loop μ-loop → List ℕ
+filled c = complete (entry c .args .row .now) (entry c .args .assignment .now)
+
 loop-holds : tie.Need-loop-holds Inv-loop μ-loop
 loop-holds c = search needs
 
-clause-end-requires : tie.Need-clause-end-requires Inv-loop μ-loop
-clause-end-requires c κs = search needs
+read-completed-requires : tie.Need-read-completed-requires Inv-loop μ-loop
+read-completed-requires c κs = search needs
 
-mul-satisfied-completed : tie.Need-mul-satisfied-completed Inv-loop μ-loop
-mul-satisfied-completed c = search needs
-
-sub-satisfied-completed : tie.Need-sub-satisfied-completed Inv-loop μ-loop
-sub-satisfied-completed c = search needs
-
-part-satisfied-completed-start : tie.Need-part-satisfied-completed-start Inv-loop μ-loop
-part-satisfied-completed-start c = search needs
-
-part-satisfied-completed-end : tie.Need-part-satisfied-completed-end Inv-loop μ-loop
-part-satisfied-completed-end c = end-inside (c .before .before .before .before .before .args .list .now) (c .before .before .loop .from) (c .clause-end .result) (omega arith) (c .clause-end .ensures)
-
-satisfied-completed-requires : tie.Need-satisfied-completed-requires Inv-loop μ-loop
-satisfied-completed-requires c κs = search needs
-
--- after the call for the clause: what is left of the formula is that clause and the rest
-step : (c : tie.After-satisfied-completed Inv-loop μ-loop) (b : Bool) → c .satisfied-completed .result ≡ b
-    → models (complete (c .before .before .before .before .before .before .before .args .row .now) (c .before .before .before .before .before .before .before .args .assignment .now)) (clauses (c .before .before .before .before .before .before .before .args .list .now))
-    ≡ b && models (complete (c .before .before .before .before .before .before .before .args .row .now) (c .before .before .before .before .before .before .before .args .assignment .now)) (clauses (drop (c .before .before .clause-end .result + 1) (c .before .before .before .before .before .before .before .args .list .now)))
+-- a clause that was read: what is left of the formula is that clause, which b tells, and the rest
+step : (c : tie.After-read-completed Inv-loop μ-loop) (b : Bool) → c .read-completed .result .satisfied ≡ b
+    → models (filled (head c)) (clauses (entry (head c) .args .list .now)) ≡ b && models (filled (head c)) (clauses (drop (c .read-completed .result .end + 1) (entry (head c) .args .list .now)))
 step c b q =
-    let l = c .before .before .before .before .before .before .before .args .list .now in
-    let filled = complete (c .before .before .before .before .before .before .before .args .row .now) (c .before .before .before .before .before .before .before .args .assignment .now) in
-    c .before .before .before .before .loop .inv
-    ∙ models-step filled l (c .before .before .before .before .loop .from) (c .before .before .clause-end .result) (c .satisfied-completed .result) (c .before .before .before .loop-test .taken) (c .before .before .clause-end .ensures) (c .satisfied-completed .ensures)
-    ∙ ap (λ (t : Bool). t && models filled (clauses (drop (c .before .before .clause-end .result + 1) l))) q
+    let top = head c in
+    let l = entry top .args .list .now in
+    let read = c .read-completed in
+    top .loop .inv
+    ∙ tested-models (filled top) l (top .loop .from) (read .result .end) (read .result .satisfied) (read .ensures) (c .before .loop-test .taken)
+    ∙ ap (λ (t : Bool). t && models (filled top) (clauses (drop (read .result .end + 1) l))) q
 
 returns : tie.Need-returns Inv-loop μ-loop
-returns c = sym (step (c .before) false (not-true _ (c .if1 .taken)))
+returns c = sym (step (c .before .before) false (not-true _ (c .if1 .taken)))
 
 add-from : tie.Need-add-from Inv-loop μ-loop
-add-from c = omega (arith, end-inside (c .before .before .before .before .before .before .before .before .args .list .now) (c .before .before .before .before .before .loop .from) (c .before .before .before .clause-end .result) (omega arith) (c .before .before .before .clause-end .ensures))
+add-from c =
+    let read = c .before .before .before in
+    let top = head read in
+    omega (arith, end-inside (entry top .args .list .now) (top .loop .from) (read .read-completed .result .end) (omega arith) (read .read-completed .ensures .ends))
 
 loop-less : tie.Need-loop-less Inv-loop μ-loop
-loop-less c = search needs
+loop-less c =
+    let read = c .before .before .before in
+    omega (arith, read .read-completed .ensures .ends, read .before .loop-test .taken)
 
 loop-again : tie.Need-loop-again Inv-loop μ-loop
-loop-again c = step (c .before) true (not-false _ (c .if1 .left))
+loop-again c = step (c .before .before .before) true (not-false _ (c .before .if1 .left))
 
 returns-2 : tie.Need-returns-2 Inv-loop μ-loop
-returns-2 c = sym (c .before .loop .inv ∙ models-past (complete (c .before .before .before .before .args .row .now) (c .before .before .before .before .args .assignment .now)) (c .before .before .before .before .args .list .now) (c .before .loop .from) (c .loop-test .left))
+returns-2 c =
+    let top = c .before in
+    sym (top .loop .inv ∙ models-past (filled top) (entry top .args .list .now) (top .loop .from) (c .loop-test .left))
 
 pub completes-spec : {M : Type 1} → statement M
 completes-spec =
@@ -72,12 +77,7 @@ completes-spec =
     Inv-loop
     μ-loop
     loop-holds
-    clause-end-requires
-    mul-satisfied-completed
-    sub-satisfied-completed
-    part-satisfied-completed-start
-    part-satisfied-completed-end
-    satisfied-completed-requires
+    read-completed-requires
     returns
     add-from
     loop-less

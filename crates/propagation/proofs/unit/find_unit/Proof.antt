@@ -1,17 +1,18 @@
 -- `propagation::unit::find_unit` meets its contract. The loop's invariant: the clauses passed are neither falsified nor unit.
 use mathlib.Core.Path.{_≡_, sym, ap, _∙_}
-use mathlib.Core.List.{List, _∷_}
-use Prim.Native.Nat.{_+_, _-_}
+use mathlib.Core.List.{List, [], _∷_}
+use Prim.Native.Nat.{ℕ, _+_, _-_}
 use native.Mathlib.Omega.{arith}
-use lib.IntN.{ℤ}
-use lib.ListN.{length, take, drop, drop-of-length-le}
+use lib.IntN.{ℤ, pos}
+use lib.ListN.{length, getD, drop, drop-of-length-le}
 use borrow.Author.Needs.{needs}
 use Rattle.literal.specs.Laws.{as-read}
 use Rattle.formula.specs.Formula.{clauses}
-use Rattle.formula.specs.Laws.{clauses-step, end-inside}
+use Rattle.formula.specs.Laws.{end-inside}
+use Rattle.standing.specs.Clause.{clauseAt, clauses-at}
 use Rattle.propagation.specs.declared.unit.Unit.{Unit}
 use Rattle.propagation.specs.declared.unit.Unit.the-variants.{Conflict, Literal, Nothing}
-use Rattle.propagation.specs.Unit.{scan, scan-pass, scan-stop, conflict-some, literal-some}
+use Rattle.propagation.specs.Unit.{scan, scan-by, scan-pass, scan-stop, conflict-some, literal-some}
 use Rattle.propagation.proofs.unit.find_unit.Statement.{statement}
 use Rattle.propagation.proofs.unit.find_unit.Tie as tie
 
@@ -24,45 +25,50 @@ abbrev μ-loop : tie.MeasureT-loop
 loop-holds : tie.Need-loop-holds Inv-loop μ-loop
 loop-holds c = search needs
 
-clause-end-requires : tie.Need-clause-end-requires Inv-loop μ-loop
-clause-end-requires c κs = search needs
+read-clause-requires : tie.Need-read-clause-requires Inv-loop μ-loop
+read-clause-requires c κs = search needs
 
 add-next : tie.Need-add-next Inv-loop μ-loop
-add-next c = omega (arith, end-inside (c .before .before .before .before .args .list .now) (c .before .before .loop .from) (c .clause-end .result) (omega arith) (c .clause-end .ensures))
+add-next c =
+    let here = c .before .before .before in
+    omega (arith, end-inside (here .before .before .args .list .now) (here .loop .from) (c .before .read-clause .result .end) (omega arith) (c .before .read-clause .ensures .ends))
 
-mul-unit-in : tie.Need-mul-unit-in Inv-loop μ-loop
-mul-unit-in c = search needs
-
-sub-unit-in : tie.Need-sub-unit-in Inv-loop μ-loop
-sub-unit-in c = search needs
-
-part-unit-in-start : tie.Need-part-unit-in-start Inv-loop μ-loop
-part-unit-in-start c = search needs
-
-part-unit-in-end : tie.Need-part-unit-in-end Inv-loop μ-loop
-part-unit-in-end c = end-inside (c .before .before .before .before .args .list .now) (c .before .before .loop .from) (c .clause-end .result) (omega arith) (c .clause-end .ensures)
-
-unit-in-requires : tie.Need-unit-in-requires Inv-loop μ-loop
-unit-in-requires c κs = search needs
+unit-by-requires : tie.Need-unit-by-requires Inv-loop μ-loop
+unit-by-requires c κs = λ e. c .before .read-clause .ensures .unit e .0
 
 enum-told : tie.Need-enum-told Inv-loop μ-loop
 enum-told c = search needs
 
--- after the call for the clause: what is left of the formula is that clause and the rest
-abbrev here : tie.After-unit-in Inv-loop μ-loop → List ℤ
-here c = take (c .before .before .clause-end .result - c .before .before .before .before .loop .from) (drop (c .before .before .before .before .loop .from) (c .before .before .before .before .before .before .args .list .now))
+-- after the call for the clause: its assignment and list, the clause, and the rest of the formula
+abbrev assigned : tie.After-unit-by Inv-loop μ-loop → List ℕ
+assigned c = c .before .before .before .before .before .before .args .a .now
 
-abbrev rest : tie.After-unit-in Inv-loop μ-loop → List (List ℤ)
-rest c = clauses (drop (c .before .before .clause-end .result + 1) (c .before .before .before .before .before .before .args .list .now))
+abbrev listed : tie.After-unit-by Inv-loop μ-loop → List ℤ
+listed c = c .before .before .before .before .before .before .args .list .now
 
-left : (c : tie.After-unit-in Inv-loop μ-loop) → scan (c .before .before .before .before .before .before .args .a .now) (clauses (c .before .before .before .before .before .before .args .list .now)) ≡ scan (c .before .before .before .before .before .before .args .a .now) (here c ∷ rest c)
+abbrev here : tie.After-unit-by Inv-loop μ-loop → List ℤ
+here c = clauseAt (c .before .before .before .before .loop .from) (listed c)
+
+abbrev rest : tie.After-unit-by Inv-loop μ-loop → List (List ℤ)
+rest c = clauses (drop (c .before .before .read-clause .result .end + 1) (listed c))
+
+-- what is left of the formula is that clause and the rest
+left : (c : tie.After-unit-by Inv-loop μ-loop) → scan (assigned c) (clauses (listed c)) ≡ scan (assigned c) (here c ∷ rest c)
 left c =
-    c .before .before .before .before .loop .inv
-    ∙ ap (scan (c .before .before .before .before .before .before .args .a .now)) (clauses-step (c .before .before .before .before .before .before .args .list .now) (c .before .before .before .before .loop .from) (c .before .before .clause-end .result) (c .before .before .before .loop-test .taken) (c .before .before .clause-end .ensures))
+    let read = c .before .before in
+    read .before .before .loop .inv
+    ∙ ap (scan (assigned c)) (clauses-at (listed c) (read .before .before .loop .from) (read .read-clause .result .end) (read .read-clause .ensures .ends) (read .before .loop-test .taken))
+
+-- the callee's answer is about it
+told : (c : tie.After-unit-by Inv-loop μ-loop) → c .unit-by .result ≡ scan (assigned c) (here c ∷ [])
+told c =
+    let read = c .before .before .read-clause in
+    c .unit-by .ensures
+    ∙ scan-by (assigned c) (here c) (read .result .standing) (getD (listed c) (read .result .last) (pos 0)) (read .ensures .stands) (λ e. read .ensures .unit e .1)
 
 -- it is what decides, if it is not Nothing
-stops : (c : tie.After-unit-in Inv-loop μ-loop) (u : Unit) → c .unit-in .result ≡ u → (u ≡ Nothing → ⊥) → u ≡ scan (c .before .before .before .before .before .before .args .a .now) (clauses (c .before .before .before .before .before .before .args .list .now))
-stops c u e n = sym (left c ∙ scan-stop (c .before .before .before .before .before .before .args .a .now) (here c) (rest c) u (sym (c .unit-in .ensures) ∙ e) n)
+stops : (c : tie.After-unit-by Inv-loop μ-loop) (u : Unit) → c .unit-by .result ≡ u → (u ≡ Nothing → ⊥) → u ≡ scan (assigned c) (clauses (listed c))
+stops c u e n = sym (left c ∙ scan-stop (assigned c) (here c) (rest c) u (sym (told c) ∙ e) n)
 
 returns : tie.Need-returns Inv-loop μ-loop
 returns c = stops (c .before .before) Conflict (c .enum-told .given .1) conflict-some
@@ -79,15 +85,19 @@ enum-told-2 : tie.Need-enum-told-2 Inv-loop μ-loop
 enum-told-2 c = search needs
 
 loop-less : tie.Need-loop-less Inv-loop μ-loop
-loop-less c = search needs
+loop-less c =
+    let read = c .before .before .before .before in
+    omega (arith, read .read-clause .ensures .ends, read .before .loop-test .taken)
 
 loop-again : tie.Need-loop-again Inv-loop μ-loop
-loop-again c = left (c .before .before) ∙ scan-pass (c .before .before .before .before .before .before .before .before .args .a .now) (here (c .before .before)) (rest (c .before .before)) (sym (c .before .before .unit-in .ensures) ∙ c .enum-told2 .given .1)
+loop-again c =
+    let asked = c .before .before in
+    left asked ∙ scan-pass (assigned asked) (here asked) (rest asked) (sym (told asked) ∙ c .enum-told2 .given .1)
 
 returns-3 : tie.Need-returns-3 Inv-loop μ-loop
 returns-3 c =
-    let l = c .before .before .before .args .list .now in
-    sym (c .before .loop .inv ∙ ap (λ (r : List ℤ). scan (c .before .before .before .args .a .now) (clauses r)) (drop-of-length-le l (c .loop-test .left)))
+    let args = c .before .before .before .args in
+    sym (c .before .loop .inv ∙ ap (λ (r : List ℤ). scan (args .a .now) (clauses r)) (drop-of-length-le (args .list .now) (c .loop-test .left)))
 
 pub find-unit-spec : {M : Type 1} → statement M
 find-unit-spec =
@@ -96,13 +106,9 @@ find-unit-spec =
     Inv-loop
     μ-loop
     loop-holds
-    clause-end-requires
+    read-clause-requires
     add-next
-    mul-unit-in
-    sub-unit-in
-    part-unit-in-start
-    part-unit-in-end
-    unit-in-requires
+    unit-by-requires
     enum-told
     returns
     enum-known-x

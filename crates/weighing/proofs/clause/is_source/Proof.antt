@@ -1,6 +1,8 @@
 -- `weighing::is_source` meets its contract.
-use mathlib.Core.Path.{sym, ap, _∙_}
+use mathlib.Core.Path.{_≡_, sym, ap, _∙_}
+use native.Mathlib.Omega.{arith}
 use Rattle.walk.specs.Branching.{isSource}
+use Rattle.walk.specs.State.{unassignedIn}
 use Rattle.standing.specs.Laws.{open-stands}
 use Rattle.opposed.specs.Opposed.{sizeOf}
 use Rattle.opposed.specs.declared.fewest.Fewest.{Fewest}
@@ -15,17 +17,43 @@ enum-known-fewest c = search needs
 enum-told : tie.Need-enum-told
 enum-told c = search needs
 
+-- no clause is opposed: every open one is a source
 returns : tie.Need-returns
-returns c = sym (ap (λ (f : Fewest). isSource (c .before .before .before .before .args .row .now) (c .before .before .before .before .args .assignment .now) (sizeOf f) (c .before .before .before .before .args .clause .now)) (c .enum-told .given .1) ∙ open-source (c .before .before .before .before .args .row .now) (c .before .before .before .before .args .assignment .now) (c .before .before .before .before .args .clause .now) (open-stands (c .before .before .before .before .args .assignment .now) (c .before .before .before .before .args .clause .now) (c .before .before .before .before .args .count) (c .before .before .before .before .pre) .0))
+returns c =
+    let start = c .before .before .before .before in
+    let args = start .args in
+    let row = args .row .now in
+    let a = args .assignment .now in
+    let clause = args .clause .now in
+    sym (ap (λ (f : Fewest). isSource row a (sizeOf f) clause) (c .enum-told .given .1) ∙ open-source row a clause (open-stands a clause (args .count) (start .pre) .0))
 
+-- a clause with another count is none
 returns-2 : tie.Need-returns-2
-returns-2 c = sym (ap (λ (f : Fewest). isSource (c .before .before .before .before .before .before .args .row .now) (c .before .before .before .before .before .before .args .assignment .now) (sizeOf f) (c .before .before .before .before .before .before .args .clause .now)) (c .before .before .fewest .given .1) ∙ other-source (c .before .before .before .before .before .before .args .row .now) (c .before .before .before .before .before .before .args .assignment .now) (c .before .before .before .before .before .before .args .clause .now) (c .before .before .fewest .given .0 .0) (λ e. c .if1 .taken (sym (open-stands (c .before .before .before .before .before .before .args .assignment .now) (c .before .before .before .before .before .before .args .clause .now) (c .before .before .before .before .before .before .args .count) (c .before .before .before .before .before .before .pre) .1) ∙ e)))
+returns-2 c =
+    let known = c .before .before in
+    let start = known .before .before .before .before in
+    let args = start .args in
+    let row = args .row .now in
+    let a = args .assignment .now in
+    let clause = args .clause .now in
+    let count = open-stands a clause (args .count) (start .pre) .1 in
+    sym (ap (λ (f : Fewest). isSource row a (sizeOf f) clause) (known .fewest .given .1) ∙ other-source row a clause (known .fewest .given .0 .0) (λ e. omega (arith, c .if1 .taken)))
 
 is-opposed-requires : tie.Need-is-opposed-requires
 is-opposed-requires c κs = search needs
 
+-- one with this count is a source if it is opposed
 returns-3 : tie.Need-returns-3
-returns-3 c = c .is-opposed .ensures ∙ sym (ap (λ (f : Fewest). isSource (c .before .before .before .before .before .before .before .args .row .now) (c .before .before .before .before .before .before .before .args .assignment .now) (sizeOf f) (c .before .before .before .before .before .before .before .args .clause .now)) (c .before .before .before .fewest .given .1) ∙ size-source (c .before .before .before .before .before .before .before .args .row .now) (c .before .before .before .before .before .before .before .args .assignment .now) (c .before .before .before .before .before .before .before .args .clause .now) (c .before .before .before .fewest .given .0 .0) (open-stands (c .before .before .before .before .before .before .before .args .assignment .now) (c .before .before .before .before .before .before .before .args .clause .now) (c .before .before .before .before .before .before .before .args .count) (c .before .before .before .before .before .before .before .pre) .1 ∙ c .before .if1 .left))
+returns-3 c =
+    let known = c .before .before .before in
+    let start = known .before .before .before .before in
+    let args = start .args in
+    let row = args .row .now in
+    let a = args .assignment .now in
+    let clause = args .clause .now in
+    let size = known .fewest .given .0 .0 in
+    let same : unassignedIn a clause ≡ size = omega (arith, open-stands a clause (args .count) (start .pre) .1, c .before .if1 .left) in
+    c .is-opposed .ensures ∙ sym (ap (λ (f : Fewest). isSource row a (sizeOf f) clause) (known .fewest .given .1) ∙ size-source row a clause size same)
 
 pub is-source-spec : {M : Type 1} → statement M
 is-source-spec =

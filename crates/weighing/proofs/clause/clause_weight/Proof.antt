@@ -1,9 +1,9 @@
--- `weighing::weight_of` meets its contract, by the table of the powers.
+-- `weighing::clause_weight` meets its contract, by the table of the powers.
 use mathlib.Core.Path.{sym}
 use Rattle.weighing.specs.ClauseLaws.{power-at, power-past}
 use borrow.Author.Needs.{needs}
-use Rattle.weighing.proofs.clause.weight_of.Statement.{statement}
-use Rattle.weighing.proofs.clause.weight_of.Tie as tie
+use Rattle.weighing.proofs.clause.clause_weight.Statement.{statement}
+use Rattle.weighing.proofs.clause.clause_weight.Tie as tie
 
 mul-result : tie.Need-mul-result
 mul-result c = search needs
@@ -17,5 +17,5 @@ returns c = power-at (c .before .args .count) (c .if1 .taken)
 returns-2 : tie.Need-returns-2
 returns-2 c = sym (power-past (c .before .args .count) (c .if1 .left))
 
-pub weight-of-spec : {M : Type 1} → statement M
-weight-of-spec = tie.close (tie.spec mul-result array-read-result returns returns-2)
+pub clause-weight-spec : {M : Type 1} → statement M
+clause-weight-spec = tie.close (tie.spec mul-result array-read-result returns returns-2)
