@@ -5,7 +5,6 @@ use Prim.Native.Nat.{ℕ}
 use lib.IntN.{ℤ}
 use lib.ListN.{length, take}
 use Rattle.refusal.specs.Reply.{Reply, refusing, answering}
-use Rattle.dimacs.specs.Format.{reading}
 use Rattle.searches.specs.Searches.{searchReply, plainReply, nearestReply}
 use Rattle.rewriting.specs.Rewrite.{rewriteReply, rewriteOutput}
 use Rattle.rule_writer.specs.Write.{writeReply, writeOutput}
@@ -37,8 +36,8 @@ fromSearch b n list = plainReply n list (length (b .choice))
 abbrev pub fromReader : Buffers → List ℕ → Reply
 fromReader b file =
     onAnswer
-    (readReply (reading file) (b .list))
-    (λ (v n c size : ℕ). fromSearch b n (take size (readOutput (reading file) (b .list))))
+    (readReply file (length (b .list)))
+    (λ (v n c size : ℕ). fromSearch b n (take size (readOutput file (b .list))))
 
 -- "then the rewritten list and its number of settings to the writer"
 abbrev pub fromWriter : Buffers → ℕ → List ℤ → Reply

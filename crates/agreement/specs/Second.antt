@@ -28,7 +28,7 @@ use Rattle.searches.specs.Searches.{found, brokenBy}
 use Rattle.rewriting.specs.Rewrite.{lentToRewrite, rewriteOutput}
 use Rattle.rule_writer.specs.Laws.{by-room}
 use Rattle.rule_writer.specs.Write.{lentToWrite, writeOutput}
-use Rattle.rule_reader.specs.Read.{readReply, readOutput}
+use Rattle.rule_reader.specs.Read.{replying, leaving}
 use Rattle.agreement.specs.Causes.{short-fine, fine-passes, answered-past, plain-room}
 use Rattle.agreement.specs.Routes.{onAnswer, Buffers, fromSearch, fromReader, fromWriter, secondRoute, Answered, Passes}
 
@@ -80,7 +80,7 @@ module _ (n : ℕ) (rules : List ℤ) (row : List ℕ) (d : ℕ) (a : Admitted n
     reader-says : fromReader b W ≡ unless (tooShort (length R) (length (b .list))) (fromSearch b N R)
     reader-says =
         ap
-        (λ (g : Reading). onAnswer (readReply g (b .list)) (λ (v n c size : ℕ). fromSearch b n (take size (readOutput g (b .list)))))
+        (λ (g : Reading). onAnswer (replying g (length (b .list))) (λ (v n c size : ℕ). fromSearch b n (take size (leaving g (b .list)))))
         (read-written N R positive most sound)
         ∙ on-unless (tooShort (length R) (length (b .list))) 1 N (length (clauses R)) (length R)
         (λ (v n c size : ℕ). fromSearch b n (take size (filled (tooShort (length R) (length (b .list))) R (b .list))))

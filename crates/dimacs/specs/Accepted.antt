@@ -21,8 +21,9 @@ use Rattle.rule_list.specs.Sound.{Scan, unread, mayJoin, stands, after, unclose
 use Rattle.decimal.specs.Decimal.{decimal, number}
 use Rattle.decimal.specs.Laws.{decimal-digits, decimal-some, decimal-read}
 use Rattle.dimacs.specs.Class.{classOf}
-use Rattle.dimacs.specs.Format.{pastComments, Header, header, numbered, outside, Word, tokensFrom, positive, negative, signed, element, badToken, badTokens, refuses, gives, reading, readTokens, readFrom}
-use Rattle.dimacs.specs.RoundTrip.{unsigned, tokensOf, words-written, header-fields, heading-joined, heading-length}
+use Rattle.dimacs.specs.Format.{pastComments, Header, header, numbered, outside, positive, negative, signed, element, badToken, badTokens, refuses, gives, reading, readTokens, readFrom}
+use Rattle.dimacs.specs.Tokens.{Token, tokensFrom}
+use Rattle.dimacs.specs.RoundTrip.{unsigned, tokensOf, tokens-written, header-fields, heading-joined, heading-length}
 use Rattle.dimacs.specs.Written.{numeral, body, heading, written}
 
 -- a token that is not refused is a number that may come next, in a file with clauses to come
@@ -77,22 +78,22 @@ good-next n c s at x h e = go (closes x) refl
         )
 
 -- good tokens give a sound list, of as many clauses as were announced
-sound-words : (ws : List Word) (n c size : ℕ) (s : Scan) (i : ℕ) → c ≤ maxClauses → s .clauses ≤ c → badTokens n c size s ws ≡ none
-    → (badRule n s i (map element ws) ≡ none) × (c ≡ s .clauses + zeros (map element ws))
-sound-words [] n c size s i h k e =
+sound-tokens : (ts : List Token) (n c size : ℕ) (s : Scan) (i : ℕ) → c ≤ maxClauses → s .clauses ≤ c → badTokens n c size s ts ≡ none
+    → (badRule n s i (map element ts) ≡ none) × (c ≡ s .clauses + zeros (map element ts))
+sound-tokens [] n c size s i h k e =
     let parts = neither (ltb (s .clauses) c) (unclosed (s .clause)) (cause-none (ltb (s .clauses) c || unclosed (s .clause)) 6 size e) in
     (rw (parts .1), omega (arith, ltb-false (s .clauses) c (parts .0)))
-sound-words (w ∷ ws) n c size s i h k e =
-    token (signed (w .bytes)) refl (parts .0) (λ m. sound-words ws n c size (after s (element w)) (suc i) h m (sym (first-last later) ∙ parts .1))
+sound-tokens (t ∷ ts) n c size s i h k e =
+    token (signed (t .bytes)) refl (parts .0) (λ m. sound-tokens ts n c size (after s (element t)) (suc i) h m (sym (first-last later) ∙ parts .1))
   where
     later : Option Refusal
-    later = badTokens n c size (after s (element w)) ws
+    later = badTokens n c size (after s (element t)) ts
 
-    parts : (badToken n c s (w .place) (signed (w .bytes)) ≡ none) × (first (later ∷ []) ≡ none)
-    parts = no-first (badToken n c s (w .place) (signed (w .bytes))) (later ∷ []) e
+    parts : (badToken n c s (t .place) (signed (t .bytes)) ≡ none) × (first (later ∷ []) ≡ none)
+    parts = no-first (badToken n c s (t .place) (signed (t .bytes))) (later ∷ []) e
 
     l : List ℤ
-    l = map element ws
+    l = map element ts
 
     counted : (x : ℤ) → s .clauses < c → (after s x .clauses ≤ c) × (c ≡ after s x .clauses + zeros l → c ≡ s .clauses + zeros (x ∷ l))
     counted x m = go (closes x) refl
@@ -101,12 +102,12 @@ sound-words (w ∷ ws) n c size s i h k e =
         go true f = rw (f) (omega arith, λ t. omega arith)
         go false f = rw (f) (omega arith, λ t. omega arith)
 
-    token : (o : Option ℤ) → signed (w .bytes) ≡ o → badToken n c s (w .place) o ≡ none
+    token : (o : Option ℤ) → signed (t .bytes) ≡ o → badToken n c s (t .place) o ≡ none
         → (after s (Option·getD o (pos 0)) .clauses ≤ c → (badRule n (after s (Option·getD o (pos 0))) (suc i) l ≡ none) × (c ≡ after s (Option·getD o (pos 0)) .clauses + zeros l))
         → (badRule n s i (Option·getD o (pos 0) ∷ l) ≡ none) × (c ≡ s .clauses + zeros (Option·getD o (pos 0) ∷ l))
-    token none f g rest = absurd (Option·some-ne-none (refusal 3 (w .place)) g)
+    token none f g rest = absurd (Option·some-ne-none (refusal 3 (t .place)) g)
     token (some x) f g rest =
-        let next : (s .clauses < c) × (stands n s x ≡ true) = good-next n c s (w .place) x h g in
+        let next : (s .clauses < c) × (stands n s x ≡ true) = good-next n c s (t .place) x h g in
         let count = counted x (next .0) in
         let more = rest (count .0) in
         (rw (next .1) (more .0), count .1 (more .1))
@@ -129,8 +130,8 @@ ranges n c e =
     above n z = omega arith
 
 -- the tokens past a header of so many bytes
-abbrev tokens : List ℕ → ℕ → List Word
-tokens file size =
+abbrev pastHeader : List ℕ → ℕ → List Token
+pastHeader file size =
     let next : ℕ = pastComments false 0 file + size in
     tokensFrom file next
 
@@ -139,8 +140,8 @@ record Parts (file : List ℕ) (n c : ℕ) (l : List ℤ) : Type 0 where
   size : ℕ
   head : header (drop (pastComments false 0 file) file) ≡ some (record { variables = n; clauses = c; size = size })
   range : outside n c ≡ false
-  good : badTokens n c (length file) unread (tokens file size) ≡ none
-  gave : l ≡ map element (tokens file size)
+  good : badTokens n c (length file) unread (pastHeader file size) ≡ none
+  gave : l ≡ map element (pastHeader file size)
 
 accepted-parts : (file : List ℕ) (n c : ℕ) (l : List ℤ) → reading file ≡ gives n c l → Parts file n c l
 accepted-parts file n c l e = found (header (drop at file)) refl e
@@ -155,32 +156,32 @@ accepted-parts file n c l e = found (header (drop at file)) refl e
     found none f g = absurd (omega (arith, never (refusal 1 at) g))
     found (some h) f g = ranged (outside (h .variables) (h .clauses)) refl g
       where
-        ws : List Word
-        ws = tokens file (h .size)
+        ts : List Token
+        ts = pastHeader file (h .size)
 
-        passed : (p : Option Refusal) → badTokens (h .variables) (h .clauses) (length file) unread ws ≡ p → outside (h .variables) (h .clauses) ≡ false
-            → readTokens (h .variables) (h .clauses) ws p ≡ gives n c l → Parts file n c l
+        passed : (p : Option Refusal) → badTokens (h .variables) (h .clauses) (length file) unread ts ≡ p → outside (h .variables) (h .clauses) ≡ false
+            → readTokens (h .variables) (h .clauses) ts p ≡ gives n c l → Parts file n c l
         passed (some r) k j i = absurd (omega (arith, never r i))
         passed none k j i =
             let same-n : n ≡ h .variables = cc in
             let same-c : c ≡ h .clauses = cc in
-            let same-l : l ≡ map element ws = cc in
+            let same-l : l ≡ map element ts = cc in
             rw (same-n, same-c, same-l) (record { size = h .size; head = f; range = j; good = k; gave = refl })
 
         ranged : (t : Bool) → outside (h .variables) (h .clauses) ≡ t
-            → cond t (refuses (refusal 2 at)) (readTokens (h .variables) (h .clauses) ws (badTokens (h .variables) (h .clauses) (length file) unread ws)) ≡ gives n c l
+            → cond t (refuses (refusal 2 at)) (readTokens (h .variables) (h .clauses) ts (badTokens (h .variables) (h .clauses) (length file) unread ts)) ≡ gives n c l
             → Parts file n c l
         ranged true j i = absurd (omega (arith, never (refusal 2 at) i))
-        ranged false j i = passed (badTokens (h .variables) (h .clauses) (length file) unread ws) refl j i
+        ranged false j i = passed (badTokens (h .variables) (h .clauses) (length file) unread ts) refl j i
 
 -- A file that reading accepts gives N and C in range and a sound list of C clauses.
 pub accepted : (file : List ℕ) (n c : ℕ) (l : List ℤ) → reading file ≡ gives n c l → Accepted n c l
 accepted file n c l e =
     let p : Parts file n c l = accepted-parts file n c l e in
     let r = ranges n c (p .range) in
-    let words-sound = sound-words (tokens file (p .size)) n c (length file) unread 0 (r .2) (omega arith) (p .good) in
-    let sound : badRule n unread 0 l ≡ none = ap (badRule n unread 0) (p .gave) ∙ words-sound .0 in
-    let closed : c ≡ 0 + zeros l = words-sound .1 ∙ ap (λ (m : List ℤ). 0 + zeros m) (sym (p .gave)) in
+    let tokens-sound = sound-tokens (pastHeader file (p .size)) n c (length file) unread 0 (r .2) (omega arith) (p .good) in
+    let sound : badRule n unread 0 l ≡ none = ap (badRule n unread 0) (p .gave) ∙ tokens-sound .0 in
+    let closed : c ≡ 0 + zeros l = tokens-sound .1 ∙ ap (λ (m : List ℤ). 0 + zeros m) (sym (p .gave)) in
     record { least = r .0; most = r .1; few = r .2; sound = sound; count = omega (arith, closed, zeros-clauses n unread 0 l sound .0) }
 
 -- a written number that reads as one reads as itself
@@ -240,7 +241,7 @@ written-back n l n′ c′ l′ e =
     sym (ap header (heading-joined n c (body l)) ∙ header-fields (decimal n) (decimal c) (body l) (decimal-digits n) (decimal-digits c)) ∙ p .head in
     let parts = numbered-parts (number (decimal n)) (number (decimal c)) size n′ c′ (p .size) head in
     let place : 0 + p .size ≡ length (heading n c) = zero-add (p .size) ∙ sym (parts .1) ∙ heading-length n c in
-    let same : tokensFrom (written n l) (0 + p .size) ≡ tokensOf (0 + p .size) l = words-written n l (0 + p .size) place in (
+    let same : tokensFrom (written n l) (0 + p .size) ≡ tokensOf (0 + p .size) l = tokens-written n l (0 + p .size) place in (
       decimal-read n n′ (parts .0),
       p .gave ∙ ap (map element) same
           ∙ tokens-back l n′ c′ (length (written n l)) unread (0 + p .size) (ap (badTokens n′ c′ (length (written n l)) unread) (sym same) ∙ p .good),

@@ -13,12 +13,8 @@ use Rattle.refusal.specs.Reply.{refusal, first, cause}
 use Rattle.limits.specs.Limits.{maxVariables, maxClauses, maxLiterals}
 use Rattle.rule_list.specs.Sound.{Scan, unread, mayJoin, after, unclosed}
 use Rattle.decimal.specs.Decimal.{number}
-use Rattle.dimacs.specs.Class.{blank, minus, letterC, classOf}
-
--- the bytes that pass a test, up to the first that does not
-abbrev pub leading : (ℕ → Bool) → List ℕ → List ℕ
-leading p [] = []
-leading p (b ∷ s) = cond (p b) (b ∷ leading p s) []
+use Rattle.dimacs.specs.Class.{minus, letterC, classOf}
+use Rattle.dimacs.specs.Tokens.{leading, Token, tokensFrom}
 
 -- The place of the first line that is no comment: "Lines beginning with `c` may precede the header and run to a line feed or the end of the file." The flag says whether the bytes begin inside such a line.
 abbrev pub pastComments : Bool → ℕ → List ℕ → ℕ
@@ -67,33 +63,6 @@ header s =
 abbrev pub outside : ℕ → ℕ → Bool
 outside n c = eqb n 0 || (ltb maxVariables n || ltb maxClauses c)
 
--- "tokens (runs of bytes that are not blank ..)": a token's bytes, and the place of the first
-pub record Word : Type 0 where
-  pub place : ℕ
-  pub bytes : List ℕ
-
--- a blank between tokens, and a byte of one
-abbrev pub isGap : ℕ → Bool
-isGap b = eqb (classOf b) blank
-
-abbrev pub inToken : ℕ → Bool
-inToken b = not (isGap b)
-
--- a token in front of others, where one starts
-abbrev pub starting : Bool → Word → List Word → List Word
-starting true w ws = w ∷ ws
-starting false w ws = ws
-
--- The tokens of some bytes that stand at a place, in order: one starts at each byte that is not blank and does not go on with another. The flag says whether the bytes begin inside a token.
-abbrev pub words : Bool → ℕ → List ℕ → List Word
-words inside at [] = []
-words inside at (b ∷ s) =
-    starting (not inside && inToken b) (record { place = at; bytes = b ∷ leading inToken s }) (words (inToken b) (suc at) s)
-
--- the tokens of a file from a kept offset on
-abbrev pub tokensFrom : List ℕ → ℕ → List Word
-tokensFrom file at = words false at (drop at file)
-
 -- a number as it stands, and behind a minus, where 0 is none
 abbrev pub positive : Option ℕ → Option ℤ
 positive none = none
@@ -110,8 +79,8 @@ signed [] = none
 signed (b ∷ w) = cond (eqb (classOf b) minus) (negative (number w)) (positive (number (b ∷ w)))
 
 -- the list's element that a token gives
-abbrev pub element : Word → ℤ
-element w = Option·getD (signed (w .bytes)) (pos 0)
+abbrev pub element : Token → ℤ
+element t = Option·getD (signed (t .bytes)) (pos 0)
 
 -- the cause to refuse a token at a place, after what s says was read: "at one token 3, 6, 7, 4, 5"
 abbrev pub badToken : ℕ → ℕ → Scan → ℕ → Option ℤ → Option Refusal
@@ -125,10 +94,10 @@ badToken n c s place (some x) =
     ∷ [])
 
 -- the first cause from a token on, in a file of n variables, c clauses and so many bytes
-abbrev pub badTokens : ℕ → ℕ → ℕ → Scan → List Word → Option Refusal
+abbrev pub badTokens : ℕ → ℕ → ℕ → Scan → List Token → Option Refusal
 badTokens n c size s [] = cause (ltb (s .clauses) c || unclosed (s .clause)) 6 size
-badTokens n c size s (w ∷ ws) =
-    first (badToken n c s (w .place) (signed (w .bytes)) ∷ badTokens n c size (after s (element w)) ws ∷ [])
+badTokens n c size s (t ∷ ts) =
+    first (badToken n c s (t .place) (signed (t .bytes)) ∷ badTokens n c size (after s (element t)) ts ∷ [])
 
 -- what reading a file gives: a refusal, or N, C and the rule list
 pub data Reading : Type 0 where
@@ -136,19 +105,19 @@ pub data Reading : Type 0 where
   gives : ℕ → ℕ → List ℤ → Reading
 
 -- the reading of good tokens is the list of their numbers
-abbrev pub readTokens : ℕ → ℕ → List Word → Option Refusal → Reading
-readTokens n c ws none = gives n c (map element ws)
-readTokens n c ws (some r) = refuses r
+abbrev pub readTokens : ℕ → ℕ → List Token → Option Refusal → Reading
+readTokens n c ts none = gives n c (map element ts)
+readTokens n c ts (some r) = refuses r
 
 -- the reading of a file whose first line that is no comment stands at a place
 abbrev pub readFrom : List ℕ → ℕ → Option Header → Reading
 readFrom file at none = refuses (refusal 1 at)
 readFrom file at (some h) =
     let next : ℕ = at + h .size in
-    let ws : List Word = tokensFrom file next in
+    let ts : List Token = tokensFrom file next in
     cond (outside (h .variables) (h .clauses))
     (refuses (refusal 2 at))
-    (readTokens (h .variables) (h .clauses) ws (badTokens (h .variables) (h .clauses) (length file) unread ws))
+    (readTokens (h .variables) (h .clauses) ts (badTokens (h .variables) (h .clauses) (length file) unread ts))
 
 -- the reading of a file
 abbrev pub reading : List ℕ → Reading

@@ -2,7 +2,7 @@
 use mathlib.Core.Path.{_≡_, refl, ap, _∙_}
 use mathlib.Core.Bool.{Bool, true, false, cond, not, and-eq-true-iff}
 use mathlib.Core.List.{List, [], _∷_, _++_}
-use Prim.Native.Nat.{ℕ, suc, _+_, _≤_, _<_, zero-le, suc-le-suc}
+use Prim.Native.Nat.{ℕ, zero, suc, _+_, _≤_, _<_, zero-le, suc-le-suc}
 use native.Mathlib.Nat.{not-suc-le-zero, le-of-suc-le-suc}
 use native.Mathlib.Numerals.{add-one}
 use native.Mathlib.Omega.{arith}
@@ -14,7 +14,8 @@ use Rattle.formula.specs.Formula.{all}
 use Rattle.decimal.specs.Decimal.{isDigit, onlyDigits}
 use Rattle.decimal.specs.Laws.{digit-low}
 use Rattle.dimacs.specs.Class.{blank, digit, minus, letterC, other, isBlank, classOf}
-use Rattle.dimacs.specs.Format.{leading, before, beyond, isGap, inToken, Word, words}
+use Rattle.dimacs.specs.Format.{before, beyond}
+use Rattle.dimacs.specs.Tokens.{leading, inToken}
 
 -- a digit is in the class of digits
 pub digit-class : (b : ℕ) → isDigit b ≡ true → classOf b ≡ digit
@@ -100,6 +101,16 @@ run-ends p (b ∷ s) h = go (p b) refl (run-ends p s) h
     go true e ih k = ih (le-of-suc-le-suc k)
     go false e ih k = e
 
+-- and all before it does
+pub run-byte : (p : ℕ → Bool) (s : List ℕ) (i : ℕ) → i < length (leading p s) → p (getD s i 0) ≡ true
+run-byte p [] i h = absurd (not-suc-le-zero h)
+run-byte p (b ∷ s) i h = go (p b) refl i h (run-byte p s)
+  where
+    go : (t : Bool) → p b ≡ t → (i : ℕ) → i < length (cond t (b ∷ leading p s) []) → ((j : ℕ) → j < length (leading p s) → p (getD s j 0) ≡ true) → p (getD (b ∷ s) i 0) ≡ true
+    go true e zero k ih = e
+    go true e (suc j) k ih = ih j (le-of-suc-le-suc k)
+    go false e i k ih = absurd (not-suc-le-zero k)
+
 -- the run itself
 pub run-take : (p : ℕ → Bool) (s : List ℕ) → take (length (leading p s)) s ≡ leading p s
 run-take p [] = refl
@@ -108,54 +119,3 @@ run-take p (b ∷ s) = go (p b) (run-take p s)
     go : (t : Bool) → take (length (leading p s)) s ≡ leading p s → take (length (cond t (b ∷ leading p s) [])) (b ∷ s) ≡ cond t (b ∷ leading p s) []
     go true e = ap (λ (l : List ℕ). b ∷ l) e
     go false e = refl
-
--- A run of bytes that leave the flag as it is, up to one at which a token may start: the tokens are those past the run.
-words-past : (inside : Bool) (p : ℕ → Bool)
-    → ((b at : ℕ) (s : List ℕ) → p b ≡ true → words inside at (b ∷ s) ≡ words inside (suc at) s)
-    → ((b at : ℕ) (s : List ℕ) → p b ≡ false → words inside at (b ∷ s) ≡ words false at (b ∷ s))
-    → (s : List ℕ) (at : ℕ) → words inside at s ≡ words false (at + length (leading p s)) (drop (length (leading p s)) s)
-words-past inside p more stop [] at = refl
-words-past inside p more stop (b ∷ s) at = go (p b) refl (words-past inside p more stop s (suc at))
-  where
-    go : (t : Bool) → p b ≡ t → words inside (suc at) s ≡ words false (suc at + length (leading p s)) (drop (length (leading p s)) s)
-        → words inside at (b ∷ s) ≡ words false (at + length (leading p (b ∷ s))) (drop (length (leading p (b ∷ s))) (b ∷ s))
-    go true e ih =
-        let same : suc at + length (leading p s) ≡ at + suc (length (leading p s)) = omega arith in
-        let run : suc (length (leading p s)) ≡ length (leading p (b ∷ s)) = rw (e) in
-        more b at s e ∙ ih
-        ∙ ap (λ (k : ℕ). words false k (drop (length (leading p s)) s)) same
-        ∙ ap (λ (k : ℕ). words false (at + k) (drop k (b ∷ s))) run
-    go false e ih =
-        let same : at ≡ at + 0 = omega arith in
-        let none : 0 ≡ length (leading p (b ∷ s)) = rw (e) in
-        stop b at s e ∙ ap (λ (k : ℕ). words false k (b ∷ s)) same ∙ ap (λ (k : ℕ). words false (at + k) (drop k (b ∷ s))) none
-
--- blanks before the tokens
-pub words-gap : (s : List ℕ) (at : ℕ) → words false at s ≡ words false (at + length (leading isGap s)) (drop (length (leading isGap s)) s)
-words-gap = words-past false isGap (λ b at s e. rw e) (λ b at s e. refl)
-
--- the rest of a token that was begun
-words-rest : (s : List ℕ) (at : ℕ) → words true at s ≡ words false (at + length (leading inToken s)) (drop (length (leading inToken s)) s)
-words-rest = words-past true inToken (λ b at s e. rw e) (λ b at s e. rw e)
-
--- the first token of bytes that begin with one, and what follows it
-pub words-first : (s : List ℕ) (at : ℕ) → 0 < length s → inToken (getD s 0 0) ≡ true
-    → words false at s
-    ≡ record { place = at; bytes = leading inToken s } ∷ words false (at + length (leading inToken s)) (drop (length (leading inToken s)) s)
-words-first [] at h e = absurd (not-suc-le-zero h)
-words-first (b ∷ s) at h e =
-    let same : suc at + length (leading inToken s) ≡ at + suc (length (leading inToken s)) = omega arith in
-    rw (e)
-    (ap (λ (ws : List Word). record { place = at; bytes = b ∷ leading inToken s } ∷ ws)
-    (words-rest s (suc at) ∙ ap (λ (k : ℕ). words false k (drop (length (leading inToken s)) s)) same))
-
--- a token and the blank that ends it, in front of more
-pub words-token : (w : List ℕ) (b : ℕ) (r : List ℕ) (at : ℕ) → 0 < length w → all inToken w ≡ true → inToken b ≡ false
-    → words false at (w ++ b ∷ r) ≡ record { place = at; bytes = w } ∷ words false (suc (at + length w)) r
-words-token [] b r at l h e = absurd (not-suc-le-zero l)
-words-token (x ∷ w) b r at l h e =
-    let run : leading inToken ((x ∷ w) ++ b ∷ r) ≡ x ∷ w = leading-seam inToken (x ∷ w) b r h e in
-    words-first ((x ∷ w) ++ b ∷ r) at (omega arith) (and-eq-true-iff (inToken x) (all inToken w) .0 h .0)
-    ∙ ap (λ (v : List ℕ). record { place = at; bytes = v } ∷ words false (at + length v) (drop (length v) ((x ∷ w) ++ b ∷ r))) run
-    ∙ ap (λ (t : List ℕ). record { place = at; bytes = x ∷ w } ∷ words false (at + length (x ∷ w)) t) (drop-append-seam (x ∷ w) (b ∷ r))
-    ∙ rw (e)

@@ -4,4 +4,6 @@ pub mod Format
 pub mod Laws
 pub mod RoundTrip
 pub mod Sizes
+pub mod TokenLaws
+pub mod Tokens
 pub mod Written

@@ -19,8 +19,10 @@ use Rattle.rule_list.specs.Sound.{Scan, unread, mayJoin, stands, after, unclose
 use Rattle.decimal.specs.Decimal.{decimal, number, onlyDigits, isDigit}
 use Rattle.decimal.specs.Laws.{decimal-digits, decimal-some, number-decimal}
 use Rattle.dimacs.specs.Class.{classOf}
-use Rattle.dimacs.specs.Format.{header, numbered, outside, preamble, inToken, Word, words, tokensFrom, positive, signed, element, badToken, badTokens, gives, reading, readFrom}
-use Rattle.dimacs.specs.Laws.{digit-class, digit-in-token, all-digits, before-digits, beyond-digits, words-token}
+use Rattle.dimacs.specs.Format.{header, numbered, outside, preamble, positive, signed, element, badToken, badTokens, gives, reading, readFrom}
+use Rattle.dimacs.specs.Laws.{digit-class, digit-in-token, all-digits, before-digits, beyond-digits}
+use Rattle.dimacs.specs.TokenLaws.{kept-outside, tokens-token, blank-outside}
+use Rattle.dimacs.specs.Tokens.{inToken, Token, Position, isWithin, within, step, tokens, positionAt, tokensFrom}
 use Rattle.dimacs.specs.Sizes.{sound-step, zeros-some, sound-clauses}
 use Rattle.dimacs.specs.Written.{numeral, separator, body, heading, written}
 
@@ -52,15 +54,16 @@ separator-blank x = go (closes x)
     go false = refl
 
 -- the tokens of a written list
-abbrev pub tokensOf : ℕ → List ℤ → List Word
+abbrev pub tokensOf : ℕ → List ℤ → List Token
 tokensOf at [] = []
 tokensOf at (x ∷ l) = record { place = at; bytes = numeral x } ∷ tokensOf (suc (at + length (numeral x))) l
 
-words-body : (l : List ℤ) (at : ℕ) → words false at (body l) ≡ tokensOf at l
-words-body [] at = refl
-words-body (x ∷ l) at =
-    words-token (numeral x) (separator x) (body l) at (numeral-some x) (numeral-token x) (separator-blank x)
-    ∙ ap (λ (ws : List Word). record { place = at; bytes = numeral x } ∷ ws) (words-body l (suc (at + length (numeral x))))
+tokens-body : (l : List ℤ) (p : Position) (at : ℕ) → isWithin p ≡ false → tokens p at (body l) ≡ tokensOf at l
+tokens-body [] p at o = refl
+tokens-body (x ∷ l) p at o =
+    tokens-token (numeral x) (separator x) (body l) p at o (numeral-some x) (numeral-token x) (separator-blank x)
+    ∙ ap (λ (ts : List Token). record { place = at; bytes = numeral x } ∷ ts)
+    (tokens-body l (step within (separator x)) (suc (at + length (numeral x))) (blank-outside (separator x) (separator-blank x)))
 
 -- an element that stands, in a file with clauses to come, is no bad token
 good-token : (n c : ℕ) (s : Scan) (at : ℕ) (x : ℤ) → s .clauses < c → stands n s x ≡ true → badToken n c s at (some x) ≡ none
@@ -155,10 +158,10 @@ inside : (n c : ℕ) → 1 ≤ n → n ≤ maxVariables → c ≤ maxClauses →
 inside n c h k f = rw (ne-eqb n 0 (omega arith), le-ltb maxVariables n k, le-ltb maxClauses c f)
 
 -- past the heading come the tokens of the list
-pub words-written : (n : ℕ) (l : List ℤ) (at : ℕ) → at ≡ length (heading n (length (clauses l))) → tokensFrom (written n l) at ≡ tokensOf at l
-words-written n l at e =
-    ap (λ (s : List ℕ). words false at s) (ap (λ (k : ℕ). drop k (written n l)) e ∙ drop-append-seam (heading n (length (clauses l))) (body l))
-    ∙ words-body l at
+pub tokens-written : (n : ℕ) (l : List ℤ) (at : ℕ) → at ≡ length (heading n (length (clauses l))) → tokensFrom (written n l) at ≡ tokensOf at l
+tokens-written n l at e =
+    ap (tokens (positionAt (written n l) at) at) (ap (λ (k : ℕ). drop k (written n l)) e ∙ drop-append-seam (heading n (length (clauses l))) (body l))
+    ∙ tokens-body l (positionAt (written n l) at) at (kept-outside (written n l) at)
 
 -- every sound list, written and read, is that list again
 pub read-written : (n : ℕ) (l : List ℤ) → 1 ≤ n → n ≤ maxVariables → badRule n unread 0 l ≡ none
@@ -166,7 +169,7 @@ pub read-written : (n : ℕ) (l : List ℤ) → 1 ≤ n → n ≤ maxVariables �
 unfolding classOf
 read-written n l h k e =
     ap (readFrom (written n l) 0) (header-written n c (body l) (omega arith) (omega (arith, small)))
-    ∙ rw (inside n c h k small, words-written n l (0 + length (heading n c)) (zero-add (length (heading n c))), good .passed) (ap (gives n c) (good .same))
+    ∙ rw (inside n c h k small, tokens-written n l (0 + length (heading n c)) (zero-add (length (heading n c))), good .passed) (ap (gives n c) (good .same))
   where
     c : ℕ
     c = length (clauses l)

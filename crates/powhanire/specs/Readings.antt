@@ -13,7 +13,8 @@ use Rattle.refusal.specs.Reply.{refusal}
 use Rattle.limits.specs.Limits.{maxLiterals}
 use Rattle.rule_list.specs.Sound.{Scan, mayJoin, after, unread, unclosed}
 use Rattle.dimacs.specs.Format as rule-file
-use Rattle.dimacs.specs.Format.{Word, Header, tokensFrom}
+use Rattle.dimacs.specs.Format.{Header}
+use Rattle.dimacs.specs.Tokens.{Token, tokensFrom}
 use Rattle.wish_file.specs.Format as wish-file
 use Rattle.wish_file.specs.Layout.{lineSize, lineNumbers}
 use Rattle.rule_reader.specs.Read as rules
@@ -31,32 +32,32 @@ token-numbered n c s place (some x) =
     (more (by-test (ltb n (variable x)) 3 place)
     (more (by-test (not (closes x) && not (mayJoin (s .clause) x)) 4 place) last))))
 
-tokens-numbered : (n c size : ℕ) (s : Scan) (ws : List Word) → Numbered (rule-file.badTokens n c size s ws)
+tokens-numbered : (n c size : ℕ) (s : Scan) (ts : List Token) → Numbered (rule-file.badTokens n c size s ts)
 tokens-numbered n c size s [] = by-test (ltb (s .clauses) c || unclosed (s .clause)) 5 size
-tokens-numbered n c size s (w ∷ ws) =
-    by-first (more (token-numbered n c s (w .place) (rule-file.signed (w .bytes))) (more (tokens-numbered n c size (after s (rule-file.element w)) ws) last))
+tokens-numbered n c size s (t ∷ ts) =
+    by-first (more (token-numbered n c s (t .place) (rule-file.signed (t .bytes))) (more (tokens-numbered n c size (after s (rule-file.element t)) ts) last))
 
-module _ (out : List ℤ) where
-  told-tokens : (n c : ℕ) (ws : List Word) (o : Option Refusal) → Numbered o → Told (rules.readReply (rule-file.readTokens n c ws o) out)
-  told-tokens n c ws none cause =
-      let needed : ℕ = length (mathlib.Core.List.map rule-file.element ws) in
-      told-unless _ 1 n c needed (by-test (ltb (length out) needed) 14 needed)
-  told-tokens n c ws (some r) cause = told-refusal r cause
+module _ (room : ℕ) where
+  told-tokens : (n c : ℕ) (ts : List Token) (o : Option Refusal) → Numbered o → Told (rules.replying (rule-file.readTokens n c ts o) room)
+  told-tokens n c ts none cause =
+      let needed : ℕ = length (mathlib.Core.List.map rule-file.element ts) in
+      told-unless _ 1 n c needed (by-test (ltb room needed) 14 needed)
+  told-tokens n c ts (some r) cause = told-refusal r cause
 
-  told-range : (b : Bool) (at : ℕ) (reading : rule-file.Reading) → Told (rules.readReply reading out)
-      → Told (rules.readReply (cond b (rule-file.refuses (refusal 2 at)) reading) out)
+  told-range : (b : Bool) (at : ℕ) (reading : rule-file.Reading) → Told (rules.replying reading room)
+      → Told (rules.replying (cond b (rule-file.refuses (refusal 2 at)) reading) room)
   told-range true at reading told = told-refusal (refusal 2 at) (some-cause 1 at)
   told-range false at reading told = told
 
-  told-from : (file : List ℕ) (at : ℕ) (o : Option Header) → Told (rules.readReply (rule-file.readFrom file at o) out)
+  told-from : (file : List ℕ) (at : ℕ) (o : Option Header) → Told (rules.replying (rule-file.readFrom file at o) room)
   told-from file at none = told-refusal (refusal 1 at) (some-cause 0 at)
   told-from file at (some h) =
       let next : ℕ = at + h .size in
-      let ws : List Word = rule-file.tokensFrom file next in
+      let ts : List Token = tokensFrom file next in
       told-range (rule-file.outside (h .variables) (h .clauses)) at _
-      (told-tokens (h .variables) (h .clauses) ws _ (tokens-numbered (h .variables) (h .clauses) (length file) unread ws))
+      (told-tokens (h .variables) (h .clauses) ts _ (tokens-numbered (h .variables) (h .clauses) (length file) unread ts))
 
-  pub read-rules-told : (file : List ℕ) → Told (rules.readReply (rule-file.reading file) out)
+  pub read-rules-told : (file : List ℕ) → Told (rules.readReply file room)
   read-rules-told file =
       let at : ℕ = rule-file.pastComments false 0 file in
       told-from file at (rule-file.header (drop at file))

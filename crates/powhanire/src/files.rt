@@ -2,7 +2,6 @@
 use answers::Answer;
 ghost use mathlib.Core.Path.{_≡_};
 ghost use lib.ListN.{length};
-ghost use Rattle.dimacs.specs.Format.{reading};
 ghost use Rattle.rule_reader.specs.Read as rules_read;
 ghost use Rattle.rule_writer.specs.Write as rules_written;
 ghost use Rattle.wish_reader.specs.Read as wishes_read;
@@ -12,8 +11,8 @@ ghost use Rattle.answers.specs.Answers.{answerOf};
 // The values are the variables, the rules and the length of the list.
 #[no_mangle]
 pub extern "C" fn powhanire_read_rules(file: &[u8], rules: &mut [i32]) -> Answer
-    ensures answer { λ r. ⌜ r ≡ answerOf (rules_read.readReply (reading (now (file .entry))) (now (rules .entry))) ⌝ }
-    ensures output { λ r. ⌜ now (rules .exit) ≡ rules_read.readOutput (reading (now (file .entry))) (now (rules .entry)) ⌝ }
+    ensures answer { λ r. ⌜ r ≡ answerOf (rules_read.readReply (now (file .entry)) (length (now (rules .entry)))) ⌝ }
+    ensures output { λ r. ⌜ now (rules .exit) ≡ rules_read.readOutput (now (file .entry)) (now (rules .entry)) ⌝ }
 {
     answers::of_read_rules(rule_reader::read_rules(file, rules))
 }

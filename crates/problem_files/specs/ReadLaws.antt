@@ -31,19 +31,19 @@ module _ (file : List ℕ) (out : List ℤ) (room : 40000 ≤ length out) where
   fits n c l e =
       room-enough (length l) (length out) (omega (arith, sound-length n l (accepted-rules.accepted file n c l e .sound)))
 
-  pub list-refused : (r : Refusal) → refusing r ≡ rules.readReply (rule.reading file) out → rule.reading file ≡ rule.refuses r
+  pub list-refused : (r : Refusal) → refusing r ≡ rules.readReply file (length out) → rule.reading file ≡ rule.refuses r
   list-refused r e = go (rule.reading file) refl e
     where
-      go : (g : rule.Reading) → rule.reading file ≡ g → refusing r ≡ rules.readReply g out → g ≡ rule.refuses r
+      go : (g : rule.Reading) → rule.reading file ≡ g → refusing r ≡ rules.replying g (length out) → g ≡ rule.refuses r
       go (rule.refuses q) f h = cc
       go (rule.gives n c l) f h =
           let never : refusing r ≡ answering 1 n c (length l) = h ∙ ap (λ (o : Option Refusal). unless o (answering 1 n c (length l))) (fits n c l f) in cc
 
-  pub list-read : (n c k : ℕ) (result : List ℤ) → answering 1 n c k ≡ rules.readReply (rule.reading file) out → result ≡ rules.readOutput (rule.reading file) out
+  pub list-read : (n c k : ℕ) (result : List ℤ) → answering 1 n c k ≡ rules.readReply file (length out) → result ≡ rules.readOutput file out
       → (rule.reading file ≡ rule.gives n c (take k result)) × (k ≤ length result)
   list-read n c k result e f = go (rule.reading file) refl e f
     where
-      go : (g : rule.Reading) → rule.reading file ≡ g → answering 1 n c k ≡ rules.readReply g out → result ≡ rules.readOutput g out
+      go : (g : rule.Reading) → rule.reading file ≡ g → answering 1 n c k ≡ rules.replying g (length out) → result ≡ rules.leaving g out
           → (g ≡ rule.gives n c (take k result)) × (k ≤ length result)
       go (rule.refuses q) h i j = absurd (let z : _≡_ {A = ℕ} 0 1 = cc in omega arith)
       go (rule.gives n′ c′ l) h i j =

@@ -38,8 +38,8 @@ module _ (n : ℕ) (l : List ℤ) (file : List ℕ) (taken : refusalOf (lentToWr
 
   -- so the reader answers with these numbers, and leaves that list, where it was lent the room
   module _ (out : List ℤ) (room : length l ≤ length out) where
-    pub reply-back : readReply (reading part) out ≡ answering 1 n (length (clauses l)) (length l)
+    pub reply-back : readReply part (length out) ≡ answering 1 n (length (clauses l)) (length l)
     reply-back = rw (read-back, le-ltb (length out) (length l) room)
 
-    pub output-back : readOutput (reading part) out ≡ l ++ drop (length l) out
+    pub output-back : readOutput part out ≡ l ++ drop (length l) out
     output-back = rw (read-back, le-ltb (length out) (length l) room)

@@ -14,8 +14,8 @@ use borrow.Author.Tests.{lt-ltb, le-ltb, eq-eqb, ne-eqb}
 use Rattle.decimal.specs.Decimal.{number}
 use Rattle.dimacs.specs.Class.{letterC, classOf}
 use Rattle.dimacs.specs.Format.{pastComments, preamble, startsWith, before, beyond, Header, header, numbered}
-use Rattle.rule_header.specs.declared.Heading as D
-use Rattle.rule_header.specs.Heading.{headingAs}
+use Rattle.rule_header.specs.declared.ReadHeader as D
+use Rattle.rule_header.specs.Header.{headerAs}
 use Rattle.dimacs.specs.Laws.{run-inside, run-take}
 
 -- comment lines: a line that begins with c, one that does not, a byte inside, a line feed, the end
@@ -117,11 +117,11 @@ field-most stop s from end e = omega (arith, run-inside (λ (b : ℕ). not (eqb 
 
 -- the answers, by the two numbers
 module _ (at size : ℕ) (n c : List ℕ) where
-  pub n-malformed : number n ≡ none → headingAs at (numbered (number n) (number c) size) ≡ D.the-variants.Malformed
+  pub n-malformed : number n ≡ none → headerAs at (numbered (number n) (number c) size) ≡ D.the-variants.Malformed
   n-malformed e = rw e
 
-  pub c-malformed : (v : ℕ) → number n ≡ some v → number c ≡ none → headingAs at (numbered (number n) (number c) size) ≡ D.the-variants.Malformed
+  pub c-malformed : (v : ℕ) → number n ≡ some v → number c ≡ none → headerAs at (numbered (number n) (number c) size) ≡ D.the-variants.Malformed
   c-malformed v e f = rw (e, f)
 
-  pub both-read : (v k : ℕ) → number n ≡ some v → number c ≡ some k → headingAs at (numbered (number n) (number c) size) ≡ D.the-variants.Found v k (at + size)
+  pub both-read : (v k : ℕ) → number n ≡ some v → number c ≡ some k → headerAs at (numbered (number n) (number c) size) ≡ D.the-variants.Found v k (at + size)
   both-read v k e f = rw (e, f)

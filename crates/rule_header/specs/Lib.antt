@@ -1,2 +1,2 @@
-pub mod Heading
+pub mod Header
 pub mod Laws

@@ -5,12 +5,12 @@ ghost use mathlib.Core.Path.{_≡_};
 ghost use Prim.Native.Nat.{_+_, _≤_};
 ghost use lib.ListN.{length, drop};
 ghost use Rattle.dimacs.specs.Format.{pastComments, preamble, startsWith, before, header};
-ghost use Rattle.rule_header.specs.Heading.{headingAs};
+ghost use Rattle.rule_header.specs.Header.{headerAs};
 
 const PREAMBLE: [u8; 6] = [b'p', b' ', b'c', b'n', b'f', b' '];
 
 // A header's two numbers and the place past it.
-pub enum Heading {
+pub enum ReadHeader {
     Malformed,
     Found {
         variables: usize,
@@ -72,27 +72,27 @@ fn field_end(file: &[u8], from: usize, stop: u8) -> usize
 }
 
 // The header at a place. Each field must end with its own byte: a space after N, a line feed after C.
-pub fn heading_at(file: &[u8], at: usize) -> Heading
+pub fn header_at(file: &[u8], at: usize) -> ReadHeader
     requires { ⌜ at ≤ length (now file) ⌝ }
-    ensures { λ r. ⌜ r ≡ headingAs at (header (drop at (now (file .entry)))) ⌝ }
+    ensures { λ r. ⌜ r ≡ headerAs at (header (drop at (now (file .entry)))) ⌝ }
 {
     if !has_preamble(file, at) {
-        return Heading::Malformed;
+        return ReadHeader::Malformed;
     }
     let n_from = at + 6;
     let n_end = field_end(file, n_from, b' ');
     let c_from = n_end + 1;
     let c_end = field_end(file, c_from, b'\n');
     if file.len() <= c_end {
-        return Heading::Malformed;
+        return ReadHeader::Malformed;
     }
     let Number::Value(variables) = decimal::number_of(&file[n_from..n_end]) else {
-        return Heading::Malformed;
+        return ReadHeader::Malformed;
     };
     let Number::Value(clauses) = decimal::number_of(&file[c_from..c_end]) else {
-        return Heading::Malformed;
+        return ReadHeader::Malformed;
     };
-    Heading::Found {
+    ReadHeader::Found {
         variables,
         clauses,
         next: c_end + 1,

@@ -10,16 +10,17 @@ use lib.IntN.{ℤ}
 use lib.ListN.{length, getD, set}
 use mir.Syntax.{w32}
 use mir.Val.{toZ, ofZ}
-use Rattle.literal.specs.Literal.{variable}
+use Rattle.literal.specs.Literal.{variable, closes}
 use Rattle.refusal.specs.declared.Refusal.{Refusal}
 use Rattle.refusal.specs.Reply.{refusal, cause}
 use Rattle.rule_list.specs.Laws.{scan}
 use Rattle.rule_list.specs.Sound.{unread, unclosed}
 use Rattle.rule_list.specs.Stamps.{Stamped, stamped-none, stamped-closed, stamped-joined, stamp-free, stamp-taken}
-use Rattle.dimacs.specs.Format.{tokensFrom, badTokens}
-use Rattle.rule_tokens.specs.declared.Token as T
+use Rattle.dimacs.specs.Format.{badTokens}
+use Rattle.dimacs.specs.Tokens.{tokensFrom}
+use Rattle.rule_tokens.specs.declared.NextToken as T
 use Rattle.rule_tokens.specs.Laws.{Good, token-end, token-bad, token-good, held, signed-fits}
-use Rattle.rule_tokens.specs.Token.{firstToken}
+use Rattle.rule_tokens.specs.NextToken.{nextOf}
 use borrow.Author.Tests.{eqb-true, eqb-false}
 use Rattle.rule_reader.specs.declared.tokens.Check as C
 use Rattle.rule_reader.specs.Laws.{faultOf, checkAs, open-clause, room-left, refused-malformed, refused-fault, accepted-zero, refused-twice, accepted-literal}
@@ -51,7 +52,7 @@ start n c file from stamps l z =
     }
 
 -- the number that a token gives is held by an i32
-pub number-held : (file : List ℕ) (at : ℕ) {place next : ℕ} {x : ℤ} → T.the-variants.Element place x next ≡ firstToken (tokensFrom file at) → toZ w32 (ofZ w32 x) ≡ x
+pub number-held : (file : List ℕ) (at : ℕ) {place next : ℕ} {x : ℤ} → T.the-variants.Element place x next ≡ nextOf (tokensFrom file at) → toZ w32 (ofZ w32 x) ≡ x
 number-held file at {place} {next} {x} e =
     let g = token-good file at place x next (sym e) in
     held x x refl (signed-fits (g .bytes) x (g .number))
@@ -62,7 +63,7 @@ module _ {n c : ℕ} {file : List ℕ} {from : ℕ} {stamps : List ℕ} {k m : �
   found r e = sym (ap (λ (o : Option Refusal). checkAs o (length (tokensFrom file from))) (s .so-far ∙ e))
 
   -- no token is left
-  pub ended : T.the-variants.End ≡ firstToken (tokensFrom file at) → checkAs (cause (ltb k c || is-open) 6 (length file)) (k + m) ≡ answer n c file from
+  pub ended : T.the-variants.End ≡ nextOf (tokensFrom file at) → checkAs (cause (ltb k c || is-open) 6 (length file)) (k + m) ≡ answer n c file from
   ended e =
       let done : tokensFrom file at ≡ [] = token-end file at (sym e) in
       let all : k + m ≡ length (tokensFrom file from) = omega (arith, s .counted, ap length done) in
@@ -73,15 +74,15 @@ module _ {n c : ℕ} {file : List ℕ} {from : ℕ} {stamps : List ℕ} {k m : �
       all
 
   -- the next one is malformed
-  pub malformed : (place : ℕ) → T.the-variants.Malformed place ≡ firstToken (tokensFrom file at) → C.the-variants.Refused (refusal 3 place) ≡ answer n c file from
+  pub malformed : (place : ℕ) → T.the-variants.Malformed place ≡ nextOf (tokensFrom file at) → C.the-variants.Refused (refusal 3 place) ≡ answer n c file from
   malformed place e =
       let b = token-bad file at place (sym e) in
       found (refusal 3 place)
       (ap (badTokens n c (length file) (scan k m (s .clause))) (b .split)
       ∙ refused-malformed n c (length file) k m (s .clause) place (b .bytes) (b .rest) (b .malformed))
 
-  -- it is the number x of the variable v
-  module _ {place next : ℕ} {x : ℤ} (e : T.the-variants.Element place x next ≡ firstToken (tokensFrom file at)) {v : ℕ} (same : v ≡ variable x) where
+  -- it is the number x
+  module _ {place next : ℕ} {x : ℤ} (e : T.the-variants.Element place x next ≡ nextOf (tokensFrom file at)) where
     g : Good file at place x next
     g = token-good file at place x next (sym e)
 
@@ -95,32 +96,33 @@ module _ {n c : ℕ} {file : List ℕ} {from : ℕ} {stamps : List ℕ} {k m : �
     counting : length (tokensFrom file from) ≡ k + m + suc (length (tokensFrom file next))
     counting = omega (arith, s .counted, ap length (g .split))
 
-    pub faulty : (number : ℕ) → number ≡ faultOf n c k m v → (number ≡ 0 → ⊥) → C.the-variants.Refused (refusal number place) ≡ answer n c file from
+    pub faulty : (number : ℕ) → number ≡ faultOf n c k m x → (number ≡ 0 → ⊥) → C.the-variants.Refused (refusal number place) ≡ answer n c file from
     faulty number f z =
-        found (refusal number place) (here ∙ refused-fault n c (length file) k m (s .clause) place (g .bytes) (tokensFrom file next) x (g .number) v same number f z)
+        found (refusal number place) (here ∙ refused-fault n c (length file) k m (s .clause) place (g .bytes) (tokensFrom file next) x (g .number) number f z)
 
-    module _ (fine : faultOf n c k m v ≡ 0) where
-      pub closed : v ≡ 0 → Checking n c file from stamps (k + 1) m false next
+    module _ (fine : faultOf n c k m x ≡ 0) where
+      pub closed : closes x ≡ true → Checking n c file from stamps (k + 1) m false next
       closed z =
           record {
             clause = [];
-            few = omega (arith, open-clause n c k m v fine);
+            few = omega (arith, open-clause n c k m x fine);
             many = s .many;
-            so-far = s .so-far ∙ here ∙ accepted-zero n c (length file) k m (s .clause) place (g .bytes) (tokensFrom file next) x (g .number) v same fine z;
+            so-far = s .so-far ∙ here ∙ accepted-zero n c (length file) k m (s .clause) place (g .bytes) (tokensFrom file next) x (g .number) fine z;
             counted = omega (arith, counting);
             opened = refl;
             stamped = stamped-closed stamps (k + 1) (s .clause) (s .stamped);
           }
 
-      module _ (z : v ≡ 0 → ⊥) where
+      -- a literal, of the variable v
+      module _ (z : closes x ≡ false) {v : ℕ} (same : v ≡ variable x) where
         pub below : v ≤ n
-        below = room-left n c k m v fine z .1
+        below = omega (arith, same, room-left n c k m x fine z .1)
 
         pub twice : eqb (getD stamps v 0) (k + 1) ≡ true → C.the-variants.Refused (refusal 5 place) ≡ answer n c file from
         twice t =
             found (refusal 5 place)
             (here
-            ∙ refused-twice n c (length file) k m (s .clause) place (g .bytes) (tokensFrom file next) x (g .number) v same fine z
+            ∙ refused-twice n c (length file) k m (s .clause) place (g .bytes) (tokensFrom file next) x (g .number) fine z
             (stamp-taken stamps (k + 1) (s .clause) x (s .stamped) (ap (λ (u : ℕ). getD stamps u 0) (sym same) ∙ eqb-true (getD stamps v 0) (k + 1) t)))
 
         pub joined : n ≤ 640 → eqb (getD stamps v 0) (k + 1) ≡ false → (after : List ℕ) → after ≡ set stamps v (k + 1) → Checking n c file from after k (m + 1) true next
@@ -129,11 +131,11 @@ module _ {n c : ℕ} {file : List ℕ} {from : ℕ} {stamps : List ℕ} {k m : �
             record {
               clause = x ∷ s .clause;
               few = s .few;
-              many = omega (arith, room-left n c k m v fine z);
-              so-far = s .so-far ∙ here ∙ accepted-literal n c (length file) k m (s .clause) place (g .bytes) (tokensFrom file next) x (g .number) v same fine z free;
+              many = omega (arith, room-left n c k m x fine z);
+              so-far = s .so-far ∙ here ∙ accepted-literal n c (length file) k m (s .clause) place (g .bytes) (tokensFrom file next) x (g .number) fine z free;
               counted = omega (arith, counting);
               opened = refl;
               stamped =
                   subst (λ (l : List ℕ). Stamped l (k + 1) (x ∷ s .clause)) (ap (λ (j : ℕ). set stamps j (k + 1)) (sym same) ∙ sym a)
-                  (stamped-joined stamps (k + 1) (s .clause) x (s .stamped) (omega (arith, below)));
+                  (stamped-joined stamps (k + 1) (s .clause) x (s .stamped) (omega (arith, below, same)));
             }

@@ -11,10 +11,11 @@ use lib.ListN.{length, set, length-set}
 use lib.Seq.{sets}
 use mir.Syntax.{w32}
 use mir.Val.{toZ, ofZ}
-use Rattle.dimacs.specs.Format.{Word, tokensFrom, signed, element}
-use Rattle.rule_tokens.specs.declared.Token as T
+use Rattle.dimacs.specs.Format.{signed, element}
+use Rattle.dimacs.specs.Tokens.{Token, tokensFrom}
+use Rattle.rule_tokens.specs.declared.NextToken as T
 use Rattle.rule_tokens.specs.Laws.{Good, token-end, token-bad, token-good}
-use Rattle.rule_tokens.specs.Token.{firstToken}
+use Rattle.rule_tokens.specs.NextToken.{nextOf}
 use Rattle.rule_reader.specs.Laws.{isSome, readable}
 use Rattle.rule_reader.proofs.Checking.{number-held}
 
@@ -27,11 +28,11 @@ pub record Filling (file : List ℕ) (from : ℕ) (rules₀ : List ℤ) (rules :
 
 module _ {file : List ℕ} {from : ℕ} {rules₀ rules : List ℤ} {at i : ℕ} (s : Filling file from rules₀ rules at i) where
   -- no token is left
-  pub filled : T.the-variants.End ≡ firstToken (tokensFrom file at) → rules ≡ sets rules₀ 0 (map element (tokensFrom file from))
-  filled e = sym (ap (λ (ws : List Word). sets rules i (map element ws)) (token-end file at (sym e))) ∙ s .so-far
+  pub filled : T.the-variants.End ≡ nextOf (tokensFrom file at) → rules ≡ sets rules₀ 0 (map element (tokensFrom file from))
+  filled e = sym (ap (λ (ts : List Token). sets rules i (map element ts)) (token-end file at (sym e))) ∙ s .so-far
 
   -- none is malformed
-  pub never : (place : ℕ) → T.the-variants.Malformed place ≡ firstToken (tokensFrom file at) → ⊥
+  pub never : (place : ℕ) → T.the-variants.Malformed place ≡ nextOf (tokensFrom file at) → ⊥
   never place e =
       let b = token-bad file at place (sym e) in
       let head : isSome (signed (b .bytes)) ≡ true =
@@ -39,7 +40,7 @@ module _ {file : List ℕ} {from : ℕ} {rules₀ rules : List ℤ} {at i : ℕ}
       false≢true (sym (ap isSome (b .malformed)) ∙ head)
 
   -- the next one gives x
-  module _ {place next : ℕ} {x : ℤ} (e : T.the-variants.Element place x next ≡ firstToken (tokensFrom file at)) where
+  module _ {place next : ℕ} {x : ℤ} (e : T.the-variants.Element place x next ≡ nextOf (tokensFrom file at)) where
     g : Good file at place x next
     g = token-good file at place x next (sym e)
 
@@ -63,6 +64,6 @@ module _ {file : List ℕ} {from : ℕ} {rules₀ rules : List ℤ} {at i : ℕ}
               ap (λ (z : ℤ). sets (set rules i z) (i + 1) rest) (number-held file at e)
               ∙ ap (λ (j : ℕ). sets (set rules i x) j rest) (add-one i)
               ∙ ap (λ (o : Option ℤ). sets rules i (Option·getD o (pos 0) ∷ rest)) (sym (g .number))
-              ∙ sym (ap (λ (ws : List Word). sets rules i (map element ws)) (g .split))
+              ∙ sym (ap (λ (ts : List Token). sets rules i (map element ts)) (g .split))
               ∙ s .so-far;
         }

@@ -15,12 +15,13 @@ use Rattle.refusal.specs.declared.Refusal.{Refusal}
 use Rattle.refusal.specs.Reply.{Reply, refusal, refusing, answering}
 use Rattle.limits.specs.Limits.{maxVariables, maxClauses}
 use Rattle.rule_list.specs.Sound.{unread}
-use Rattle.dimacs.specs.Format.{pastComments, Header, header, outside, Word, tokensFrom, element, badTokens, Reading, refuses, gives, readTokens, readFrom, reading}
-use Rattle.rule_header.specs.declared.Heading as H
-use Rattle.rule_header.specs.Heading.{headingAs}
+use Rattle.dimacs.specs.Format.{pastComments, Header, header, outside, element, badTokens, Reading, refuses, gives, readTokens, readFrom, reading}
+use Rattle.dimacs.specs.Tokens.{Token, tokensFrom}
+use Rattle.rule_header.specs.declared.ReadHeader as H
+use Rattle.rule_header.specs.Header.{headerAs}
 use Rattle.rule_reader.specs.declared.tokens.Check as C
 use Rattle.rule_reader.specs.Laws.{checkAs}
-use Rattle.rule_reader.specs.Read.{readReply, readOutput}
+use Rattle.rule_reader.specs.Read.{replying, leaving}
 
 -- the reading of the tokens from a place on
 abbrev pub tokensRead : ℕ → ℕ → List ℕ → ℕ → Reading
@@ -45,7 +46,7 @@ module _ (o : Option Refusal) (k : ℕ) (answer : C.Check) (e : answer ≡ check
 
 -- the reply and the list that a reading leaves
 abbrev pub Answers : Reply → List ℤ → Reading → List ℤ → Type 0
-Answers reply result r out = (reply ≡ readReply r out) × (result ≡ readOutput r out)
+Answers reply result r out = (reply ≡ replying r (length out)) × (result ≡ leaving r out)
 
 pub refused : (reading : Reading) (r : Refusal) (out : List ℤ) → reading ≡ refuses r → Answers (refusing r) out reading out
 refused reading r out e = (rw e, rw e)
@@ -55,25 +56,25 @@ answered one two reply result out e a = rw (e) a
 
 -- the tokens
 module _ (n c : ℕ) (file : List ℕ) (from : ℕ) (out : List ℤ) where
-  abbrev ws : List Word
-  ws = tokensFrom file from
+  abbrev ts : List Token
+  ts = tokensFrom file from
 
   abbrev fault : Option Refusal
-  fault = badTokens n c (length file) unread ws
+  fault = badTokens n c (length file) unread ts
 
   pub tokens-refused : (r : Refusal) → fault ≡ some r → Answers (refusing r) out (tokensRead n c file from) out
-  tokens-refused r e = refused (tokensRead n c file from) r out (ap (readTokens n c ws) e)
+  tokens-refused r e = refused (tokensRead n c file from) r out (ap (readTokens n c ts) e)
 
   -- all are good, and there are k
-  module _ (good : fault ≡ none) (k : ℕ) (size : k ≡ length ws) where
+  module _ (good : fault ≡ none) (k : ℕ) (size : k ≡ length ts) where
     abbrev list : List ℤ
-    list = map element ws
+    list = map element ts
 
     long : length list ≡ k
-    long = length-map ws element ∙ sym size
+    long = length-map ts element ∙ sym size
 
     given : tokensRead n c file from ≡ gives n c list
-    given = ap (readTokens n c ws) good
+    given = ap (readTokens n c ts) good
 
     pub tokens-short : length out < k → Answers (refusing (refusal 15 k)) out (tokensRead n c file from) out
     tokens-short h =
@@ -102,18 +103,18 @@ module _ (file : List ℕ) (place : ℕ) (here : place ≡ pastComments false 0 
   from-place o e =
       ap (λ (at : ℕ). readFrom file at (header (drop at file))) (sym here) ∙ ap (readFrom file place) e
 
-  pub header-missing : H.the-variants.Malformed ≡ headingAs place (header (drop place file)) → reading file ≡ refuses (refusal 1 place)
+  pub header-missing : H.the-variants.Malformed ≡ headerAs place (header (drop place file)) → reading file ≡ refuses (refusal 1 place)
   header-missing e = go (header (drop place file)) refl e
     where
-      go : (o : Option Header) → header (drop place file) ≡ o → H.the-variants.Malformed ≡ headingAs place o → reading file ≡ refuses (refusal 1 place)
+      go : (o : Option Header) → header (drop place file) ≡ o → H.the-variants.Malformed ≡ headerAs place o → reading file ≡ refuses (refusal 1 place)
       go none f g = from-place none f
       go (some h) f g = let z : _≡_ {A = ℕ} 0 1 = cc in absurd (omega arith)
 
-  pub header-found : (n c next : ℕ) → H.the-variants.Found n c next ≡ headingAs place (header (drop place file))
+  pub header-found : (n c next : ℕ) → H.the-variants.Found n c next ≡ headerAs place (header (drop place file))
       → reading file ≡ cond (outside n c) (refuses (refusal 2 place)) (tokensRead n c file next)
   header-found n c next e = go (header (drop place file)) refl e
     where
-      go : (o : Option Header) → header (drop place file) ≡ o → H.the-variants.Found n c next ≡ headingAs place o
+      go : (o : Option Header) → header (drop place file) ≡ o → H.the-variants.Found n c next ≡ headerAs place o
           → reading file ≡ cond (outside n c) (refuses (refusal 2 place)) (tokensRead n c file next)
       go none f g = let z : _≡_ {A = ℕ} 0 1 = cc in absurd (omega arith)
       go (some h) f g =

@@ -8,43 +8,44 @@ use native.Mathlib.Numerals.{add-one}
 use native.Mathlib.Omega.{arith}
 use lib.Dec.{eqb, ltb, leb}
 use lib.IntN.{ℤ, pos}
-use borrow.Author.Tests.{le-ltb, lt-leb, eq-eqb, ne-eqb, leb-false, ltb-false}
-use Rattle.literal.specs.Literal.{variable}
+use borrow.Author.Tests.{le-ltb, lt-leb, eqb-true, leb-false, ltb-false}
+use Rattle.literal.specs.Literal.{variable, closes}
 use Rattle.refusal.specs.declared.Refusal.{Refusal}
 use Rattle.refusal.specs.Reply.{refusal, first, cause}
 use Rattle.refusal.specs.Laws.{first-last}
 use Rattle.limits.specs.Limits.{maxLiterals}
 use Rattle.rule_list.specs.Laws.{scan}
 use Rattle.rule_list.specs.Sound.{Scan, mayJoin, after}
-use Rattle.dimacs.specs.Format.{Word, signed, element, badToken, badTokens}
+use Rattle.dimacs.specs.Format.{signed, element, badToken, badTokens}
+use Rattle.dimacs.specs.Tokens.{Token}
 use Rattle.rule_reader.specs.declared.tokens.Check as C
 use Rattle.rule_reader.specs.declared.tokens.Check.{Check}
 
 -- the causes 6, 7 and 4 of a number of the list, in their order; 0 without one
-abbrev pub faultOf : ℕ → ℕ → ℕ → ℕ → ℕ → ℕ
-faultOf n count clauses literals v =
-    cond (leb count clauses) 6 (cond (eqb v 0) 0 (cond (leb maxLiterals literals) 7 (cond (ltb n v) 4 0)))
+abbrev pub faultOf : ℕ → ℕ → ℕ → ℕ → ℤ → ℕ
+faultOf n count clauses literals x =
+    cond (leb count clauses) 6 (cond (closes x) 0 (cond (leb maxLiterals literals) 7 (cond (ltb n (variable x)) 4 0)))
 
 abbrev pub checkAs : Option Refusal → ℕ → Check
 checkAs none k = C.the-variants.Good k
 checkAs (some r) k = C.the-variants.Refused r
 
 -- what no fault tells
-pub open-clause : (n c k m v : ℕ) → faultOf n c k m v ≡ 0 → k < c
-open-clause n c k m v e = go (leb c k) refl e
+pub open-clause : (n c k m : ℕ) (x : ℤ) → faultOf n c k m x ≡ 0 → k < c
+open-clause n c k m x e = go (leb c k) refl e
   where
-    go : (t : Bool) → leb c k ≡ t → _≡_ {A = ℕ} (cond t 6 (cond (eqb v 0) 0 (cond (leb maxLiterals m) 7 (cond (ltb n v) 4 0)))) 0 → k < c
+    go : (t : Bool) → leb c k ≡ t → _≡_ {A = ℕ} (cond t 6 (cond (closes x) 0 (cond (leb maxLiterals m) 7 (cond (ltb n (variable x)) 4 0)))) 0 → k < c
     go true f g = absurd (omega arith)
     go false f g = leb-false c k f
 
-pub room-left : (n c k m v : ℕ) → faultOf n c k m v ≡ 0 → (v ≡ 0 → ⊥) → (m < maxLiterals) × (v ≤ n)
-room-left n c k m v e z = go (leb c k) (leb maxLiterals m) refl (ltb n v) refl (rw (ne-eqb v 0 z) at e)
+pub room-left : (n c k m : ℕ) (x : ℤ) → faultOf n c k m x ≡ 0 → closes x ≡ false → (m < maxLiterals) × (variable x ≤ n)
+room-left n c k m x e z = go (leb c k) (leb maxLiterals m) refl (ltb n (variable x)) refl (rw (z) at e)
   where
-    go : (t u : Bool) → leb maxLiterals m ≡ u → (o : Bool) → ltb n v ≡ o → _≡_ {A = ℕ} (cond t 6 (cond u 7 (cond o 4 0))) 0 → (m < maxLiterals) × (v ≤ n)
+    go : (t u : Bool) → leb maxLiterals m ≡ u → (o : Bool) → ltb n (variable x) ≡ o → _≡_ {A = ℕ} (cond t 6 (cond u 7 (cond o 4 0))) 0 → (m < maxLiterals) × (variable x ≤ n)
     go true u f o h g = absurd (omega arith)
     go false true f o h g = absurd (omega arith)
     go false false f true h g = absurd (omega arith)
-    go false false f false h g = (leb-false maxLiterals m f, ltb-false n v h)
+    go false false f false h g = (leb-false maxLiterals m f, ltb-false n (variable x) h)
 
 -- the first cause of a number of the list, by its tests: every clause is closed, it closes one, no literal may come, it is above n, it may join
 abbrev tests : ℕ → Bool → Bool → Bool → Bool → Bool → Option Refusal
@@ -60,79 +61,66 @@ faulted place false false false true j number e h = ap (λ (k : ℕ). some (refu
 faulted place false false false false j number e h = absurd (h e)
 
 -- a token in front of others, after k clauses, m literals and those of the open clause
-module _ (n c size k m : ℕ) (clause : List ℤ) (place : ℕ) (bytes : List ℕ) (ws : List Word) where
+module _ (n c size k m : ℕ) (clause : List ℤ) (place : ℕ) (bytes : List ℕ) (ts : List Token) where
   abbrev from-here : Option Refusal
-  from-here = badTokens n c size (scan k m clause) (record { place = place; bytes = bytes } ∷ ws)
+  from-here = badTokens n c size (scan k m clause) (record { place = place; bytes = bytes } ∷ ts)
 
   pub refused-malformed : signed bytes ≡ none → from-here ≡ some (refusal 3 place)
   refused-malformed e = rw e
 
-  -- it gives x, of the variable v
-  module _ (x : ℤ) (e : signed bytes ≡ some x) (v : ℕ) (same : v ≡ variable x) where
-    tested : badToken n c (scan k m clause) place (some x) ≡ tests place (leb c k) (eqb v 0) (leb maxLiterals m) (ltb n v) (mayJoin clause x)
-    tested = ap (λ (u : ℕ). tests place (leb c k) (eqb u 0) (leb maxLiterals m) (ltb n u) (mayJoin clause x)) (sym same)
-
-    leads : (o : Option Refusal) → badToken n c (scan k m clause) place (some x) ≡ o
-        → from-here ≡ first (o ∷ badTokens n c size (after (scan k m clause) x) ws ∷ [])
+  -- it gives x
+  module _ (x : ℤ) (e : signed bytes ≡ some x) where
+    leads : (o : Option Refusal) → tests place (leb c k) (closes x) (leb maxLiterals m) (ltb n (variable x)) (mayJoin clause x) ≡ o
+        → from-here ≡ first (o ∷ badTokens n c size (after (scan k m clause) x) ts ∷ [])
     leads o f =
-        ap (λ (t : Option ℤ). first (badToken n c (scan k m clause) place t ∷ badTokens n c size (after (scan k m clause) (Option·getD t (pos 0))) ws ∷ [])) e
-        ∙ ap (λ (t : Option Refusal). first (t ∷ badTokens n c size (after (scan k m clause) x) ws ∷ [])) f
+        ap (λ (t : Option ℤ). first (badToken n c (scan k m clause) place t ∷ badTokens n c size (after (scan k m clause) (Option·getD t (pos 0))) ts ∷ [])) e
+        ∙ ap (λ (t : Option Refusal). first (t ∷ badTokens n c size (after (scan k m clause) x) ts ∷ [])) f
 
-    pub refused-fault : (number : ℕ) → number ≡ faultOf n c k m v → (number ≡ 0 → ⊥) → from-here ≡ some (refusal number place)
+    pub refused-fault : (number : ℕ) → number ≡ faultOf n c k m x → (number ≡ 0 → ⊥) → from-here ≡ some (refusal number place)
     refused-fault number f z =
-        leads (some (refusal number place))
-        (tested ∙ faulted place (leb c k) (eqb v 0) (leb maxLiterals m) (ltb n v) (mayJoin clause x) number f z)
+        leads (some (refusal number place)) (faulted place (leb c k) (closes x) (leb maxLiterals m) (ltb n (variable x)) (mayJoin clause x) number f z)
 
-    module _ (fine : faultOf n c k m v ≡ 0) where
+    module _ (fine : faultOf n c k m x ≡ 0) where
       more : leb c k ≡ false
-      more = lt-leb c k (open-clause n c k m v fine)
+      more = lt-leb c k (open-clause n c k m x fine)
 
-      pub accepted-zero : v ≡ 0 → from-here ≡ badTokens n c size (scan (k + 1) m []) ws
+      -- what comes after it
+      goes-on : (s : Scan) → after (scan k m clause) x ≡ s → first (none ∷ badTokens n c size (after (scan k m clause) x) ts ∷ []) ≡ badTokens n c size s ts
+      goes-on s f = ap (λ (t : Scan). first (badTokens n c size t ts ∷ [])) f ∙ first-last (badTokens n c size s ts)
+
+      pub accepted-zero : closes x ≡ true → from-here ≡ badTokens n c size (scan (k + 1) m []) ts
       accepted-zero z =
-          let zero-is : eqb v 0 ≡ true = eq-eqb v 0 z in
-          let below : ltb n v ≡ false = le-ltb n v (omega arith) in
-          let next : after (scan k m clause) x ≡ scan (k + 1) m [] =
-          ap (λ (u : ℕ). cond (eqb u 0) (scan (suc k) m []) (scan k (suc m) (x ∷ clause))) (sym same)
-          ∙ ap (λ (b : Bool). cond b (scan (suc k) m []) (scan k (suc m) (x ∷ clause))) zero-is
-          ∙ ap (λ (j : ℕ). scan j m []) (sym (add-one k)) in
-          leads none (tested ∙ (λ i. tests place (more i) (zero-is i) (leb maxLiterals m) (below i) (mayJoin clause x)))
-          ∙ ap (λ (s : Scan). first (badTokens n c size s ws ∷ [])) next
-          ∙ first-last (badTokens n c size (scan (k + 1) m []) ws)
+          let below : ltb n (variable x) ≡ false = le-ltb n (variable x) (omega (arith, eqb-true (variable x) 0 z)) in
+          let next : after (scan k m clause) x ≡ scan (k + 1) m [] = rw (z) (ap (λ (j : ℕ). scan j m []) (sym (add-one k))) in
+          leads none (λ i. tests place (more i) (z i) (leb maxLiterals m) (below i) (mayJoin clause x)) ∙ goes-on (scan (k + 1) m []) next
 
-      module _ (z : v ≡ 0 → ⊥) where
-        literal-is : eqb v 0 ≡ false
-        literal-is = ne-eqb v 0 z
-
+      module _ (z : closes x ≡ false) where
         few : leb maxLiterals m ≡ false
-        few = lt-leb maxLiterals m (room-left n c k m v fine z .0)
+        few = lt-leb maxLiterals m (room-left n c k m x fine z .0)
 
-        below : ltb n v ≡ false
-        below = le-ltb n v (room-left n c k m v fine z .1)
+        below : ltb n (variable x) ≡ false
+        below = le-ltb n (variable x) (room-left n c k m x fine z .1)
 
-        joins : (b : Bool) → mayJoin clause x ≡ b → badToken n c (scan k m clause) place (some x) ≡ tests place false false false false b
-        joins b j = tested ∙ (λ i. tests place (more i) (literal-is i) (few i) (below i) (j i))
+        joins : (b : Bool) → mayJoin clause x ≡ b
+            → tests place (leb c k) (closes x) (leb maxLiterals m) (ltb n (variable x)) (mayJoin clause x) ≡ tests place false false false false b
+        joins b j = λ i. tests place (more i) (z i) (few i) (below i) (j i)
 
         pub refused-twice : mayJoin clause x ≡ false → from-here ≡ some (refusal 5 place)
         refused-twice j = leads (some (refusal 5 place)) (joins false j)
 
-        pub accepted-literal : mayJoin clause x ≡ true → from-here ≡ badTokens n c size (scan k (m + 1) (x ∷ clause)) ws
+        pub accepted-literal : mayJoin clause x ≡ true → from-here ≡ badTokens n c size (scan k (m + 1) (x ∷ clause)) ts
         accepted-literal j =
-            let next : after (scan k m clause) x ≡ scan k (m + 1) (x ∷ clause) =
-            ap (λ (u : ℕ). cond (eqb u 0) (scan (suc k) m []) (scan k (suc m) (x ∷ clause))) (sym same)
-            ∙ ap (λ (b : Bool). cond b (scan (suc k) m []) (scan k (suc m) (x ∷ clause))) literal-is
-            ∙ ap (λ (i : ℕ). scan k i (x ∷ clause)) (sym (add-one m)) in
-            leads none (joins true j)
-            ∙ ap (λ (s : Scan). first (badTokens n c size s ws ∷ [])) next
-            ∙ first-last (badTokens n c size (scan k (m + 1) (x ∷ clause)) ws)
+            let next : after (scan k m clause) x ≡ scan k (m + 1) (x ∷ clause) = rw (z) (ap (λ (i : ℕ). scan k i (x ∷ clause)) (sym (add-one m))) in
+            leads none (joins true j) ∙ goes-on (scan k (m + 1) (x ∷ clause)) next
 
 -- every token is well formed
 abbrev pub isSome : Option ℤ → Bool
 isSome none = false
 isSome (some x) = true
 
-abbrev pub readable : List Word → Bool
+abbrev pub readable : List Token → Bool
 readable [] = true
-readable (w ∷ ws) = isSome (signed (w .bytes)) && readable ws
+readable (t ∷ ts) = isSome (signed (t .bytes)) && readable ts
 
 -- so are those of a good file
 first-passed : (o p : Option Refusal) → first (o ∷ p ∷ []) ≡ none → (o ≡ none) × (p ≡ none)
@@ -144,8 +132,8 @@ well-formed : (n c : ℕ) (s : Scan) (place : ℕ) (o : Option ℤ) → badToken
 well-formed n c s place none e = absurd (Option·some-ne-none (refusal 3 place) e)
 well-formed n c s place (some x) e = refl
 
-pub passed-readable : (ws : List Word) (n c size : ℕ) (s : Scan) → badTokens n c size s ws ≡ none → readable ws ≡ true
+pub passed-readable : (ts : List Token) (n c size : ℕ) (s : Scan) → badTokens n c size s ts ≡ none → readable ts ≡ true
 passed-readable [] n c size s e = refl
-passed-readable (w ∷ ws) n c size s e =
-    let parts = first-passed (badToken n c s (w .place) (signed (w .bytes))) (badTokens n c size (after s (element w)) ws) e in
-    rw (well-formed n c s (w .place) (signed (w .bytes)) (parts .0)) (passed-readable ws n c size (after s (element w)) (parts .1))
+passed-readable (t ∷ ts) n c size s e =
+    let parts = first-passed (badToken n c s (t .place) (signed (t .bytes))) (badTokens n c size (after s (element t)) ts) e in
+    rw (well-formed n c s (t .place) (signed (t .bytes)) (parts .0)) (passed-readable ts n c size (after s (element t)) (parts .1))

@@ -1,12 +1,13 @@
 // The second pass over a rule file: its numbers, put into a list that has room for them.
-use rule_tokens::Token;
+use rule_tokens::NextToken;
 ghost use mathlib.Core.Bool.{true};
 ghost use mathlib.Core.List.{map};
 ghost use mathlib.Core.Path.{_≡_};
 ghost use Prim.Native.Nat.{_≤_};
 ghost use lib.ListN.{length};
 ghost use lib.Seq.{sets};
-ghost use Rattle.dimacs.specs.Format.{tokensFrom, element};
+ghost use Rattle.dimacs.specs.Format.{element};
+ghost use Rattle.dimacs.specs.Tokens.{tokensFrom};
 ghost use Rattle.rule_reader.specs.Laws.{readable};
 
 // Fills a list with the numbers of the tokens from a place on, which are all well formed.
@@ -18,13 +19,13 @@ pub fn fill_rules(file: &[u8], from: usize, rules: &mut [i32])
     let mut i = 0;
     loop {
         match token_stream::next_token(file, at) {
-            Token::End => {
+            NextToken::End => {
                 return;
             }
-            Token::Malformed(_) => {
+            NextToken::Malformed(_) => {
                 return;
             }
-            Token::Element {
+            NextToken::Element {
                 place: _,
                 value,
                 next,

@@ -6,14 +6,15 @@ mod tokens;
 use limits::MAX_CLAUSES;
 use limits::MAX_VARIABLES;
 use refusal::Refusal;
-use rule_header::Heading;
+use rule_header::ReadHeader;
 use tokens::Check;
 ghost use mathlib.Core.Path.{_≡_};
 ghost use Prim.Native.Nat.{_≤_};
+ghost use lib.ListN.{length};
 ghost use Rattle.limits.specs.Limits.{maxVariables, maxClauses};
-ghost use Rattle.dimacs.specs.Format.{reading, outside};
+ghost use Rattle.dimacs.specs.Format.{outside};
 ghost use Rattle.rule_reader.specs.Answers.{tokensRead};
-ghost use Rattle.rule_reader.specs.Read.{readReply, readOutput, replyOf};
+ghost use Rattle.rule_reader.specs.Read.{replying, leaving, readReply, readOutput, replyOf};
 
 // What a file holds: N, C and the length of its list.
 pub struct RuleCounts {
@@ -30,13 +31,13 @@ pub enum ReadRules {
 
 // Reads a rule file into a list.
 pub fn read_rules(file: &[u8], rules: &mut [i32]) -> ReadRules
-    ensures reply { λ r. ⌜ replyOf r ≡ readReply (reading (now (file .entry))) (now (rules .entry)) ⌝ }
-    ensures output { λ r. ⌜ now (rules .exit) ≡ readOutput (reading (now (file .entry))) (now (rules .entry)) ⌝ }
+    ensures reply { λ r. ⌜ replyOf r ≡ readReply (now (file .entry)) (length (now (rules .entry))) ⌝ }
+    ensures output { λ r. ⌜ now (rules .exit) ≡ readOutput (now (file .entry)) (now (rules .entry)) ⌝ }
 {
     let place = rule_header::past_comments(file);
-    match rule_header::heading_at(file, place) {
-        Heading::Malformed => ReadRules::Refused(Refusal { number: 1, place }),
-        Heading::Found {
+    match rule_header::header_at(file, place) {
+        ReadHeader::Malformed => ReadRules::Refused(Refusal { number: 1, place }),
+        ReadHeader::Found {
             variables,
             clauses,
             next,
@@ -65,8 +66,8 @@ fn is_outside(n: usize, count: usize) -> bool
 // Reads the tokens from a place on, if the list has room for their numbers.
 fn read_tokens(file: &[u8], from: usize, n: usize, count: usize, rules: &mut [i32]) -> ReadRules
     requires { ⌜ (n ≤ maxVariables) × (count ≤ maxClauses) ⌝ }
-    ensures reply { λ r. ⌜ replyOf r ≡ readReply (tokensRead n count (now (file .entry)) from) (now (rules .entry)) ⌝ }
-    ensures output { λ r. ⌜ now (rules .exit) ≡ readOutput (tokensRead n count (now (file .entry)) from) (now (rules .entry)) ⌝ }
+    ensures reply { λ r. ⌜ replyOf r ≡ replying (tokensRead n count (now (file .entry)) from) (length (now (rules .entry))) ⌝ }
+    ensures output { λ r. ⌜ now (rules .exit) ≡ leaving (tokensRead n count (now (file .entry)) from) (now (rules .entry)) ⌝ }
 {
     match tokens::check_tokens(file, from, n, count) {
         Check::Refused(r) => ReadRules::Refused(r),

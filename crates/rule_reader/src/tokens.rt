@@ -1,9 +1,8 @@
 // The first pass over a rule file: whether its tokens are good, and how many there are.
 use limits::MAX_LITERALS;
 use literal::Clause;
-use literal::Variable;
 use refusal::Refusal;
-use rule_tokens::Token;
+use rule_tokens::NextToken;
 ghost use mathlib.Core.Bool.{false, _||_};
 ghost use mathlib.Core.Path.{_≡_};
 ghost use Prim.Native.Nat.{_+_, _≤_};
@@ -12,7 +11,8 @@ ghost use lib.ListN.{length};
 ghost use Rattle.limits.specs.Limits.{maxVariables, maxClauses, maxLiterals};
 ghost use Rattle.refusal.specs.Reply.{cause};
 ghost use Rattle.rule_list.specs.Sound.{unread};
-ghost use Rattle.dimacs.specs.Format.{tokensFrom, badTokens};
+ghost use Rattle.dimacs.specs.Format.{badTokens};
+ghost use Rattle.dimacs.specs.Tokens.{tokensFrom};
 ghost use Rattle.rule_reader.specs.Laws.{faultOf, checkAs};
 
 // Refused, or how many numbers the list has.
@@ -23,18 +23,19 @@ pub enum Check {
 
 // The cause to refuse a number of the list, but for a variable that its clause has already: 6 where
 // every clause is closed, 7 where no more literals may come, 4 above n; 0 without a cause.
-fn fault_of(n: usize, count: usize, clauses: usize, literals: usize, v: Variable) -> usize
-    ensures { λ r. ⌜ r ≡ faultOf n count clauses literals (v .0) ⌝ }
+fn fault_of(n: usize, count: usize, clauses: usize, literals: usize, x: i32) -> usize
+    ensures { λ r. ⌜ r ≡ faultOf n count clauses literals x ⌝ }
 {
     if count <= clauses {
         return 6;
     }
-    if v.0 == 0 {
+    if literal::closes(x) {
         return 0;
     }
     if MAX_LITERALS <= literals {
         return 7;
     }
+    let v = literal::variable_of(x);
     if n < v.0 { 4 } else { 0 }
 }
 
@@ -50,22 +51,22 @@ pub fn check_tokens(file: &[u8], from: usize, n: usize, count: usize) -> Check
     let mut at = from;
     loop {
         match token_stream::next_token(file, at) {
-            Token::End => {
+            NextToken::End => {
                 return finish(file.len(), count, clauses, literals, is_open);
             }
-            Token::Malformed(place) => {
+            NextToken::Malformed(place) => {
                 return Check::Refused(Refusal { number: 3, place });
             }
-            Token::Element { place, value, next } => {
-                let v = literal::variable_of(value);
-                let number = fault_of(n, count, clauses, literals, v);
+            NextToken::Element { place, value, next } => {
+                let number = fault_of(n, count, clauses, literals, value);
                 if number != 0 {
                     return Check::Refused(Refusal { number, place });
                 }
-                if v.0 == 0 {
+                if literal::closes(value) {
                     clauses += 1;
                     is_open = false;
                 } else {
+                    let v = literal::variable_of(value);
                     let clause = Clause(clauses + 1);
                     if rule_list::is_stamped(&stamps, v, clause) {
                         return Check::Refused(Refusal { number: 5, place });

@@ -1,16 +1,16 @@
 // The tokens of a rule file.
-mod number;
+mod signed;
 
-use number::Numeral;
+use signed::Signed;
 ghost use mathlib.Core.Path.{_≡_};
 ghost use Prim.Native.Nat.{_+_};
 ghost use lib.ListN.{length, drop};
-ghost use Rattle.dimacs.specs.Format.{leading, isGap, inToken, tokensFrom};
-ghost use Rattle.rule_tokens.specs.Token.{firstToken};
+ghost use Rattle.dimacs.specs.Tokens.{leading, inToken, tokensFrom};
+ghost use Rattle.rule_tokens.specs.NextToken.{nextOf, firstPlace};
 
-// What stands at an offset: nothing more, a malformed token at a place, or a number of the list at a
+// What comes next from an offset on: no token, a malformed one at a place, or a number of the list at a
 // place, with the offset past it.
-pub enum Token {
+pub enum NextToken {
     End,
     Malformed(usize),
     Element {
@@ -21,17 +21,17 @@ pub enum Token {
 }
 
 // The next token from an offset on.
-pub fn token_at(file: &[u8], at: usize) -> Token
-    ensures { λ r. ⌜ r ≡ firstToken (tokensFrom (now (file .entry)) at) ⌝ }
+pub fn token_at(file: &[u8], at: usize) -> NextToken
+    ensures { λ r. ⌜ r ≡ nextOf (tokensFrom (now (file .entry)) at) ⌝ }
 {
-    let start = skip_blanks(file, at);
+    let start = token_start(file, at);
     if file.len() <= start {
-        return Token::End;
+        return NextToken::End;
     }
     let next = token_end(file, start);
-    match number::numeral_of(&file[start..next]) {
-        Numeral::Malformed => Token::Malformed(start),
-        Numeral::Value(value) => Token::Element {
+    match signed::signed_of(&file[start..next]) {
+        Signed::Malformed => NextToken::Malformed(start),
+        Signed::Value(value) => NextToken::Element {
             place: start,
             value,
             next,
@@ -39,9 +39,10 @@ pub fn token_at(file: &[u8], at: usize) -> Token
     }
 }
 
-// Where the blanks from an offset on end.
-fn skip_blanks(file: &[u8], from: usize) -> usize
-    ensures { λ r. ⌜ r ≡ from + length (leading isGap (drop from (now (file .entry)))) ⌝ }
+// Where the first token from an offset on begins, or the file's length if none does. Whatever is to be
+// passed over between tokens is passed over here.
+fn token_start(file: &[u8], from: usize) -> usize
+    ensures { λ r. ⌜ r ≡ firstPlace (length (now (file .entry))) (tokensFrom (now (file .entry)) from) ⌝ }
 {
     let mut i = from;
     while i < file.len() {
@@ -50,7 +51,7 @@ fn skip_blanks(file: &[u8], from: usize) -> usize
         }
         i += 1;
     }
-    i
+    file.len()
 }
 
 // Where the token that begins at an offset ends.

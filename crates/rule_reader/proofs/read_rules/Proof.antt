@@ -12,8 +12,8 @@ use Rattle.rule_reader.proofs.read_rules.Tie as tie
 past-comments-requires : tie.Need-past-comments-requires
 past-comments-requires c κs = search needs
 
-heading-at-requires : tie.Need-heading-at-requires
-heading-at-requires c κs = search needs
+header-at-requires : tie.Need-header-at-requires
+header-at-requires c κs = search needs
 
 enum-told : tie.Need-enum-told
 enum-told c = search needs
@@ -32,7 +32,7 @@ read : (c : tie.After-known-told)
 read c =
     header-found (c .before .before .before .before .before .before .args .file .now) (c .before .before .before .before .past-comments .result) (c .before .before .before .before .past-comments .ensures .0)
     (c .before .variables .given .0 .0) (c .before .variables .given .0 .1 .0) (c .before .variables .given .0 .1 .1 .0)
-    (sym (c .before .variables .given .1) ∙ c .before .before .before .heading-at .ensures)
+    (sym (c .before .variables .given .1) ∙ c .before .before .before .header-at .ensures)
 
 returns : tie.Need-returns
 returns c =
@@ -52,7 +52,7 @@ returns-2 c =
     let place = c .before .before .before .past-comments .result in
     let file = c .before .before .before .before .before .args .file .now in
     refused (reading file) (refusal 1 place) (c .before .before .before .before .before .args .rules .now)
-    (header-missing file place (c .before .before .before .past-comments .ensures .0) (sym (c .enum-told .given .1) ∙ c .before .before .heading-at .ensures))
+    (header-missing file place (c .before .before .before .past-comments .ensures .0) (sym (c .enum-told .given .1) ∙ c .before .before .header-at .ensures))
 
 same-length : tie.Need-same-length
 same-length c = search needs
@@ -72,7 +72,7 @@ read-rules-spec =
     tie.close
     (tie.spec
     past-comments-requires
-    heading-at-requires
+    header-at-requires
     enum-told
     enum-known-variables
     is-outside-requires

@@ -5,7 +5,8 @@ use mathlib.Core.Option.{none}
 use native.Mathlib.Omega.{arith}
 use lib.ListN.{length}
 use Rattle.rule_list.specs.Sound.{unread}
-use Rattle.dimacs.specs.Format.{Word, tokensFrom, badTokens}
+use Rattle.dimacs.specs.Format.{badTokens}
+use Rattle.dimacs.specs.Tokens.{Token, tokensFrom}
 use Rattle.rule_reader.specs.Answers.{check-refused, check-good, tokens-refused, tokens-short, tokens-read}
 use Rattle.rule_reader.specs.Laws.{passed-readable}
 use borrow.Author.Needs.{needs}
@@ -27,8 +28,8 @@ good : (c : tie.After-known-told2)
     × (c .before .needed .given .0 .0 ≡ length (tokensFrom (c .before .before .before .before .before .args .file .now) (c .before .before .before .before .before .args .from)))
 good c =
     let args = c .before .before .before .before .before .args in
-    let ws : List Word = tokensFrom (args .file .now) (args .from) in
-    check-good (badTokens (args .n) (args .count) (length (args .file .now)) unread ws) (length ws) (c .before .before .before .check-tokens .result)
+    let ts : List Token = tokensFrom (args .file .now) (args .from) in
+    check-good (badTokens (args .n) (args .count) (length (args .file .now)) unread ts) (length ts) (c .before .before .before .check-tokens .result)
     (c .before .before .before .check-tokens .ensures) (c .before .needed .given .0 .0) (c .before .needed .given .1)
 
 returns : tie.Need-returns
@@ -39,16 +40,16 @@ returns c =
 fill-rules-requires : tie.Need-fill-rules-requires
 fill-rules-requires c κs =
     let args = c .before .before .before .before .before .before .before .args in
-    let ws : List Word = tokensFrom (args .file .now) (args .from) in
-    (passed-readable ws (args .n) (args .count) (length (args .file .now)) unread (good (c .before .before) .0), omega (arith, good (c .before .before) .1, c .before .if1 .left))
+    let ts : List Token = tokensFrom (args .file .now) (args .from) in
+    (passed-readable ts (args .n) (args .count) (length (args .file .now)) unread (good (c .before .before) .0), omega (arith, good (c .before .before) .1, c .before .if1 .left))
 
 returns-2 : tie.Need-returns-2
 returns-2 c =
     let args = c .before .before .before .before .before .args in
-    let ws : List Word = tokensFrom (args .file .now) (args .from) in
+    let ts : List Token = tokensFrom (args .file .now) (args .from) in
     let r = c .before .r .given .0 .0 in
     tokens-refused (args .n) (args .count) (args .file .now) (args .from) (args .rules .now) r
-    (check-refused (badTokens (args .n) (args .count) (length (args .file .now)) unread ws) (length ws) (c .before .before .before .check-tokens .result) (c .before .before .before .check-tokens .ensures) r (c .before .r .given .1))
+    (check-refused (badTokens (args .n) (args .count) (length (args .file .now)) unread ts) (length ts) (c .before .before .before .check-tokens .result) (c .before .before .before .check-tokens .ensures) r (c .before .r .given .1))
 
 same-length : tie.Need-same-length
 same-length c = search needs

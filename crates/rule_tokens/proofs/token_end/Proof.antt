@@ -7,7 +7,7 @@ use lib.ListN.{length, getD, drop}
 use borrow.Author.Tests.{eq-eqb, ne-eqb}
 use borrow.Author.Needs.{needs}
 use Rattle.dimacs.specs.Class.{blank, classOf}
-use Rattle.dimacs.specs.Format.{leading, inToken}
+use Rattle.dimacs.specs.Tokens.{leading, inToken}
 use Rattle.dimacs.specs.Laws.{run-more, run-stop, run-past}
 use Rattle.rule_tokens.proofs.token_end.Statement.{statement}
 use Rattle.rule_tokens.proofs.token_end.Tie as tie

@@ -43,14 +43,14 @@ use denote.Triple.Table.{entered, cited}
 use denote.Triple.Walked.{says, Stays, stay-none, walkOf, goes-none, Walks, ends-at, walked, walk-meets}
 use denote.Exit.{yes}
 use denote.Triple.Clauses.{ensured, lasts}
-use Rattle.dimacs.specs.Format.{tokensFrom}
-use Rattle.rule_tokens.specs.Token.{firstToken}
-use Rattle.token_stream.specs.declared.Tokens.{Tokens}
-use Rattle.rule_tokens.specs.declared.Token.{Token}
-use Rattle.token_stream.proofs.Tokens as T
-use Rattle.token_stream.proofs.Tokens.Laws as T′
-use Rattle.rule_tokens.proofs.Token as S
-use Rattle.rule_tokens.proofs.Token.Laws as S′
+use Rattle.dimacs.specs.Tokens.{tokensFrom}
+use Rattle.rule_tokens.specs.NextToken.{nextOf}
+use Rattle.token_stream.specs.declared.TokenStream.{TokenStream}
+use Rattle.rule_tokens.specs.declared.NextToken.{NextToken}
+use Rattle.token_stream.proofs.TokenStream as T
+use Rattle.token_stream.proofs.TokenStream.Laws as T′
+use Rattle.rule_tokens.proofs.NextToken as S
+use Rattle.rule_tokens.proofs.NextToken.Laws as S′
 use Rattle.rule_tokens.proofs.token_at as token
 use Rattle.rule_tokens.proofs.token_at.Symbol as token-def
 use Rattle.rule_tokens.proofs.token_at.Symbol.{name as #rule-tokens·token-at}
@@ -72,7 +72,7 @@ module _ {M : Type 1} (𝓤 : URA M) (H : Heap 𝓤) (A : Atoms 𝓤) (mem : Mem
   abbrev TokenAt : Contract 𝓤
   TokenAt = tripleOf 𝓤 H A token.signature (token.spec 𝓤 H A mem run)
 
-module _ {M : Type 1} (𝓤 : URA M) (H : Heap 𝓤) (A : Atoms 𝓤) (W : Given 𝓤 H A) (mem : Memory → SProp 𝓤) (run : Routine → Fun 𝓤) (κ : Lft) (q : Share) (d : Tokens) where
+module _ {M : Type 1} (𝓤 : URA M) (H : Heap 𝓤) (A : Atoms 𝓤) (W : Given 𝓤 H A) (mem : Memory → SProp 𝓤) (run : Routine → Fun 𝓤) (κ : Lft) (q : Share) (d : TokenStream) where
   abbrev mach : Val
   mach = T′.lowered d
 
@@ -80,8 +80,8 @@ module _ {M : Type 1} (𝓤 : URA M) (H : Heap 𝓤) (A : Atoms 𝓤) (W : Given
   abbrev v : Val
   v = sliceVal (d .file .ptr) (length (d .file .now))
 
-  abbrev found : Token
-  found = firstToken (tokensFrom (now (d .file)) (d .at))
+  abbrev found : NextToken
+  found = nextOf (tokensFrom (now (d .file)) (d .at))
 
   abbrev Post : Val → SProp 𝓤
   Post = walkOf 𝓤 H A first-token.ended stayed (first-token.clauses 𝓤 H A mem run) .post (((κ, tt), (q, tt), tt, (d, tt), (mach ∷ [], tt)), tt)
@@ -120,10 +120,10 @@ module _ {M : Type 1} (𝓤 : URA M) (H : Heap 𝓤) (A : Atoms 𝓤) (W : Given
       move ! (2 ∷ 0 ∷ []) $ use2 W (raw (TokenAt 𝓤 H A mem run .pre to)) asked $ frame ! $ done !)
 
   -- of the callee's `ensured`, the clause alone: it has no `&mut`, so what is said of last values is dropped
-  said : (r : Token) → ent 𝓤 (ensured 𝓤 H A token.ended (token.clauses 𝓤 H A mem run) (κ, tt) (d .file, (d .at, tt)) tt r) (fact 𝓤 (r ≡ found))
+  said : (r : NextToken) → ent 𝓤 (ensured 𝓤 H A token.ended (token.clauses 𝓤 H A mem run) (κ, tt) (d .file, (d .at, tt)) tt r) (fact 𝓤 (r ≡ found))
   said r = exE 𝓤 _ (λ ws. snd∗ 𝓤 (sem 𝓤 H A (lasts token.ended (κ, tt) (d .file, (d .at, tt)) ws)) (fact 𝓤 (r ≡ found)))
 
-  exits : (r : Token) (u : Val) → r ≡ found → ent 𝓤 (⋆ 𝓤 H A (‵ (S.the-row .own r (u ∷ [])) ∷ (‵ (flft κ q) ⊛ ‵ ftrue) ∷ ‵ Own ∷ [])) (Post u)
+  exits : (r : NextToken) (u : Val) → r ≡ found → ent 𝓤 (⋆ 𝓤 H A (‵ (S.the-row .own r (u ∷ [])) ∷ (‵ (flft κ q) ⊛ ‵ ftrue) ∷ ‵ Own ∷ [])) (Post u)
   exits r u e =
       qed W (‵ (S.the-row .own r (u ∷ [])) ∷ (‵ (flft κ q) ⊛ ‵ ftrue) ∷ ‵ Own ∷ []) ∵
       suffices ! _ (ends-at 𝓤 H A first-token.ended stayed (first-token.clauses 𝓤 H A mem run) W (((κ, tt), (q, tt), tt, (d, tt), (mach ∷ [], tt)), tt) u r (tt, tt) (tt, tt)) $ says ! e $
@@ -138,7 +138,7 @@ module _ {M : Type 1} (𝓤 : URA M) (H : Heap 𝓤) (A : Atoms 𝓤) (W : Given
         assigns ! (of-opd ! (load ! (from ! (fld ! refl (stop !))) (look-in ! 4 (sub ! 1 refl (whole !))))) (from ! (stop !)) (init ! 0 refl (tt, wt .1 .1 .0)) $
         move ! (8 ∷ []) $ use1 W (raw (TokenAt 𝓤 H A mem run .pre to) ⊛ ‵ Own) (apart (wt .1 .1 .0 .fits)) $ split ! $
         calls-at ! fm (TokenAt 𝓤 H A mem run) known to (and-then ! (load ! (from ! (stop !)) (look ! 4 refl)) (and-then ! (load ! (from ! (stop !)) (look ! 2 refl)) (no-more !))) (λ u.
-        use1 W (later (some (λ (r : Token). ((‵ (flft κ q) ⊛ ‵ ftrue) ⊛ ‵ (S.the-row .own r (u ∷ []))) ⊛ raw (ensured 𝓤 H A token.ended (token.clauses 𝓤 H A mem run) (κ, tt) (d .file, (d .at, tt)) tt r)))) (id⊢ 𝓤 _) $ await ! tt $ pick ! (λ r.
+        use1 W (later (some (λ (r : NextToken). ((‵ (flft κ q) ⊛ ‵ ftrue) ⊛ ‵ (S.the-row .own r (u ∷ []))) ⊛ raw (ensured 𝓤 H A token.ended (token.clauses 𝓤 H A mem run) (κ, tt) (d .file, (d .at, tt)) tt r)))) (id⊢ 𝓤 _) $ await ! tt $ pick ! (λ r.
         split ! $ move ! (1 ∷ []) $ use1 W (raw (fact 𝓤 (r ≡ found))) (said r) $ heard ! (r ≡ found) (λ e. split ! $ move ! (1 ∷ []) $
         -- [the result; the token; what the struct owns; _3; …; _2; …; _1; …; room for _0; …]
         peeks ! S.the-row (Is S.the-row) (shows 𝓤 H A S.the-row) r (u ∷ []) (λ is.

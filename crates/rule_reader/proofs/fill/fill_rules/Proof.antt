@@ -4,9 +4,9 @@ use Prim.Native.Nat.{_-_}
 use borrow.Author.Needs.{needs}
 use native.Mathlib.Omega.{arith}
 use lib.ListN.{length}
-use Rattle.rule_tokens.specs.declared.Token as T
-use Rattle.rule_tokens.specs.Token.{firstToken}
-use Rattle.dimacs.specs.Format.{tokensFrom}
+use Rattle.rule_tokens.specs.declared.NextToken as T
+use Rattle.rule_tokens.specs.NextToken.{nextOf}
+use Rattle.dimacs.specs.Tokens.{tokensFrom}
 use Rattle.rule_reader.proofs.Filling.{Filling, filled, never, later, inside, stored}
 use Rattle.rule_reader.proofs.fill.fill_rules.Statement.{statement}
 use Rattle.rule_reader.proofs.fill.fill_rules.Tie as tie
@@ -46,7 +46,7 @@ enum-known-value c = search needs
 
 -- the number that was found
 found : (c : tie.After-known-told Inv-loop μ-loop)
-    → T.the-variants.Element (c .before .value .given .0 .0) (c .before .value .given .0 .1 .0) (c .before .value .given .0 .1 .1 .0) ≡ firstToken (tokensFrom (c .before .before .before .before .before .before .args .file .now) (c .before .before .before .before .loop .at))
+    → T.the-variants.Element (c .before .value .given .0 .0) (c .before .value .given .0 .1 .0) (c .before .value .given .0 .1 .1 .0) ≡ nextOf (tokensFrom (c .before .before .before .before .before .before .args .file .now) (c .before .before .before .before .loop .at))
 found c = sym (c .before .value .given .1) ∙ c .before .before .before .next-token .ensures
 
 mul-value : tie.Need-mul-value Inv-loop μ-loop

@@ -1,5 +1,14 @@
 -- `rule_reader::tokens::fault_of` meets its contract: each return is one of the tests, in their order.
-use borrow.Author.Tests.{lt-ltb, le-ltb, le-leb, lt-leb, eq-eqb, ne-eqb}
+use mathlib.Core.Path.{_≡_, sym, ap, _∙_}
+use mathlib.Core.Bool.{false}
+use Prim.Native.Nat.{_<_}
+use native.Mathlib.Omega.{arith}
+use lib.Dec.{leb}
+use mir.Syntax.{w32}
+use mir.ValLaws.{toZ-ofZ}
+use borrow.Author.Needs.{needs}
+use borrow.Author.Tests.{lt-ltb, le-ltb, le-leb, lt-leb}
+use Rattle.literal.specs.Literal.{variable, closes}
 use Rattle.limits.specs.Limits.{maxLiterals}
 use Rattle.rule_reader.proofs.tokens.fault_of.Statement.{statement}
 use Rattle.rule_reader.proofs.tokens.fault_of.Tie as tie
@@ -7,23 +16,66 @@ use Rattle.rule_reader.proofs.tokens.fault_of.Tie as tie
 returns : tie.Need-returns
 returns c = rw (le-leb (c .before .args .count) (c .before .args .clauses) (c .if1 .taken))
 
+closes-requires : tie.Need-closes-requires
+closes-requires c κs = search needs
+
+-- past the first test: a clause is open, and the second test was made on the number
+more : (c : tie.Else1) → leb (c .before .args .count) (c .before .args .clauses) ≡ false
+more c = lt-leb (c .before .args .count) (c .before .args .clauses) (c .if1 .left)
+
+tested : (c : tie.After-closes) → c .closes .result ≡ closes (c .before .before .args .x)
+tested c = c .closes .ensures ∙ ap closes (toZ-ofZ w32 (c .before .before .args .x) (c .before .before .fits .x))
+
 returns-2 : tie.Need-returns-2
-returns-2 c = rw (lt-leb (c .before .before .before .args .count) (c .before .before .before .args .clauses) (c .before .before .if1 .left), eq-eqb (c .before .before .before .args .v .0) 0 (c .if2 .taken))
+returns-2 c = rw (more (c .before .before), sym (tested (c .before)) ∙ c .if2 .taken)
+
+-- past the second: a literal
+literal : (c : tie.Else2) → closes (c .before .before .before .args .x) ≡ false
+literal c = sym (tested (c .before)) ∙ c .if2 .left
 
 returns-3 : tie.Need-returns-3
 returns-3 c =
-    let args = c .before .before .before .before .args in
-    rw (lt-leb (args .count) (args .clauses) (c .before .before .before .if1 .left), ne-eqb (args .v .0) 0 (c .before .if2 .left), le-leb maxLiterals (args .literals) (c .if3 .taken))
+    let start = c .before .before .before .before in
+    rw (more (c .before .before .before), literal (c .before), le-leb maxLiterals (start .args .literals) (c .if3 .taken))
+
+variable-of-requires : tie.Need-variable-of-requires
+variable-of-requires c κs = search needs
+
+-- past the third: one more may come, and its variable is known
+room : (c : tie.Else3) → leb maxLiterals (c .before .before .before .before .args .literals) ≡ false
+room c = lt-leb maxLiterals (c .before .before .before .before .args .literals) (c .if3 .left)
+
+same : (c : tie.After-variable-of) → c .variable-of .result .0 ≡ variable (c .before .before .before .before .before .args .x)
+same c =
+    let start = c .before .before .before .before .before in
+    c .variable-of .ensures ∙ ap variable (toZ-ofZ w32 (start .args .x) (start .fits .x))
 
 returns-4 : tie.Need-returns-4
 returns-4 c =
-    let args = c .before .before .before .before .before .before .args in
-    rw (lt-leb (args .count) (args .clauses) (c .before .before .before .before .before .if1 .left), ne-eqb (args .v .0) 0 (c .before .before .before .if2 .left), lt-leb maxLiterals (args .literals) (c .before .before .if3 .left), lt-ltb (args .n) (args .v .0) (c .if4 .taken))
+    let known = c .before .before in
+    let start = known .before .before .before .before .before in
+    let above : start .args .n < variable (start .args .x) = omega (arith, c .if4 .taken, same known) in
+    rw (more (known .before .before .before .before), literal (known .before .before), room (known .before), lt-ltb (start .args .n) (variable (start .args .x)) above)
 
 returns-5 : tie.Need-returns-5
 returns-5 c =
-    let args = c .before .before .before .before .before .before .args in
-    rw (lt-leb (args .count) (args .clauses) (c .before .before .before .before .before .if1 .left), ne-eqb (args .v .0) 0 (c .before .before .before .if2 .left), lt-leb maxLiterals (args .literals) (c .before .before .if3 .left), le-ltb (args .n) (args .v .0) (c .if4 .left))
+    let known = c .before .before in
+    let start = known .before .before .before .before .before in
+    rw (
+      more (known .before .before .before .before),
+      literal (known .before .before),
+      room (known .before),
+      le-ltb (start .args .n) (variable (start .args .x)) (omega (arith, c .if4 .left, same known)),
+    )
 
 pub fault-of-spec : {M : Type 1} → statement M
-fault-of-spec = tie.close (tie.spec returns returns-2 returns-3 returns-4 returns-5)
+fault-of-spec =
+    tie.close
+    (tie.spec
+    returns
+    closes-requires
+    returns-2
+    returns-3
+    variable-of-requires
+    returns-4
+    returns-5)

@@ -1,4 +1,4 @@
--- `rule_header::heading_at` meets its contract: no preamble, no line feed, a malformed number, or both numbers.
+-- `rule_header::header_at` meets its contract: no preamble, no line feed, a malformed number, or both numbers.
 use mathlib.Core.Path.{_≡_, sym, ap, _∙_}
 use mathlib.Core.Bool.{true}
 use mathlib.Core.Option.{some}
@@ -9,12 +9,12 @@ use borrow.Author.Tests.{not-true, not-false}
 use Rattle.decimal.specs.Decimal.{number}
 use Rattle.dimacs.specs.Format.{preamble, startsWith, header, numbered}
 use Rattle.decimal.specs.ReadLaws.{number-none, number-some}
-use Rattle.rule_header.specs.declared.Heading as D
-use Rattle.rule_header.specs.Heading.{headingAs}
+use Rattle.rule_header.specs.declared.ReadHeader as D
+use Rattle.rule_header.specs.Header.{headerAs}
 use Rattle.rule_header.specs.Laws.{header-at, header-open, header-other, field-most, n-malformed, c-malformed, both-read}
 use borrow.Author.Needs.{needs}
-use Rattle.rule_header.proofs.heading_at.Statement.{statement}
-use Rattle.rule_header.proofs.heading_at.Tie as tie
+use Rattle.rule_header.proofs.header_at.Statement.{statement}
+use Rattle.rule_header.proofs.header_at.Tie as tie
 
 has-preamble-requires : tie.Need-has-preamble-requires
 has-preamble-requires c κs = search needs
@@ -23,7 +23,7 @@ returns : tie.Need-returns
 returns c =
     let s = c .before .before .before .args .file .now in
     let at = c .before .before .before .args .at in
-    sym (ap (headingAs at) (header-other (drop at s) (sym (c .before .has-preamble .ensures) ∙ not-true (c .before .has-preamble .result) (c .if1 .taken))))
+    sym (ap (headerAs at) (header-other (drop at s) (sym (c .before .has-preamble .ensures) ∙ not-true (c .before .has-preamble .result) (c .if1 .taken))))
 
 add-n-from : tie.Need-add-n-from
 add-n-from c = search needs
@@ -42,7 +42,7 @@ returns-2 : tie.Need-returns-2
 returns-2 c =
     let s = c .before .before .before .before .before .before .args .file .now in
     let at = c .before .before .before .before .before .before .args .at in
-    sym (ap (headingAs at) (header-open s at (c .before .before .field-end .result) (c .before .field-end2 .result) (c .before .before .field-end .ensures) (c .before .field-end2 .ensures) (c .if2 .taken)))
+    sym (ap (headerAs at) (header-open s at (c .before .before .field-end .result) (c .before .field-end2 .result) (c .before .before .field-end .ensures) (c .before .field-end2 .ensures) (c .if2 .taken)))
 
 sub-number-of : tie.Need-sub-number-of
 sub-number-of c = search needs
@@ -87,7 +87,7 @@ returns-3 c =
     let c-end = c .before .before .before .before .before .field-end2 .result in
     let n = take (n-end - (at + 6)) (drop (at + 6) s) in
     sym
-    (ap (headingAs at) (fields (c .before .before .before .before))
+    (ap (headerAs at) (fields (c .before .before .before .before))
     ∙ n-malformed at (c-end + 1 - at) n (take (c-end - (n-end + 1)) (drop (n-end + 1) s)) (number-none (number n) (sym (c .before .before .number-of .ensures) ∙ c .enum-told .given .1)))
 
 sub-number-of-2 : tie.Need-sub-number-of-2
@@ -117,7 +117,7 @@ returns-4 c =
     let n = take (n-end - (at + 6)) (drop (at + 6) s) in
     let k = take (c-end - (n-end + 1)) (drop (n-end + 1) s) in
     sym
-    (ap (headingAs at) (fields (c .before .before .before .before .before .before .before .before .before))
+    (ap (headerAs at) (fields (c .before .before .before .before .before .before .before .before .before))
     ∙ c-malformed at (c-end + 1 - at) n k (c .before .before .before .before .before .variables .given .0 .0) (n-read (c .before .before .before .before)) (number-none (number k) (sym (c .before .before .number-of2 .ensures) ∙ c .enum-told2 .given .1)))
 
 add-t11 : tie.Need-add-t11
@@ -135,12 +135,12 @@ returns-5 c =
     let variables = c .before .before .before .before .before .before .variables .given .0 .0 in
     let next : at + (c-end + 1 - at) ≡ c-end + 1 = omega (arith, c .before .before .before .before .before .before .before .before .before .before .before .field-end2 .ensures, c .before .before .before .before .before .before .before .before .before .before .before .before .field-end .ensures) in
     sym
-    (ap (headingAs at) (fields (c .before .before .before .before .before .before .before .before .before .before))
+    (ap (headerAs at) (fields (c .before .before .before .before .before .before .before .before .before .before))
     ∙ both-read at (c-end + 1 - at) n k variables clauses (n-read (c .before .before .before .before .before)) (number-some (number k) clauses (sym (c .before .before .before .number-of2 .ensures) ∙ c .before .clauses .given .1))
     ∙ ap (D.the-variants.Found variables clauses) next)
 
-pub heading-at-spec : {M : Type 1} → statement M
-heading-at-spec =
+pub header-at-spec : {M : Type 1} → statement M
+header-at-spec =
     tie.close
     (tie.spec
     has-preamble-requires

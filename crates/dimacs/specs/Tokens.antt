@@ -1,0 +1,62 @@
+-- The tokens of a rule file (document 01, "The rule file"): "After it come tokens (runs of bytes that are not blank; blank is 9, 10, 13 or 32)." They are found byte by byte, by where each byte stands.
+use mathlib.Core.Bool.{Bool, true, false, cond, not, _&&_}
+use mathlib.Core.List.{List, [], _∷_}
+use Prim.Native.Nat.{ℕ, zero, suc}
+use lib.Dec.{eqb}
+use lib.ListN.{getD, drop}
+use Rattle.dimacs.specs.Class.{blank, classOf}
+
+-- the bytes that pass a test, up to the first that does not
+abbrev pub leading : (ℕ → Bool) → List ℕ → List ℕ
+leading p [] = []
+leading p (b ∷ s) = cond (p b) (b ∷ leading p s) []
+
+-- a blank between tokens, and a byte of one
+abbrev pub isGap : ℕ → Bool
+isGap b = eqb (classOf b) blank
+
+abbrev pub inToken : ℕ → Bool
+inToken b = not (isGap b)
+
+-- a token's bytes, and the place of the first
+pub record Token : Type 0 where
+  pub place : ℕ
+  pub bytes : List ℕ
+
+-- where a byte stands: first in its line, behind a blank of its line, or behind a byte of a token
+pub data Position : Type 0 where
+  lineStart : Position
+  between : Position
+  within : Position
+
+abbrev pub isWithin : Position → Bool
+isWithin lineStart = false
+isWithin between = false
+isWithin within = true
+
+-- Where the byte behind b stands, b standing at p. A line's first byte does today what one between tokens does; where it is to have a result of its own (document 02, L1), this is the definition that changes.
+abbrev pub step : Position → ℕ → Position
+step p b = cond (eqb b 10) lineStart (cond (isGap b) between within)
+
+-- a token begins at a byte that goes on with no other token, and is one's itself
+abbrev pub begins : Position → ℕ → Bool
+begins p b = not (isWithin p) && isWithin (step p b)
+
+-- a token in front of others, where one begins
+abbrev pub starting : Bool → Token → List Token → List Token
+starting true t ts = t ∷ ts
+starting false t ts = ts
+
+-- the tokens of some bytes, in order; the first byte stands at p, and at a place
+abbrev pub tokens : Position → ℕ → List ℕ → List Token
+tokens p at [] = []
+tokens p at (b ∷ s) = starting (begins p b) (record { place = at; bytes = b ∷ leading inToken s }) (tokens (step p b) (suc at) s)
+
+-- where the byte at a kept offset stands, which is past the header or a whole token: first in its line at the file's beginning and behind a line feed
+abbrev pub positionAt : List ℕ → ℕ → Position
+positionAt file zero = lineStart
+positionAt file (suc k) = cond (eqb (getD file k 0) 10) lineStart between
+
+-- "from a kept offset": the tokens of a file from there on
+abbrev pub tokensFrom : List ℕ → ℕ → List Token
+tokensFrom file at = tokens (positionAt file at) at (drop at file)

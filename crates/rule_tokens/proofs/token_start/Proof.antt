@@ -1,0 +1,67 @@
+-- `rule_tokens::token_start` meets its contract. The loop's invariant: the tokens from here on are those from the start on.
+use mathlib.Core.Path.{_≡_, sym, ap, _∙_}
+use Prim.Native.Nat.{_-_}
+use lib.ListN.{length, getD}
+use borrow.Author.Tests.{eq-eqb, ne-eqb}
+use borrow.Author.Needs.{needs}
+use Rattle.dimacs.specs.Class.{blank, classOf}
+use Rattle.dimacs.specs.TokenLaws.{tokens-none, tokens-blank, tokens-here}
+use Rattle.dimacs.specs.Tokens.{tokensFrom}
+use Rattle.rule_tokens.specs.NextToken.{firstPlace}
+use Rattle.rule_tokens.proofs.token_start.Statement.{statement}
+use Rattle.rule_tokens.proofs.token_start.Tie as tie
+
+abbrev Inv-loop : tie.InvT-loop
+Inv-loop file from i₀ i = tokensFrom file from ≡ tokensFrom file i
+
+abbrev μ-loop : tie.MeasureT-loop
+μ-loop file from i₀ i = length file - i
+
+loop-holds : tie.Need-loop-holds Inv-loop μ-loop
+loop-holds c = search needs
+
+shared-slice-read-class-of : tie.Need-shared-slice-read-class-of Inv-loop μ-loop
+shared-slice-read-class-of c = search needs
+
+class-of-requires : tie.Need-class-of-requires Inv-loop μ-loop
+class-of-requires c κs = search needs
+
+returns : tie.Need-returns Inv-loop μ-loop
+returns c =
+    let s = c .before .before .before .before .before .before .args .file .now in
+    let loop = c .before .before .before .before .loop in
+    sym (ap (firstPlace (length s))
+    (loop .inv ∙ tokens-here s (loop .i) (c .before .before .before .loop-test .taken) (ne-eqb (classOf (getD s (loop .i) 0)) blank (λ e. c .if1 .taken (c .before .class-of .ensures ∙ e)))))
+
+add-i : tie.Need-add-i Inv-loop μ-loop
+add-i c = search needs
+
+loop-less : tie.Need-loop-less Inv-loop μ-loop
+loop-less c = search needs
+
+loop-again : tie.Need-loop-again Inv-loop μ-loop
+loop-again c =
+    let s = c .before .before .before .before .before .before .args .file .now in
+    let loop = c .before .before .before .before .loop in
+    loop .inv ∙ tokens-blank s (loop .i) (c .before .before .before .loop-test .taken) (eq-eqb (classOf (getD s (loop .i) 0)) blank (sym (c .before .class-of .ensures) ∙ c .if1 .left))
+
+returns-2 : tie.Need-returns-2 Inv-loop μ-loop
+returns-2 c =
+    let s = c .before .before .before .args .file .now in
+    let loop = c .before .loop in
+    sym (ap (firstPlace (length s)) (loop .inv ∙ tokens-none s (loop .i) (c .loop-test .left)))
+
+pub token-start-spec : {M : Type 1} → statement M
+token-start-spec =
+    tie.close
+    (tie.spec
+    Inv-loop
+    μ-loop
+    loop-holds
+    shared-slice-read-class-of
+    class-of-requires
+    returns
+    add-i
+    loop-less
+    loop-again
+    returns-2)
