@@ -25,9 +25,9 @@ use Rattle.propagation.specs.declared.propagate.Propagated.{Propagated}
 use Rattle.propagation.specs.declared.propagate.Propagated.the-variants.{Dead, Settled}
 
 -- from the state a with its trail, s variables assigned, to a′ and trail′
-abbrev pub Says : ℕ → List (List ℤ) → List ℕ → ℕ → ℕ → List ℕ → List ℕ → List ℕ → List ℕ → Propagated → Type 0
-Says n f row d s a trail a′ trail′ Dead = (isDeadEnd f row d (propagate f a) ≡ true) × Later s trail a trail′ a′
-Says n f row d s a trail a′ trail′ (Settled t) =
+abbrev pub PropagatedBy : ℕ → List (List ℤ) → List ℕ → ℕ → ℕ → List ℕ → List ℕ → List ℕ → List ℕ → Propagated → Type 0
+PropagatedBy n f row d s a trail a′ trail′ Dead = (isDeadEnd f row d (propagate f a) ≡ true) × Later s trail a trail′ a′
+PropagatedBy n f row d s a trail a′ trail′ (Settled t) =
     (a′ ≡ propagate f a) × (isDeadEnd f row d a′ ≡ false) × Later s trail a trail′ a′ × Searching n row a′ trail′ (t .settled) (t .broken) × (s ≤ t .settled)
 
 -- the loop: from the first state to the present one
@@ -40,10 +40,11 @@ pub record Propagating (n : ℕ) (f : List (List ℤ)) (row : List ℕ) (s : ℕ
 pub propagating-start : (n : ℕ) (f : List (List ℤ)) (row : List ℕ) (s b : ℕ) (a trail : List ℕ) → Searching n row a trail s b → Propagating n f row s a trail a trail s b
 propagating-start n f row s b a trail h = record { searching = h; same = refl; later = later-none s trail a; more = omega arith }
 
-module _ (n : ℕ) (f : List (List ℤ)) (fit : fits n f ≡ true) (row : List ℕ) (d s : ℕ) (a trail a′ trail′ : List ℕ) (s′ b′ : ℕ)
-    (p : Propagating n f row s a trail a′ trail′ s′ b′) where
+-- what a turn does, with the limit d
+module _ {n : ℕ} {f : List (List ℤ)} {row : List ℕ} {s : ℕ} {a trail a′ trail′ : List ℕ} {s′ b′ : ℕ}
+    (fit : fits n f ≡ true) (d : ℕ) (p : Propagating n f row s a trail a′ trail′ s′ b′) where
   -- more than d broken
-  pub over : d < b′ → Says n f row d s a trail a′ trail′ Dead
+  pub over : d < b′ → PropagatedBy n f row d s a trail a′ trail′ Dead
   over h =
       let many : ltb d (disagreement row a′) ≡ true = lt-ltb d (disagreement row a′) (omega (arith, p .searching .breaks)) in
       (ap (isDeadEnd f row d) (p .same) ∙ dead-early f row d a′ (or-right (any (isFalsified a′) f) many), p .later)
@@ -53,16 +54,16 @@ module _ (n : ℕ) (f : List (List ℤ)) (fit : fits n f ≡ true) (row : List �
       or-right false e = e
 
   -- a falsified clause
-  pub conflict : scan a′ f ≡ U.the-variants.Conflict → Says n f row d s a trail a′ trail′ Dead
+  pub conflict : scan a′ f ≡ U.the-variants.Conflict → PropagatedBy n f row d s a trail a′ trail′ Dead
   conflict e =
       (ap (isDeadEnd f row d) (p .same) ∙ dead-early f row d a′ (ap (λ (t : Bool). t || ltb d (disagreement row a′)) (scan-conflict a′ f e)), p .later)
 
   -- nothing left to do
-  pub settled : b′ ≤ d → scan a′ f ≡ U.the-variants.Nothing → (a′ ≡ propagate f a) × (isDeadEnd f row d a′ ≡ false)
+  pub settled : b′ ≤ d → scan a′ f ≡ U.the-variants.Nothing → PropagatedBy n f row d s a trail a′ trail′ (Settled (record { settled = s′; broken = b′ }))
   settled h e =
       let r = scan-nothing a′ f e in
       let few : ltb d (disagreement row a′) ≡ false = le-ltb d (disagreement row a′) (omega (arith, p .searching .breaks)) in
-      (sym (p .same ∙ propagate-done f a′ (r .0)), ap (λ (t : Bool). t || ltb d (disagreement row a′)) (r .1) ∙ few)
+      (sym (p .same ∙ propagate-done f a′ (r .0)), ap (λ (t : Bool). t || ltb d (disagreement row a′)) (r .1) ∙ few, p .later, p .searching, p .more)
 
   -- a literal is made to hold
   module _ (x : ℤ) (e : scan a′ f ≡ U.the-variants.Literal x) where
