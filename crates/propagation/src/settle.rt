@@ -2,11 +2,9 @@
 use literal::Variable;
 use tally::Tally;
 ghost use mathlib.Core.Path.{_≡_};
-ghost use Prim.Native.Nat.{_+_, _-_, _^_, _≤_, _<_};
-ghost use lib.ListN.{length, set};
-ghost use Rattle.literal.specs.Literal.{value};
-ghost use Rattle.distance.specs.Distance.{cost};
-ghost use Rattle.walk.specs.State.{assign};
+ghost use Prim.Native.Nat.{_^_, _≤_, _<_};
+ghost use lib.ListN.{length};
+ghost use Rattle.propagation.specs.Assigned.{AssignedTo};
 
 // Assigns a variable, at what its wish makes it cost, and gives the tally with it. What it asks of the
 // tally is that no count runs over.
@@ -20,9 +18,7 @@ pub fn assign_to(
 ) -> Tally
     requires { ⌜ (0 < v .0) × (v .0 ≤ length (now a)) × (length (now trail) ≡ length (now a)) ⌝ }
     requires { ⌜ (tally .settled < 2 ^ 16) × (tally .broken < 2 ^ 32) ⌝ }
-    ensures { λ r. ⌜ (r .settled ≡ tally .settled + 1) × (r .broken ≡ tally .broken + cost (value (now (row .entry)) (v .0)) bit) ⌝ }
-    ensures { λ _. ⌜ now (a .exit) ≡ assign (now (a .entry)) (v .0) bit ⌝ }
-    ensures { λ _. ⌜ now (trail .exit) ≡ set (now (trail .entry)) (v .0 - 1) (tally .settled) ⌝ }
+    ensures { λ r. ⌜ AssignedTo (now (row .entry)) (v .0) bit tally (now (a .entry)) (now (trail .entry)) r (now (a .exit)) (now (trail .exit)) ⌝ }
 {
     let number = v.0;
     let at = number - 1;

@@ -1,16 +1,15 @@
 -- `propagation::propagate::propagate_units` meets its contract: each turn is one of the laws of `Propagating`.
-use mathlib.Core.Path.{_≡_, sym, ap, ap₂, _∙_}
+use mathlib.Core.Path.{_≡_, sym, ap, _∙_}
 use mathlib.Core.Bool.{true}
-use Prim.Native.Nat.{ℕ, _+_, _-_}
+use Prim.Native.Nat.{_-_}
 use native.Mathlib.Omega.{arith}
 use lib.IntN.{ℤ}
-use lib.ListN.{length, set}
+use lib.ListN.{length}
 use borrow.Author.Needs.{needs}
 use Rattle.literal.specs.Laws.{as-read}
-use Rattle.literal.specs.Literal.{variable, wanted, value}
+use Rattle.literal.specs.Literal.{variable, wanted}
 use Rattle.formula.specs.Formula.{clauses}
-use Rattle.distance.specs.Distance.{cost}
-use Rattle.walk.specs.State.{assign, fits}
+use Rattle.walk.specs.State.{fits}
 use Rattle.propagation.specs.Propagated.{Propagating, propagating-start, over, conflict, settled, low, high, room, literal}
 use Rattle.propagation.specs.declared.unit.Unit.the-variants.{Literal}
 use Rattle.propagation.specs.Unit.{scan}
@@ -19,7 +18,7 @@ use Rattle.propagation.proofs.propagate.propagate_units.Tie as tie
 
 abbrev Inv-loop : tie.InvT-loop
 Inv-loop list row d a₀ trail₀ present₀ a trail present =
-    Propagating (length a₀) (clauses list) row (present₀ .settled) a₀ trail₀ a trail (present .settled) (present .broken)
+    Propagating (length a₀) (clauses list) row (present₀ .settled) a₀ trail₀ a trail present
 
 abbrev μ-loop : tie.MeasureT-loop
 μ-loop list row d a₀ trail₀ present₀ a trail present = length a₀ - present .settled
@@ -60,8 +59,7 @@ fit c = call c .pre .1 .0
 loop-holds : tie.Need-loop-holds Inv-loop μ-loop
 loop-holds c =
     let call = c .before .before .before in
-    let args = call .args in
-    propagating-start (length (args .a .now)) (clauses (args .list .now)) (args .row .now) (args .tally .settled) (args .tally .broken) (args .a .now) (args .trail .now) (call .pre .0)
+    propagating-start (clauses (call .args .list .now)) (call .args .tally) (call .pre .0)
 
 -- both slices are as long as at the call
 a-long : (c : Turn) → length (c .loop .a) ≡ length (call c .args .a .now)
@@ -159,21 +157,14 @@ loop-less : tie.Need-loop-less Inv-loop μ-loop
 loop-less c =
     let assigned = c .before .before .before .before in
     let turn = turn (scanned (found assigned)) in
-    omega (arith, room (fit turn) (call turn .args .d) (turn .loop .inv) (x (found assigned)) (unit (found assigned)), assigned .assign-to .ensures .0 .0)
+    omega (arith, room (fit turn) (call turn .args .d) (turn .loop .inv) (x (found assigned)) (unit (found assigned)), assigned .assign-to .ensures .settled)
 
 loop-again : tie.Need-loop-again Inv-loop μ-loop
 loop-again c =
     let assigned = c .before .before .before .before in
-    let e = named (assigned .before .before .before .before) in
-    let w = wants (assigned .before .before .before) in
     let turn = turn (scanned (found assigned)) in
-    let at = turn .loop in
-    let told = assigned .assign-to .ensures in
-    literal (fit turn) (call turn .args .d) (at .inv) (x (found assigned)) (unit (found assigned)) _ _ (assigned .assign-to .result .settled) (assigned .assign-to .result .broken)
-    (told .1 .0 ∙ ap₂ (assign (at .a)) e w)
-    (told .1 .1 ∙ ap (λ (k : ℕ). set (at .trail) (k - 1) (at .present .settled)) e)
-    (told .0 .0)
-    (told .0 .1 ∙ ap₂ (λ (k b : ℕ). at .present .broken + cost (value (call turn .args .row .now) k) b) e w)
+    literal (fit turn) (call turn .args .d) (turn .loop .inv) (x (found assigned)) (unit (found assigned))
+    (named (assigned .before .before .before .before)) (wants (assigned .before .before .before)) (assigned .assign-to .ensures)
 
 pub propagate-units-spec : {M : Type 1} → statement M
 propagate-units-spec =

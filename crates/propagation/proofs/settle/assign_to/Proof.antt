@@ -44,10 +44,13 @@ returns : tie.Need-returns
 returns c =
     let told = c .before .before .before .before .assigned .ensures in
     let priced-at = c .before .before .before .before .before .before .before in
-    let given = call priced-at .args in (
-      (told .0, told .1 ∙ ap (λ (k : ℕ). given .tally .broken + k) (priced priced-at)),
-      (told .2 ∙ sym (assign-set (given .a .now) (given .v .0) (given .bit) (call priced-at .pre .0 .0)), told .3),
-    )
+    let given = call priced-at .args in
+    record {
+      settled = told .0;
+      broken = told .1 ∙ ap (λ (k : ℕ). given .tally .broken + k) (priced priced-at);
+      values = told .2 ∙ sym (assign-set (given .a .now) (given .v .0) (given .bit) (call priced-at .pre .0 .0));
+      order = told .3;
+    }
 
 pub assign-to-spec : {M : Type 1} → statement M
 assign-to-spec =
