@@ -1,51 +1,74 @@
--- Trying a state: propagation, completion, and what is left to a fork.
+-- Trying a state: propagation, completion, and what is left to a fork (document 01, steps 1 to 4).
 use mathlib.Core.Path.{_≡_, sym, ap, subst, _∙_}
 use mathlib.Core.Bool.{true, false}
 use mathlib.Core.List.{List}
-use Prim.Native.Nat.{ℕ, _≤_}
+use Prim.Native.Nat.{ℕ, _≤_, _<_}
+use native.Mathlib.Omega.{arith}
 use lib.IntN.{ℤ}
+use Rattle.literal.specs.declared.Variable.{Variable}
 use Rattle.formula.specs.Formula.{models}
 use Rattle.walk.specs.Completion.{complete-cost}
+use Rattle.walk.specs.Promises.{Branches}
 use Rattle.walk.specs.Propagation.{propagate}
-use Rattle.walk.specs.State.{fits}
-use Rattle.walk.specs.Walk.{Outcome, deadEnd, isDeadEnd, complete, completed, decide, fork, walkFrom}
+use Rattle.walk.specs.PropagationLaws.{propagate-fewer}
+use Rattle.walk.specs.State.{fits, unassigned}
+use Rattle.walk.specs.Walk.{Outcome, deadEnd, complete, completed, decide, fork, walkFrom}
 use Rattle.walk.specs.WalkLaws.{walk-step, decide-dead, decide-complete}
+use Rattle.pick.specs.declared.Pick.the-variants.{DeadEnd, Branch}
+use Rattle.pick.specs.Pick.{pickOf, pick-none, pick-fork}
+use Rattle.tally.specs.declared.Tally.{Tally}
+use Rattle.propagation.specs.declared.propagate.Propagated.the-variants.{Dead, Settled}
+use Rattle.propagation.specs.Propagated.{PropagatedBy}
 use Rattle.propagation.specs.Searching.{Searching, Later, later-more}
 use Rattle.dll.specs.declared.tried.Tried.{Tried}
 use Rattle.dll.specs.declared.tried.Tried.the-variants.{Found, Nothing}
-use Rattle.dll.specs.Tried.{Says}
+use Rattle.dll.specs.Tried.{clip, TriedBy}
 
-module _ (n : ℕ) (f : List (List ℤ)) (fit : fits n f ≡ true) (row : List ℕ) (d s b : ℕ) (a trail : List ℕ) (h : Searching n row a trail s b) where
+-- the state a, with s variables assigned
+module _ {n : ℕ} {row : List ℕ} {s b : ℕ} {a trail : List ℕ} (h : Searching n row a trail s b) (f : List (List ℤ)) (fit : fits n f ≡ true) (d : ℕ) where
   abbrev try : List ℕ → Outcome
   try = walkFrom f row d
 
   step : try a ≡ decide f row d try (propagate f a)
   step = walk-step n f fit row d a (h .state)
 
-  ended : (trail′ a′ : List ℕ) → Later s trail a trail′ a′ → try a ≡ deadEnd → Says (try a) s trail a trail′ a′ (Nothing 0)
-  ended trail′ a′ later e = (ap (λ (o : Outcome). o .answer) e, sym (ap (λ (o : Outcome). Prim.Native.Nat.min (o .forks) 18446744073709551615) e), later)
+  ended : (trail′ a′ : List ℕ) → Later s trail a trail′ a′ → try a ≡ deadEnd → TriedBy (try a) s trail a trail′ a′ (Nothing 0)
+  ended trail′ a′ later e = (ap (λ (o : Outcome). o .answer) e, sym (ap (λ (o : Outcome). clip (o .forks)) e), later)
 
   -- step 1: a dead end
-  pub by-propagation : (trail′ a′ : List ℕ) → isDeadEnd f row d (propagate f a) ≡ true → Later s trail a trail′ a′ → Says (try a) s trail a trail′ a′ (Nothing 0)
-  by-propagation trail′ a′ dead later = ended trail′ a′ later (step ∙ decide-dead f row d try (propagate f a) dead)
+  pub by-propagation : (trail′ a′ : List ℕ) → PropagatedBy n f row d s a trail a′ trail′ Dead → TriedBy (try a) s trail a trail′ a′ (Nothing 0)
+  by-propagation trail′ a′ told = ended trail′ a′ (told .1) (step ∙ decide-dead f row d try (propagate f a) (told .0))
 
-  module _ (trail′ a′ : List ℕ) (s′ b′ : ℕ) (here : a′ ≡ propagate f a) (alive : isDeadEnd f row d a′ ≡ false) (later : Later s trail a trail′ a′)
-      (h′ : Searching n row a′ trail′ s′ b′) (more : s ≤ s′) where
+  -- or the propagated state a′ with its tally
+  module _ (trail′ a′ : List ℕ) (t : Tally) (told : PropagatedBy n f row d s a trail a′ trail′ (Settled t)) where
     decided : try a ≡ decide f row d try a′
-    decided = step ∙ ap (decide f row d try) (sym here)
+    decided = step ∙ ap (decide f row d try) (sym (told .0))
+
+    pub propagated-fewer : unassigned a′ ≤ unassigned a
+    propagated-fewer = omega (arith, ap unassigned (told .0), propagate-fewer n f fit (h .state))
 
     -- step 2: the completion is the answer
-    pub by-completion : (a″ : List ℕ) → a″ ≡ complete row a′ → models (complete row a′) f ≡ true → Says (try a) s trail a trail′ a″ (Found b′ 0)
+    pub by-completion : (a″ : List ℕ) → a″ ≡ complete row a′ → models (complete row a′) f ≡ true → TriedBy (try a) s trail a trail′ a″ (Found (t .broken) 0)
     by-completion a″ q m =
-        let o : try a ≡ completed row a′ = decided ∙ decide-complete f row d try a′ alive m in
-        (ap (λ (o : Outcome). o .answer) o ∙ rw (q, h′ .breaks, complete-cost row a′), sym (ap (λ (o : Outcome). Prim.Native.Nat.min (o .forks) 18446744073709551615) o))
+        let o : try a ≡ completed row a′ = decided ∙ decide-complete f row d try a′ (told .1) m in
+        (ap (λ (o : Outcome). o .answer) o ∙ rw (q, told .3 .breaks, complete-cost row a′), sym (ap (λ (o : Outcome). clip (o .forks)) o))
 
-    -- steps 3 and 4: a dead end
-    pub by-exhaustion : decide f row d try a′ ≡ deadEnd → Says (try a) s trail a trail′ a′ (Nothing 0)
-    by-exhaustion e = ended trail′ a′ later (decided ∙ e)
+    module _ (incomplete : models (complete row a′) f ≡ false) where
+      -- steps 3 and 4: a dead end
+      pub by-exhaustion : pickOf f row d a′ ≡ DeadEnd → TriedBy (try a) s trail a trail′ a′ (Nothing 0)
+      by-exhaustion e = ended trail′ a′ (told .2) (decided ∙ pick-none f row d try a′ (told .1) incomplete e)
 
-    -- step 5: what the fork says
-    pub by-fork : (v c : ℕ) (trail″ a″ : List ℕ) (r : Tried) → decide f row d try a′ ≡ fork try a′ v c → Says (fork try a′ v c) s′ trail′ a′ trail″ a″ r → Says (try a) s trail a trail″ a″ r
-    by-fork v c trail″ a″ (Found k g) e w = subst (λ (o : Outcome). Says o s trail a trail″ a″ (Found k g)) (sym (decided ∙ e)) w
-    by-fork v c trail″ a″ (Nothing g) e w =
-        subst (λ (o : Outcome). Says o s trail a trail″ a″ (Nothing g)) (sym (decided ∙ e)) (w .0, w .1, later-more s s′ trail a trail′ a′ trail″ a″ more later (w .2))
+      -- or a variable v to branch on, with the value c first
+      module _ (v : Variable) (c : ℕ) (e : pickOf f row d a′ ≡ Branch v c) where
+        branched : (decide f row d try a′ ≡ fork try a′ (v .0) c) × Branches a′ n (v .0) × (c < 2)
+        branched = pick-fork f row d try a′ (told .1) incomplete (told .3 .state) v c e
+
+        pub branches : Branches a′ n (v .0) × (c < 2)
+        branches = (branched .1, branched .2)
+
+        -- step 5: what the fork says
+        pub by-fork : (trail″ a″ : List ℕ) (r : Tried) → TriedBy (fork try a′ (v .0) c) (t .settled) trail′ a′ trail″ a″ r → TriedBy (try a) s trail a trail″ a″ r
+        by-fork trail″ a″ (Found k g) w = subst (λ (o : Outcome). TriedBy o s trail a trail″ a″ (Found k g)) (sym (decided ∙ branched .0)) w
+        by-fork trail″ a″ (Nothing g) w =
+            subst (λ (o : Outcome). TriedBy o s trail a trail″ a″ (Nothing g)) (sym (decided ∙ branched .0))
+            (w .0, w .1, later-more s (t .settled) trail a trail′ a′ trail″ a″ (told .4) (told .2) (w .2))

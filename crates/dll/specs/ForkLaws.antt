@@ -1,66 +1,107 @@
--- A fork: its two states in turn.
-use mathlib.Core.Path.{_≡_, refl, sym, _∙_}
+-- A fork: its two states in turn (document 01, step 5).
+use mathlib.Core.Path.{_≡_, refl, sym, ap, subst, _∙_}
 use mathlib.Core.List.{List}
-use mathlib.Core.Option.{none, some}
+use mathlib.Core.Option.{none}
 use Prim.Native.Nat.{ℕ, suc, _+_, _-_, _<_, min}
 use native.Mathlib.Omega.{arith}
 use lib.Dec.{lit<}
-use lib.ListN.{set}
-use Rattle.literal.specs.Literal.{value}
-use Rattle.distance.specs.Distance.{cost}
-use Rattle.walk.specs.Assignment.{assign-fewer}
+use lib.ListN.{length}
 use Rattle.walk.specs.Promises.{Branches}
 use Rattle.walk.specs.State.{unassigned, assign}
-use Rattle.walk.specs.Walk.{Answer, Outcome, fork}
-use Rattle.propagation.specs.Searching.{Searching, Later, later-more, assigned, assigned-later, not-all}
+use Rattle.walk.specs.Walk.{Outcome, fork}
+use Rattle.tally.specs.declared.Tally.{Tally}
+use Rattle.propagation.specs.Assigned.{AssignedTo, assigned-searching, assigned-after, assigned-fewer}
+use Rattle.propagation.specs.Searching.{Searching, Later, later-more, not-all, restored, restored-later, restored-searching}
+use Rattle.propagation.specs.Trail.{undone}
+use Rattle.dll.specs.declared.tried.Tried.{Tried}
 use Rattle.dll.specs.declared.tried.Tried.the-variants.{Found, Nothing}
-use Rattle.dll.specs.Tried.{clip, Says}
+use Rattle.dll.specs.Tried.{clip, TriedBy}
 
 -- one more fork, counted as far as 64 bits go
-pub clip-one : (g k : ℕ) → g ≡ clip k → clip (suc (k + 0)) ≡ min (g + 0 + 1) 18446744073709551615
+clip-one : (g k : ℕ) → g ≡ clip k → clip (suc (k + 0)) ≡ min (g + 0 + 1) 18446744073709551615
 clip-one g k e = omega arith
 
-pub clip-two : (g₁ g₂ k₁ k₂ : ℕ) → g₁ ≡ clip k₁ → g₂ ≡ clip k₂ → clip (suc (k₁ + k₂)) ≡ min (g₁ + g₂ + 1) 18446744073709551615
+clip-two : (g₁ g₂ k₁ k₂ : ℕ) → g₁ ≡ clip k₁ → g₂ ≡ clip k₂ → clip (suc (k₁ + k₂)) ≡ min (g₁ + g₂ + 1) 18446744073709551615
 clip-two g₁ g₂ k₁ k₂ e₁ e₂ = omega arith
 
-module _ (try : List ℕ → Outcome) (a trail : List ℕ) (s v c : ℕ) where
-  abbrev one : Outcome
-  one = try (assign a v c)
+-- The state a before the fork, with the branching variable v and its first value c.
+module _ {n : ℕ} {row a trail : List ℕ} (t : Tally) (h : Searching n row a trail (t .settled) (t .broken)) {v : ℕ} (k : Branches a n v) {c : ℕ} (bit : c < 2) (try : List ℕ → Outcome) where
+  -- there is room for one variable more
+  pub branch-room : t .settled < n
+  branch-room = not-all n row a trail (t .settled) (t .broken) h v 0 (k .above) (k .upTo) (k .unset) (lit< tt)
 
-  abbrev two : Outcome
-  two = try (assign a v (1 - c))
+  -- a₁ has the first value
+  module _ {t₁ : Tally} {a₁ trail₁ : List ℕ} (first : AssignedTo row v c t a trail t₁ a₁ trail₁) where
+    pub first-searching : Searching n row a₁ trail₁ (t₁ .settled) (t₁ .broken)
+    first-searching = assigned-searching first h (k .above) (k .upTo) (k .unset) bit
 
-  -- the first state has the answer
-  pub first-found : (x : Answer) (g forks : ℕ) (trail′ : List ℕ) → one .answer ≡ some x → g ≡ clip (one .forks) → forks ≡ min (g + 0 + 1) 18446744073709551615
-      → Says (fork try a v c) s trail a trail′ (x .choice) (Found (x .broken) forks)
-  first-found x g forks trail′ e p q = rw e (refl, q ∙ sym (clip-one g (one .forks) p))
+    pub first-fewer : suc (unassigned a₁) ≡ unassigned a
+    first-fewer = assigned-fewer first h (k .above) (k .upTo) (k .unset) bit
 
-  -- the first has none
-  module _ (none-there : one .answer ≡ none) (g₁ : ℕ) (p₁ : g₁ ≡ clip (one .forks)) where
-    pub second-found : (x : Answer) (g₂ forks : ℕ) (trail′ : List ℕ) → two .answer ≡ some x → g₂ ≡ clip (two .forks) → forks ≡ min (g₁ + g₂ + 1) 18446744073709551615
-        → Says (fork try a v c) s trail a trail′ (x .choice) (Found (x .broken) forks)
-    second-found x g₂ forks trail′ e p q = rw (none-there, e) (refl, q ∙ sym (clip-two g₁ g₂ (one .forks) (two .forks) p₁ p))
+    -- what trying a₁ says is said of the definition's first state
+    in-first : (trail′ a′ : List ℕ) (r : Tried) → TriedBy (try a₁) (t₁ .settled) trail₁ a₁ trail′ a′ r → TriedBy (try (assign a v c)) (t₁ .settled) trail₁ a₁ trail′ a′ r
+    in-first trail′ a′ r = subst (λ (l : List ℕ). TriedBy (try l) (t₁ .settled) trail₁ a₁ trail′ a′ r) (first .values)
 
-    pub none-found : (g₂ forks : ℕ) (trail′ a′ : List ℕ) → two .answer ≡ none → g₂ ≡ clip (two .forks) → forks ≡ min (g₁ + g₂ + 1) 18446744073709551615
-        → Later s trail a trail′ a′ → Says (fork try a v c) s trail a trail′ a′ (Nothing forks)
-    none-found g₂ forks trail′ a′ e p q later = rw (none-there, e) (refl, q ∙ sym (clip-two g₁ g₂ (one .forks) (two .forks) p₁ p), later)
+    -- it has the answer
+    pub first-found : (trail′ a′ : List ℕ) (broken g forks : ℕ) → TriedBy (try a₁) (t₁ .settled) trail₁ a₁ trail′ a′ (Found broken g) → forks ≡ min (g + 0 + 1) 18446744073709551615
+        → TriedBy (fork try a v c) (t .settled) trail a trail′ a′ (Found broken forks)
+    first-found trail′ a′ broken g forks said q =
+        let w = in-first trail′ a′ (Found broken g) said in
+        rw (w .0) (refl, q ∙ sym (clip-one g (try (assign a v c) .forks) (w .1)))
 
--- the branching variable is assigned
-module _ (n : ℕ) (row a trail : List ℕ) (s b : ℕ) (h : Searching n row a trail s b) (v c : ℕ) (k : Branches a n v) (bit : c < 2)
-    (a′ trail′ : List ℕ) (s′ b′ : ℕ) (p : a′ ≡ assign a v c) (q : trail′ ≡ set trail (v - 1) s) (r : s′ ≡ s + 1) (w : b′ ≡ b + cost (value row v) c) where
-  pub branch-searching : Searching n row a′ trail′ s′ b′
-  branch-searching = rw (p, q, r, w) (assigned n row a trail s b h v c (k .above) (k .upTo) (k .unset) bit)
+    -- it has none, and left a₂
+    module _ (trail₂ a₂ : List ℕ) (long : length trail₂ ≡ length trail) (g₁ : ℕ) (said₁ : TriedBy (try a₁) (t₁ .settled) trail₁ a₁ trail₂ a₂ (Nothing g₁)) where
+      later₂ : Later (t .settled) trail a trail₂ a₂
+      later₂ =
+          later-more (t .settled) (t₁ .settled) trail a trail₁ a₁ trail₂ a₂ (omega (arith, first .settled)) (assigned-after first h (k .above) (k .upTo) (k .unset) bit)
+          (said₁ .2)
 
-  branch-later : Later s trail a trail′ a′
-  branch-later = rw (p, q) (assigned-later n row a trail s b h v c (k .above) (k .upTo) (k .unset) bit)
+      -- undone, that is the state a again
+      module _ {a₃ : List ℕ} (undo : a₃ ≡ undone (t .settled) trail₂ a₂) where
+        back : a₃ ≡ a
+        back = undo ∙ restored n row a trail (t .settled) (t .broken) h a₂ trail₂ later₂ long
 
-  pub branch-fewer : suc (unassigned a′) ≡ unassigned a
-  branch-fewer = rw p (assign-fewer (h .state) v c (k .above) (k .upTo) (k .unset) bit)
+        pub back-searching : Searching n row a₃ trail₂ (t .settled) (t .broken)
+        back-searching = rw back (restored-searching n row a trail (t .settled) (t .broken) h a₂ trail₂ later₂ long)
 
-  -- what is later than the branch is later than the fork
-  pub branch-after : (trail″ a″ : List ℕ) → Later s′ trail′ a′ trail″ a″ → Later s trail a trail″ a″
-  branch-after trail″ a″ l = later-more s s′ trail a trail′ a′ trail″ a″ (omega arith) branch-later l
+        pub back-branches : Branches a₃ n v
+        back-branches = rw back k
 
--- there is room for one variable more
-pub branch-room : (n : ℕ) (row a trail : List ℕ) (s b : ℕ) → Searching n row a trail s b → (v : ℕ) → Branches a n v → s < n
-branch-room n row a trail s b h v k = not-all n row a trail s b h v 0 (k .above) (k .upTo) (k .unset) (lit< tt)
+        other : 1 - c < 2
+        other = omega arith
+
+        -- a₄ has the other value
+        module _ {t₄ : Tally} {a₄ trail₄ : List ℕ} (second : AssignedTo row v (1 - c) t a₃ trail₂ t₄ a₄ trail₄) where
+          pub second-searching : Searching n row a₄ trail₄ (t₄ .settled) (t₄ .broken)
+          second-searching = assigned-searching second back-searching (back-branches .above) (back-branches .upTo) (back-branches .unset) other
+
+          pub second-fewer : suc (unassigned a₄) ≡ unassigned a
+          second-fewer = assigned-fewer second back-searching (back-branches .above) (back-branches .upTo) (back-branches .unset) other ∙ ap unassigned back
+
+          in-second : (trail′ a′ : List ℕ) (r : Tried) → TriedBy (try a₄) (t₄ .settled) trail₄ a₄ trail′ a′ r → TriedBy (try (assign a v (1 - c))) (t₄ .settled) trail₄ a₄ trail′ a′ r
+          in-second trail′ a′ r =
+              subst (λ (l : List ℕ). TriedBy (try l) (t₄ .settled) trail₄ a₄ trail′ a′ r) (second .values ∙ ap (λ (l : List ℕ). assign l v (1 - c)) back)
+
+          forks-two : (g₂ forks : ℕ) → g₂ ≡ clip (try (assign a v (1 - c)) .forks) → forks ≡ min (g₁ + g₂ + 1) 18446744073709551615
+              → forks ≡ clip (suc (try (assign a v c) .forks + try (assign a v (1 - c)) .forks))
+          forks-two g₂ forks p q = q ∙ sym (clip-two g₁ g₂ (try (assign a v c) .forks) (try (assign a v (1 - c)) .forks) (in-first trail₂ a₂ (Nothing g₁) said₁ .1) p)
+
+          none-there : try (assign a v c) .answer ≡ none
+          none-there = in-first trail₂ a₂ (Nothing g₁) said₁ .0
+
+          -- it has the answer
+          pub second-found : (trail′ a′ : List ℕ) (broken g₂ forks : ℕ) → TriedBy (try a₄) (t₄ .settled) trail₄ a₄ trail′ a′ (Found broken g₂) → forks ≡ min (g₁ + g₂ + 1) 18446744073709551615
+              → TriedBy (fork try a v c) (t .settled) trail a trail′ a′ (Found broken forks)
+          second-found trail′ a′ broken g₂ forks said q =
+              let w = in-second trail′ a′ (Found broken g₂) said in
+              rw (none-there, w .0) (refl, forks-two g₂ forks (w .1) q)
+
+          -- neither has
+          pub none-found : (trail′ a′ : List ℕ) (g₂ forks : ℕ) → TriedBy (try a₄) (t₄ .settled) trail₄ a₄ trail′ a′ (Nothing g₂) → forks ≡ min (g₁ + g₂ + 1) 18446744073709551615
+              → TriedBy (fork try a v c) (t .settled) trail a trail′ a′ (Nothing forks)
+          none-found trail′ a′ g₂ forks said q =
+              let w = in-second trail′ a′ (Nothing g₂) said in
+              let after : Later (t .settled) trail a trail₄ a₄
+              = later-more (t .settled) (t .settled) trail a trail₂ a₃ trail₄ a₄ (omega arith) (rw back (restored-later n row a trail (t .settled) (t .broken) h a₂ trail₂ later₂ long))
+              (assigned-after second back-searching (back-branches .above) (back-branches .upTo) (back-branches .unset) other) in
+              rw (none-there, w .0) (refl, forks-two g₂ forks (w .1) q, later-more (t .settled) (t₄ .settled) trail a trail₄ a₄ trail′ a′ (omega (arith, second .settled)) after (w .2))

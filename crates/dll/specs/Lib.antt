@@ -1,4 +1,4 @@
 pub mod AttemptLaws
 pub mod ForkLaws
-pub mod Pick
+pub mod Ready
 pub mod Tried

@@ -13,6 +13,6 @@ abbrev pub clip : ℕ → ℕ
 clip k = min k 18446744073709551615
 
 -- from the state a with its trail, s variables assigned, to a′ and trail′, where the walk comes to o
-abbrev pub Says : Outcome → ℕ → List ℕ → List ℕ → List ℕ → List ℕ → Tried → Type 0
-Says o s trail a trail′ a′ (Found broken forks) = (o .answer ≡ some (record { choice = a′; broken = broken })) × (forks ≡ clip (o .forks))
-Says o s trail a trail′ a′ (Nothing forks) = (o .answer ≡ none) × (forks ≡ clip (o .forks)) × Later s trail a trail′ a′
+abbrev pub TriedBy : Outcome → ℕ → List ℕ → List ℕ → List ℕ → List ℕ → Tried → Type 0
+TriedBy o s trail a trail′ a′ (Found broken forks) = (o .answer ≡ some (record { choice = a′; broken = broken })) × (forks ≡ clip (o .forks))
+TriedBy o s trail a trail′ a′ (Nothing forks) = (o .answer ≡ none) × (forks ≡ clip (o .forks)) × Later s trail a trail′ a′

@@ -1,5 +1,4 @@
 // The walk of the wish search: document 000's search procedure, by Davis, Logemann and Loveland.
-mod pick;
 mod search;
 mod tried;
 

@@ -1,21 +1,18 @@
 // Trying a state may call for a fork, and a fork tries two states (document 01, step 5).
-use crate::pick::Pick;
-use crate::pick::pick_branch;
 use crate::tried::Tried;
 use crate::tried::add_forks;
 use literal::Variable;
+use pick::Pick;
 use propagation::Propagated;
 use tally::Tally;
-ghost use mathlib.Core.Path.{_≡_};
-ghost use mathlib.Core.Option.{none};
-ghost use Prim.Native.Nat.{_+_, _*_, _≤_, _<_};
+ghost use Prim.Native.Nat.{_<_};
 ghost use lib.ListN.{length};
 ghost use Rattle.formula.specs.Formula.{clauses};
-ghost use Rattle.rule_list.specs.Sound.{unread, badRule};
 ghost use Rattle.propagation.specs.Searching.{Searching};
 ghost use Rattle.walk.specs.Promises.{Branches};
 ghost use Rattle.walk.specs.Walk.{fork as forkOf, walkFrom};
-ghost use Rattle.dll.specs.Tried.{Says};
+ghost use Rattle.dll.specs.Ready.{Ready};
+ghost use Rattle.dll.specs.Tried.{TriedBy};
 
 // The walk from a state. Where it finds an answer, that is what the lent assignment holds at the end;
 // else the states before it can be had again from the trail.
@@ -30,9 +27,8 @@ pub fn attempt(
     marks: &mut [u64],
 ) -> Tried
     requires { ⌜ Searching (length (now a)) (now row) (now a) (now trail) (tally .settled) (tally .broken) ⌝ }
-    requires { ⌜ (length (now a) ≤ 640) × (badRule (length (now a)) unread 0 (now list) ≡ none) ⌝ }
-    requires { ⌜ (2 * length (now a) + 1 < length (now weights)) × (length (now a) < length (now marks)) ⌝ }
-    ensures { λ r. ⌜ Says (walkFrom (clauses (now (list .entry))) (now (row .entry)) d (now (a .entry))) (tally .settled) (now (trail .entry)) (now (a .entry)) (now (trail .exit)) (now (a .exit)) r ⌝ }
+    requires { ⌜ Ready (now list) (length (now a)) (length (now weights)) (length (now marks)) ⌝ }
+    ensures { λ r. ⌜ TriedBy (walkFrom (clauses (now (list .entry))) (now (row .entry)) d (now (a .entry))) (tally .settled) (now (trail .entry)) (now (a .entry)) (now (trail .exit)) (now (a .exit)) r ⌝ }
 {
     match propagation::propagate_units(list, row, d, tally, a, trail) {
         Propagated::Dead => Tried::Nothing(0),
@@ -41,7 +37,7 @@ pub fn attempt(
                 completion::fill_completion(row, a);
                 return Tried::Found(t.broken, 0);
             }
-            match pick_branch(list, row, d, t.broken, a, weights, marks) {
+            match pick::pick_branch(list, row, d, t.broken, a, weights, marks) {
                 Pick::DeadEnd => Tried::Nothing(0),
                 Pick::Branch(v, value) => fork(list, row, d, t, v, value, a, trail, weights, marks),
             }
@@ -63,10 +59,9 @@ fn fork(
     marks: &mut [u64],
 ) -> Tried
     requires { ⌜ Searching (length (now a)) (now row) (now a) (now trail) (tally .settled) (tally .broken) ⌝ }
-    requires { ⌜ (length (now a) ≤ 640) × (badRule (length (now a)) unread 0 (now list) ≡ none) ⌝ }
-    requires { ⌜ (2 * length (now a) + 1 < length (now weights)) × (length (now a) < length (now marks)) ⌝ }
+    requires { ⌜ Ready (now list) (length (now a)) (length (now weights)) (length (now marks)) ⌝ }
     requires { ⌜ Branches (now a) (length (now a)) (v .0) × (value < 2) ⌝ }
-    ensures { λ r. ⌜ Says (forkOf (walkFrom (clauses (now (list .entry))) (now (row .entry)) d) (now (a .entry)) (v .0) value) (tally .settled) (now (trail .entry)) (now (a .entry)) (now (trail .exit)) (now (a .exit)) r ⌝ }
+    ensures { λ r. ⌜ TriedBy (forkOf (walkFrom (clauses (now (list .entry))) (now (row .entry)) d) (now (a .entry)) (v .0) value) (tally .settled) (now (trail .entry)) (now (a .entry)) (now (trail .exit)) (now (a .exit)) r ⌝ }
 {
     let first = propagation::assign_to(tally, row, v, value, a, trail);
     match attempt(list, row, d, first, a, trail, weights, marks) {

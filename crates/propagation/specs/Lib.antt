@@ -1,3 +1,4 @@
+pub mod Assigned
 pub mod Propagated
 pub mod Searching
 pub mod Trail

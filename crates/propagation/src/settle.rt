@@ -1,14 +1,13 @@
-// A variable is assigned, with its place in the trail and its part in the tally.
+// A variable is assigned, with its place in the trail and its part in the running tally.
 use literal::Variable;
 use tally::Tally;
 ghost use mathlib.Core.Path.{_≡_};
-ghost use Prim.Native.Nat.{_+_, _-_, _≤_, _<_};
-ghost use lib.ListN.{length, set};
-ghost use Rattle.literal.specs.Literal.{value};
-ghost use Rattle.distance.specs.Distance.{cost};
-ghost use Rattle.walk.specs.State.{assign};
+ghost use Prim.Native.Nat.{_^_, _≤_, _<_};
+ghost use lib.ListN.{length};
+ghost use Rattle.propagation.specs.Assigned.{AssignedTo};
 
-// Assigns a variable, and gives the tally with it.
+// Assigns a variable, at what its wish makes it cost, and gives the tally with it. What it asks of the
+// tally is that no count runs over.
 pub fn assign_to(
     tally: Tally,
     row: &[u8],
@@ -18,16 +17,11 @@ pub fn assign_to(
     trail: &mut [u16],
 ) -> Tally
     requires { ⌜ (0 < v .0) × (v .0 ≤ length (now a)) × (length (now trail) ≡ length (now a)) ⌝ }
-    requires { ⌜ (tally .settled ≤ 640) × (tally .broken ≤ tally .settled) ⌝ }
-    ensures { λ r. ⌜ (r .settled ≡ tally .settled + 1) × (r .broken ≡ tally .broken + cost (value (now (row .entry)) (v .0)) bit) ⌝ }
-    ensures { λ _. ⌜ now (a .exit) ≡ assign (now (a .entry)) (v .0) bit ⌝ }
-    ensures { λ _. ⌜ now (trail .exit) ≡ set (now (trail .entry)) (v .0 - 1) (tally .settled) ⌝ }
+    requires { ⌜ (tally .settled < 2 ^ 16) × (tally .broken < 2 ^ 32) ⌝ }
+    ensures { λ r. ⌜ AssignedTo (now (row .entry)) (v .0) bit tally (now (a .entry)) (now (trail .entry)) r (now (a .exit)) (now (trail .exit)) ⌝ }
 {
     let number = v.0;
     let at = number - 1;
-    let settled = tally.settled;
     let cost = distance::cost_of(literal::value_of(v, row), bit);
-    a[at] = bit;
-    trail[at] = settled as u16;
-    tally::counted(settled, tally.broken, cost)
+    tally::assigned(tally, at, bit, cost, a, trail)
 }

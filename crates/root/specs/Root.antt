@@ -15,7 +15,8 @@ use Rattle.propagation.specs.Searching.{Searching}
 use Rattle.propagation.specs.Trail.{undone}
 use Rattle.dll.specs.declared.tried.Tried.{Tried}
 use Rattle.dll.specs.declared.tried.Tried.the-variants.{Found, Nothing}
-use Rattle.dll.specs.Tried.{clip, Says}
+use Rattle.dll.specs.Tried.{clip}
+use Rattle.powhanire.specs.Meaning.{Says}
 
 -- where the walk comes to o: its answer in the lent assignment, or nothing
 abbrev pub RootSays : Outcome → List ℕ → Tried → Type 0

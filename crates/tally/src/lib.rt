@@ -1,8 +1,8 @@
 // Document 01, step 1 of the wish search: "a running tally of settled settings and broken wishes is
-// updated by each settling". The borrow checker covers no reference to a struct, so both functions
-// are proved by a walk of their MIR, by hand.
-ghost use mathlib.Core.Path.{_≡_};
-ghost use Prim.Native.Nat.{_+_, _<_, _^_};
+// updated by each settling". It is lent by `&mut` and changed where a variable is assigned. The borrow
+// checker covers no reference to a struct, so both functions are proved by a walk of their MIR, by
+// hand.
+ghost use Rattle.tally.specs.Assigning.{MayAssign, HasAssigned};
 
 // How many variables are assigned (settled), and how many wishes are broken.
 pub struct Tally {
@@ -10,23 +10,31 @@ pub struct Tally {
     pub broken: usize,
 }
 
-// One more variable is assigned, at a cost in broken wishes.
-pub fn count(tally: &mut Tally, cost: usize)
-    requires { ⌜ (now tally .settled + 1 < 2 ^ 64) × (now tally .broken + cost < 2 ^ 64) ⌝ }
-    ensures { λ _. ⌜ (now (tally .exit) .settled ≡ now (tally .entry) .settled + 1)
-        × (now (tally .exit) .broken ≡ now (tally .entry) .broken + cost) ⌝ }
+// Assigns the variable at a place: its value goes to the assignment and the number of variables
+// assigned before it to the trail, and the running tally counts it, at a cost in broken wishes.
+pub fn assign(tally: &mut Tally, at: usize, bit: u8, cost: usize, a: &mut [u8], trail: &mut [u16])
+    requires { ⌜ MayAssign at cost (now a) (now trail) (now tally) ⌝ }
+    ensures { λ _. ⌜ HasAssigned at bit cost (now (a .entry)) (now (trail .entry)) (now (tally .entry)) (now (a .exit)) (now (trail .exit)) (now (tally .exit)) ⌝ }
 {
+    a[at] = bit;
+    trail[at] = tally.settled as u16;
     tally.settled += 1;
     tally.broken += cost;
 }
 
-// The tally of these two counts after one more. It takes numbers and gives the struct by value, so a
-// caller of this one is covered and needs no walk.
-pub fn counted(settled: usize, broken: usize, cost: usize) -> Tally
-    requires { ⌜ (settled + 1 < 2 ^ 64) × (broken + cost < 2 ^ 64) ⌝ }
-    ensures { λ r. ⌜ (r .settled ≡ settled + 1) × (r .broken ≡ broken + cost) ⌝ }
+// The same with the tally by value, so that a caller of this one is covered and needs no walk.
+pub fn assigned(
+    tally: Tally,
+    at: usize,
+    bit: u8,
+    cost: usize,
+    a: &mut [u8],
+    trail: &mut [u16],
+) -> Tally
+    requires { ⌜ MayAssign at cost (now a) (now trail) tally ⌝ }
+    ensures { λ r. ⌜ HasAssigned at bit cost (now (a .entry)) (now (trail .entry)) tally (now (a .exit)) (now (trail .exit)) r ⌝ }
 {
-    let mut tally = Tally { settled, broken };
-    count(&mut tally, cost);
-    tally
+    let mut running = tally;
+    assign(&mut running, at, bit, cost, a, trail);
+    running
 }

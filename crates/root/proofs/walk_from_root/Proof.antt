@@ -8,7 +8,7 @@ use borrow.Author.Needs.{needs}
 use Rattle.formula.specs.Formula.{clauses}
 use Rattle.rule_list.specs.Sound.{unread, badRule}
 use Rattle.walk.specs.Walk.{walkFrom}
-use Rattle.dll.specs.Tried.{Says}
+use Rattle.powhanire.specs.Meaning.{Says}
 use Rattle.root.specs.Root.{root-says, root-searching}
 use Rattle.root.proofs.walk_from_root.Statement.{statement}
 use Rattle.root.proofs.walk_from_root.Tie as tie

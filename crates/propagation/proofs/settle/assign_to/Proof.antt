@@ -1,5 +1,5 @@
 -- `propagation::settle::assign_to` meets its contract.
-use mathlib.Core.Path.{_≡_, refl, sym, ap, _∙_}
+use mathlib.Core.Path.{_≡_, sym, ap, _∙_}
 use Prim.Native.Nat.{ℕ, _+_}
 use native.Mathlib.Omega.{arith}
 use Rattle.literal.specs.Literal.{value}
@@ -19,24 +19,20 @@ value-of-requires c κs = search needs
 cost-of-requires : tie.Need-cost-of-requires
 cost-of-requires c κs = search needs
 
-slice-write-a : tie.Need-slice-write-a
-slice-write-a c = search needs
-
-cast-trail : tie.Need-cast-trail
-cast-trail c = search needs
-
-mul-trail : tie.Need-mul-trail
-mul-trail c = search needs
-
-slice-write-trail : tie.Need-slice-write-trail
-slice-write-trail c = search needs
+-- the call, from where its cost is known
+abbrev call : tie.After-cost-of → tie.Start
+call c = c .before .before .before .before .before
 
 -- the cost is that of the value at the variable's wish
-priced : (c : tie.After-cost-of) → c .cost-of .result ≡ cost (value (c .before .before .before .before .before .args .row .now) (c .before .before .before .before .before .args .v .0)) (c .before .before .before .before .before .args .bit)
-priced c = c .cost-of .ensures ∙ ap (λ (w : ℕ). cost w (c .before .before .before .before .before .args .bit)) (c .before .value-of .ensures)
+priced : (c : tie.After-cost-of) → c .cost-of .result ≡ cost (value (call c .args .row .now) (call c .args .v .0)) (call c .args .bit)
+priced c = c .cost-of .ensures ∙ ap (λ (w : ℕ). cost w (call c .args .bit)) (c .before .value-of .ensures)
 
-counted-requires : tie.Need-counted-requires
-counted-requires c κs = omega (arith, cost-most (value (c .before .before .before .before .before .args .row .now) (c .before .before .before .before .before .args .v .0)) (c .before .before .before .before .before .args .bit), priced c)
+assigned-requires : tie.Need-assigned-requires
+assigned-requires c κs =
+    let cheap = cost-most (value (call (c .before .before) .args .row .now) (call (c .before .before) .args .v .0)) (call (c .before .before) .args .bit) in
+    let pre = call (c .before .before) .pre in
+    let at = pre .0 in
+    (omega (arith, at), omega (arith, at), pre .1 .0, omega (arith, pre .1 .1, cheap, priced (c .before .before)))
 
 same-length : tie.Need-same-length
 same-length c = search needs
@@ -45,10 +41,16 @@ same-length-2 : tie.Need-same-length-2
 same-length-2 c = search needs
 
 returns : tie.Need-returns
-returns c = (
-  (c .counted .ensures .0, c .counted .ensures .1 ∙ ap (λ (k : ℕ). c .before .before .before .before .before .before .args .tally .broken + k) (priced (c .before))),
-  (sym (assign-set (c .before .before .before .before .before .before .args .a .now) (c .before .before .before .before .before .before .args .v .0) (c .before .before .before .before .before .before .args .bit) (c .before .before .before .before .before .before .pre .0 .0)), refl),
-)
+returns c =
+    let told = c .before .before .before .before .assigned .ensures in
+    let priced-at = c .before .before .before .before .before .before .before in
+    let given = call priced-at .args in
+    record {
+      settled = told .0;
+      broken = told .1 ∙ ap (λ (k : ℕ). given .tally .broken + k) (priced priced-at);
+      values = told .2 ∙ sym (assign-set (given .a .now) (given .v .0) (given .bit) (call priced-at .pre .0 .0));
+      order = told .3;
+    }
 
 pub assign-to-spec : {M : Type 1} → statement M
 assign-to-spec =
@@ -57,11 +59,7 @@ assign-to-spec =
     sub-at
     value-of-requires
     cost-of-requires
-    slice-write-a
-    cast-trail
-    mul-trail
-    slice-write-trail
-    counted-requires
+    assigned-requires
     same-length
     same-length-2
     returns)

@@ -17,8 +17,8 @@ use Rattle.walk.specs.Promises.{Branches}
 use Rattle.walk.specs.State.{State}
 use Rattle.walk.specs.Walk.{Outcome, deadEnd, isDeadEnd, complete, isExhausted, firstValue, fork, forkOn, decide}
 use Rattle.walk.specs.WalkLaws.{decide-exhausted, decide-fork, first-bit}
-use Rattle.dll.specs.declared.pick.Pick.{Pick}
-use Rattle.dll.specs.declared.pick.Pick.the-variants.{DeadEnd, Branch}
+use Rattle.pick.specs.declared.Pick.{Pick}
+use Rattle.pick.specs.declared.Pick.the-variants.{DeadEnd, Branch}
 
 abbrev pub variable : ℕ → Variable
 variable v = record { 0 = v }

@@ -1,11 +1,11 @@
--- `dll::pick::first_value` meets its contract.
+-- `pick::first_value` meets its contract.
 use mathlib.Core.Path.{sym, ap, _∙_}
 use Rattle.opposed.specs.declared.fewest.Fewest.{Fewest}
 use Rattle.opposed.specs.Opposed.{sizeOf}
 use Rattle.walk.specs.Walk.{unwishedValue, firstValue}
 use borrow.Author.Needs.{needs}
-use Rattle.dll.proofs.pick.first_value.Statement.{statement}
-use Rattle.dll.proofs.pick.first_value.Tie as tie
+use Rattle.pick.proofs.first_value.Statement.{statement}
+use Rattle.pick.proofs.first_value.Tie as tie
 
 enum-told : tie.Need-enum-told
 enum-told c = search needs

@@ -1,4 +1,4 @@
--- `dll::pick::is_exhausted` meets its contract.
+-- `pick::is_exhausted` meets its contract.
 use mathlib.Core.Path.{_≡_, refl, sym, ap, _∙_}
 use mathlib.Core.Bool.{Bool, true, false, _&&_}
 use lib.Dec.{eqb}
@@ -6,8 +6,8 @@ use borrow.Author.Needs.{needs}
 use Rattle.opposed.specs.declared.fewest.Fewest.{Fewest}
 use Rattle.opposed.specs.Laws.{isSome}
 use Rattle.opposed.specs.Opposed.{sizeOf}
-use Rattle.dll.proofs.pick.is_exhausted.Statement.{statement}
-use Rattle.dll.proofs.pick.is_exhausted.Tie as tie
+use Rattle.pick.proofs.is_exhausted.Statement.{statement}
+use Rattle.pick.proofs.is_exhausted.Tie as tie
 
 and-false : (b : Bool) → b && false ≡ false
 and-false true = refl

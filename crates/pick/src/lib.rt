@@ -14,7 +14,7 @@ ghost use Rattle.rule_list.specs.Sound.{unread, badRule};
 ghost use Rattle.opposed.specs.Laws.{isSome};
 ghost use Rattle.opposed.specs.Opposed.{sizeOf};
 ghost use Rattle.walk.specs.Walk.{firstValue};
-ghost use Rattle.dll.specs.Pick.{pickOf};
+ghost use Rattle.pick.specs.Pick.{pickOf};
 
 // A dead end, or the branching variable with the value that it takes first.
 pub enum Pick {
