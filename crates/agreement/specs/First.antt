@@ -18,7 +18,7 @@ use Rattle.searches.specs.Admitted.{Admitted}
 use Rattle.searches.specs.Searches.{found}
 use Rattle.agreement.specs.Claim.{Finds, FindsNone, First, Nearest}
 use Rattle.agreement.specs.Decided.{Reached, Decided, yes, no, plain-decides}
-use Rattle.agreement.specs.Routes.{Buffers, secondRoute, Answered}
+use Rattle.second_route.specs.Routes.{Buffers, secondRoute, Answered}
 use Rattle.agreement.specs.Second.{second-outcome, enough, second-enough}
 
 -- the answers of found are apart
