@@ -11,8 +11,7 @@ ghost use lib.ListN.{length};
 ghost use Rattle.formula.specs.Formula.{clauses};
 ghost use Rattle.distance.specs.Distance.{disagreement};
 ghost use Rattle.lent.specs.Sound.{unread, badRule};
-ghost use Rattle.opposed.specs.Laws.{isSome};
-ghost use Rattle.opposed.specs.Opposed.{sizeOf};
+ghost use Rattle.opposed.specs.Opposed.{sizeOf, isSome};
 ghost use Rattle.walk.specs.Walk.{firstValue};
 ghost use Rattle.dll.specs.Pick.{pickOf};
 

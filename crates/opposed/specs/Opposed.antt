@@ -1,5 +1,5 @@
 -- Opposed clauses, literal by literal.
-use mathlib.Core.Bool.{Bool, not, _&&_}
+use mathlib.Core.Bool.{Bool, true, false, not, _&&_}
 use mathlib.Core.List.{List}
 use mathlib.Core.Option.{Option, none, some}
 use Prim.Native.Nat.{ℕ}
@@ -17,3 +17,8 @@ opposes row a x = not (holds a x) && assignedOrAgainst row a x
 abbrev pub sizeOf : Fewest → Option ℕ
 sizeOf Nothing = none
 sizeOf (Literals k) = some k
+
+-- whether there is such a number
+abbrev pub isSome : Option ℕ → Bool
+isSome none = false
+isSome (some k) = true

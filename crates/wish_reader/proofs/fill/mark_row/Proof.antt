@@ -6,8 +6,7 @@ use lib.ListN.{length, drop}
 use borrow.Author.Needs.{needs}
 use lib.ListN.{length-set}
 use Rattle.wish_file.specs.Format.{wishesIn}
-use Rattle.wish_file.specs.WishLaws.{Rising}
-use Rattle.wish_file.specs.Wishes.{marked}
+use Rattle.wish_file.specs.Wishes.{marked, Rising}
 use Rattle.wish_reader.specs.Laws.{line-inside, marks-line, mark-fits, mark-after, mark-step}
 use Rattle.wish_reader.proofs.fill.mark_row.Statement.{statement}
 use Rattle.wish_reader.proofs.fill.mark_row.Tie as tie
