@@ -21,7 +21,7 @@ use Rattle.agreement.specs.Claim.{Admissible, Agree, both-find, both-non
 use Rattle.agreement.specs.Completing.{all-completions}
 use Rattle.agreement.specs.Decided.{Reached, Decided, yes, no, search-decides}
 use Rattle.agreement.specs.First.{second-decides, nearest-is-first}
-use Rattle.agreement.specs.Routes.{firstRoute, secondRoute, nearestRoute, Answered, Passes}
+use Rattle.second_route.specs.Routes.{firstRoute, secondRoute, nearestRoute, Answered, Passes}
 use Rattle.agreement.specs.Second.{found-answered, found-passes, second-passes, enough, second-enough}
 
 -- two replies that say of one statement whether it holds agree

@@ -22,7 +22,7 @@ use Rattle.totalizer.specs.Totalizer.{rewrittenVariables, rewritten}
 use Rattle.searches.specs.Admitted.{Admitted, admitted-of}
 use Rattle.searches.specs.Searches.{lentToPlain}
 use Rattle.rewriting.specs.Rewrite.{lentToRewrite}
-use Rattle.agreement.specs.Routes.{Answered, Passes}
+use Rattle.second_route.specs.Routes.{Answered, Passes}
 use Rattle.agreement.specs.Claim.{Admissible}
 
 -- no cause, or one with 15

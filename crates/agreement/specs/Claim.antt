@@ -16,7 +16,7 @@ use Rattle.limits.specs.Limits.{maxLimit}
 use Rattle.totalizer.specs.Totalizer.{leaves, tree, rewrittenVariables, rewritten, AllCount}
 use Rattle.searches.specs.Searches.{found}
 use Rattle.rewriting.specs.Rewrite.{rewriteReply}
-use Rattle.agreement.specs.Routes.{firstRoute, Buffers, secondRoute, nearestRoute, Answered, Passes}
+use Rattle.second_route.specs.Routes.{firstRoute, Buffers, secondRoute, nearestRoute, Answered, Passes}
 
 -- "admitted are an n, a rule list and a wish row that rewriting, with a d from 0 to 64, does not refuse except with 15"
 pub record Admissible (n : ℕ) (rules : List ℤ) (row : List ℕ) : Type 0 where
@@ -74,7 +74,7 @@ module _ (n : ℕ) (rules : List ℤ) (row : List ℕ) where
     pub before : (d : ℕ) → d < k → FindsNone d
 
   -- that first d "is the count that nearest returns. The second finds one at no such d exactly when nearest says "none"."
-  pub record Nearest (reply : Reply) : Type 0 where
+  pub record CountsUp (reply : Reply) : Type 0 where
     pub count : (k : ℕ) → (reply ≡ found (some k)) ↔ First k
     pub nothing : (reply ≡ found none) ↔ ((d : ℕ) → d ≤ wishes row → FindsNone d)
 
@@ -85,4 +85,4 @@ module _ (n : ℕ) (rules : List ℤ) (row : List ℕ) where
     pub routes : (d : ℕ) → d ≤ maxLimit → (choice : List ℕ) (b : Buffers)
         → Answered (firstRoute n rules row d choice) → Answered (secondRoute n rules row d b)
         → Agree d (firstRoute n rules row d choice) (secondRoute n rules row d b)
-    pub nearest : (choice : List ℕ) → Answered (nearestRoute n rules row choice) → Nearest (nearestRoute n rules row choice)
+    pub nearest : (choice : List ℕ) → Answered (nearestRoute n rules row choice) → CountsUp (nearestRoute n rules row choice)

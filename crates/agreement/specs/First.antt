@@ -8,17 +8,16 @@ use native.Mathlib.Omega.{arith}
 use lib.IntN.{ℤ}
 use Rattle.formula.specs.Formula.{clauses}
 use Rattle.distance.specs.Distance.{wishes, disagreement, nearest}
-use Rattle.choices.specs.Choices as choices
-use Rattle.choices.specs.Choices.{Model, nearest-some, nearest-none}
+use Rattle.choices.specs.Choices.{Model, Nearest, nearest-some, nearest-none}
 use Rattle.refusal.specs.Reply.{Reply}
 use Rattle.limits.specs.Limits.{maxLimit}
 use Rattle.walk.specs.Nearest.{disagreement-wishes}
 use Rattle.totalizer.specs.Rows.{sound-wishes}
 use Rattle.searches.specs.Admitted.{Admitted}
 use Rattle.searches.specs.Searches.{found}
-use Rattle.agreement.specs.Claim.{Finds, FindsNone, First, Nearest}
+use Rattle.agreement.specs.Claim.{Finds, FindsNone, First, CountsUp}
 use Rattle.agreement.specs.Decided.{Reached, Decided, yes, no, plain-decides}
-use Rattle.agreement.specs.Routes.{Buffers, secondRoute, Answered}
+use Rattle.second_route.specs.Routes.{Buffers, secondRoute, Answered}
 use Rattle.agreement.specs.Second.{second-outcome, enough, second-enough}
 
 -- the answers of found are apart
@@ -76,7 +75,7 @@ module _ (n : ℕ) (rules : List ℤ) (row : List ℕ) (ok : (d : ℕ) → d ≤
   few : wishes row ≤ maxLimit
   few = omega (arith, sound-wishes row (ok 0 (omega arith) .soundRow))
 
-  nearest-first : (k : ℕ) → choices.Nearest n (clauses rules) row k → First n rules row k
+  nearest-first : (k : ℕ) → Nearest n (clauses rules) row k → First n rules row k
   nearest-first k c =
       let (a, model, count) = c .attained in
       let w : k ≤ wishes row = omega (arith, disagreement-wishes row a) in
@@ -87,7 +86,7 @@ module _ (n : ℕ) (rules : List ℤ) (row : List ℕ) (ok : (d : ℕ) → d ≤
         before = λ d l. beyond d (omega arith) (λ r. omega (arith, c .below (r .0) (r .1), r .2));
       }
 
-  first-nearest : (k : ℕ) → First n rules row k → choices.Nearest n (clauses rules) row k
+  first-nearest : (k : ℕ) → First n rules row k → Nearest n (clauses rules) row k
   first-nearest k f = record { attained = (reached .0, reached .1, omega (arith, reached .2, below (reached .0) (reached .1))); below = below }
     where
       reached : Reached n rules row k
@@ -105,7 +104,7 @@ module _ (n : ℕ) (rules : List ℤ) (row : List ℕ) (ok : (d : ℕ) → d ≤
   first-none : ((d : ℕ) → d ≤ wishes row → FindsNone n rules row d) → (a : List ℕ) → Model n (clauses rules) a → ⊥
   first-none g a m = none-beyond (wishes row) few (g (wishes row) (le-refl (wishes row))) (a, m, disagreement-wishes row a)
 
-  pub nearest-is-first : (reply : Reply) → reply ≡ found (nearest n rules row) → Nearest n rules row reply
+  pub nearest-is-first : (reply : Reply) → reply ≡ found (nearest n rules row) → CountsUp n rules row reply
   nearest-is-first reply e =
       record {
         count = λ k. (

@@ -5,5 +5,4 @@ pub mod Completing
 pub mod Decided
 pub mod Example
 pub mod First
-pub mod Routes
 pub mod Second

@@ -30,7 +30,7 @@ use Rattle.rule_writer.specs.Laws.{by-room}
 use Rattle.rule_writer.specs.Write.{lentToWrite, writeOutput}
 use Rattle.rule_reader.specs.Read.{replying, leaving}
 use Rattle.agreement.specs.Causes.{short-fine, fine-passes, answered-past, plain-room}
-use Rattle.agreement.specs.Routes.{onAnswer, Buffers, fromSearch, fromReader, fromWriter, secondRoute, Answered, Passes}
+use Rattle.second_route.specs.Routes.{onAnswer, Buffers, fromSearch, fromReader, fromWriter, secondRoute, Answered, Passes}
 
 on-unless : (o : Option Refusal) (v x y z : ℕ) (next : ℕ → ℕ → ℕ → ℕ → Reply) → onAnswer (unless o (answering v x y z)) next ≡ unless o (next v x y z)
 on-unless none v x y z next = refl

@@ -20,7 +20,7 @@ use Rattle.totalizer.specs.Sizes.{totalizer-length, totalizer-literals}
 use Rattle.adder.specs.Adder.{outputs, reach}
 use Rattle.adder.specs.Laws.{room-first, room-next, wrote-both}
 use Rattle.groups.specs.declared.Group.{Group}
-use Rattle.groups.specs.Groups.{Within, Written}
+use Rattle.groups.specs.Groups.{LeavesFit, Written}
 use Rattle.groups.specs.Laws.{reach-most, added-bound}
 
 -- "if d < m, one rule -s(d+1)", of a group with the outputs s1..sm
@@ -75,8 +75,8 @@ sizes m r h adds =
     (mul-le-mul h h, omega (arith, added-bound m r h adds), own-most 0 l m 0 r long (adds l long))
 
 -- the clauses of a group, and then its limit clause
-module _ (n d : ℕ) (l out : List ℤ) (from : ℕ) (within : Within l) (small : n + added (tree l) ≤ maxVariables) (room : from + length (flat (atMost n l d)) ≤ length out) where
-  pub group-asks : Within l × (n + added (tree l) ≤ maxVariables) × (from + length (flat (totalizer n (tree l))) ≤ length out)
+module _ (n d : ℕ) (l out : List ℤ) (from : ℕ) (within : LeavesFit l) (small : n + added (tree l) ≤ maxVariables) (room : from + length (flat (atMost n l d)) ≤ length out) where
+  pub group-asks : LeavesFit l × (n + added (tree l) ≤ maxVariables) × (from + length (flat (totalizer n (tree l))) ≤ length out)
   group-asks = (within, small, room-first (totalizer n (tree l)) (limit n l d) out from room)
 
   module _ {m : List ℤ} {g : Group} (wrote : Written n l out from m g) where

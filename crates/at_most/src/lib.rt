@@ -10,7 +10,7 @@ ghost use Rattle.soundness.specs.Flat.{flat};
 ghost use Rattle.emit.specs.Wrote.{Wrote};
 ghost use Rattle.totalizer.specs.Totalizer.{tree, added, atMost};
 ghost use Rattle.adder.specs.Adder.{outputs, reach};
-ghost use Rattle.groups.specs.Groups.{Within};
+ghost use Rattle.groups.specs.Groups.{LeavesFit};
 ghost use Rattle.at_most.specs.Limit.{limiting};
 
 // The last variable that the clauses took, and the next place in the list.
@@ -43,7 +43,7 @@ pub fn put_limit(s: Outputs, m: usize, d: usize, out: &mut [i32], at: usize) -> 
 
 // Writes the clauses over some leaves, their variables numbered after n, and the limit clause.
 pub fn put_at_most(leaves: &[i32], n: usize, d: usize, out: &mut [i32], from: usize) -> End
-    requires { ⌜ Within (now leaves) × (n + added (tree (now leaves)) ≤ maxVariables) × (from + length (flat (atMost n (now leaves) d)) ≤ length (now out)) ⌝ }
+    requires { ⌜ LeavesFit (now leaves) × (n + added (tree (now leaves)) ≤ maxVariables) × (from + length (flat (atMost n (now leaves) d)) ≤ length (now out)) ⌝ }
     ensures { λ r. ⌜ Wrote (flat (atMost n (now (leaves .entry)) d)) (now (out .entry)) from (now (out .exit)) (r .at) × (r .last ≡ n + added (tree (now (leaves .entry)))) ⌝ }
 {
     let whole = groups::put_group(leaves, n, out, from);

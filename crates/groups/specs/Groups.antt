@@ -15,8 +15,8 @@ use Rattle.adder.specs.Adder.{outputs, clauses as adding}
 use Rattle.groups.specs.declared.Group.{Group}
 
 -- every leaf is a literal of a variable within the limit
-abbrev pub Within : List ℤ → Type 0
-Within leaves = (i : ℕ) → variable (getD leaves i (pos 0)) ≤ maxVariables
+abbrev pub LeavesFit : List ℤ → Type 0
+LeavesFit leaves = (i : ℕ) → variable (getD leaves i (pos 0)) ≤ maxVariables
 
 -- over a list from place at on, the clauses of the group of these leaves, its variables numbered after n
 pub record Written (n : ℕ) (leaves before : List ℤ) (at : ℕ) (after : List ℤ) (g : Group) : Type 0 where

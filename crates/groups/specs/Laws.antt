@@ -21,7 +21,7 @@ use Rattle.adder.specs.declared.outputs.Outputs.the-variants.{Leaf, Counters}
 use Rattle.adder.specs.Adder.{Small, outputs, reach, clauses}
 use Rattle.adder.specs.Laws.{variable-outputs, room-first, room-next, wrote-both}
 use Rattle.groups.specs.declared.Group.{Group}
-use Rattle.groups.specs.Groups.{Within, Written, Joined, joined}
+use Rattle.groups.specs.Groups.{LeavesFit, Written, Joined, joined}
 
 -- at most one leaf
 pub tree-few : (l : List ℤ) → length l < 2 → tree l ≡ leaf (getD l 0 (pos 0))
@@ -93,14 +93,14 @@ module _ (l : List ℤ) (h : 1 < length l) where
         ap (output n) halves ∙ ap (λ (b : ℕ). outputs (Counters b)) base
 
 -- the outputs of a group are literals within the limit
-reach-few : (n k : ℕ) (l : List ℤ) → Within l → length l < 2 → variable (output n (tree l) k) ≤ maxVariables
+reach-few : (n k : ℕ) (l : List ℤ) → LeavesFit l → length l < 2 → variable (output n (tree l) k) ≤ maxVariables
 reach-few n k l w h = omega (arith, ap (λ (t : Tree). variable (output n t k)) (tree-few l h), w 0)
 
 reach-many : (n k : ℕ) (l : List ℤ) → n + added (tree l) ≤ maxVariables → k ≤ length l → 1 < length l → variable (output n (tree l) k) ≤ maxVariables
 reach-many n k l small few h =
     omega (arith, ap (λ (f : ℕ → ℤ). variable (f k)) (output-split l h n (n + added (tree (left l h))) refl), added-split l h)
 
-pub reach-most : (n k : ℕ) (l : List ℤ) (o : Outputs) → Within l → n + added (tree l) ≤ maxVariables → k ≤ length l → outputs o ≡ output n (tree l) → reach o k ≤ maxVariables
+pub reach-most : (n k : ℕ) (l : List ℤ) (o : Outputs) → LeavesFit l → n + added (tree l) ≤ maxVariables → k ≤ length l → outputs o ≡ output n (tree l) → reach o k ≤ maxVariables
 reach-most n k l o w small few e = go (ltb (length l) 2) refl
   where
     same : reach o k ≡ variable (output n (tree l) k)
@@ -110,21 +110,21 @@ reach-most n k l o w small few e = go (ltb (length l) 2) refl
     go true q = omega (arith, same, reach-few n k l w (ltb-true (length l) 2 q))
     go false q = omega (arith, same, reach-many n k l small few (ltb-false (length l) 2 q))
 
-within-take : (k : ℕ) (l : List ℤ) → Within l → Within (take k l)
+within-take : (k : ℕ) (l : List ℤ) → LeavesFit l → LeavesFit (take k l)
 within-take zero l w i = omega arith
 within-take (suc k) [] w i = omega arith
 within-take (suc k) (x ∷ l) w zero = w 0
 within-take (suc k) (x ∷ l) w (suc i) = within-take k l (λ (j : ℕ). w (suc j)) i
 
-within-drop : (k : ℕ) (l : List ℤ) → Within l → Within (drop k l)
+within-drop : (k : ℕ) (l : List ℤ) → LeavesFit l → LeavesFit (drop k l)
 within-drop k l w i = omega (arith, ap variable (getD-drop k l i (pos 0)), w (k + i))
 
 -- The writing of a group of two parts or more, part by part: what each call asks, and what all of them have written.
-module _ (n : ℕ) (l : List ℤ) (h : 1 < length l) (out : List ℤ) (at : ℕ) (within : Within l) (small : n + added (tree l) ≤ maxVariables) (room : at + length (flat (totalizer n (tree l))) ≤ length out) where
+module _ (n : ℕ) (l : List ℤ) (h : 1 < length l) (out : List ℤ) (at : ℕ) (within : LeavesFit l) (small : n + added (tree l) ≤ maxVariables) (room : at + length (flat (totalizer n (tree l))) ≤ length out) where
   abbrev first : List (List ℤ)
   first = totalizer n (tree (left l h))
 
-  pub left-asks : Within (left l h) × (n + added (tree (left l h)) ≤ maxVariables) × (at + length (flat first) ≤ length out)
+  pub left-asks : LeavesFit (left l h) × (n + added (tree (left l h)) ≤ maxVariables) × (at + length (flat first) ≤ length out)
   left-asks =
       let k : ℕ = n + added (tree (left l h)) in
       let second : List (List ℤ) = totalizer k (tree (right l h)) in
@@ -144,7 +144,7 @@ module _ (n : ℕ) (l : List ℤ) (h : 1 < length l) (out : List ℤ) (at : ℕ)
     all : at + length (flat (first ++ second ++ third)) ≤ length out
     all = rw (← totalizer-split l h n (g .last) (wrote .last)) room
 
-    pub right-asks : Within (right l h) × (g .last + added (tree (right l h)) ≤ maxVariables) × (g .at + length (flat second) ≤ length m)
+    pub right-asks : LeavesFit (right l h) × (g .last + added (tree (right l h)) ≤ maxVariables) × (g .at + length (flat second) ≤ length m)
     right-asks = (
       rw (right-rest l h) (within-drop (half l h) l within),
       omega (arith, added-split l h, wrote .last),

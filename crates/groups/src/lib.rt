@@ -11,7 +11,7 @@ ghost use Rattle.limits.specs.Limits.{maxVariables, maxWishes};
 ghost use Rattle.soundness.specs.Flat.{flat};
 ghost use Rattle.totalizer.specs.Totalizer.{tree, added, totalizer};
 ghost use Rattle.adder.specs.Adder.{Small, clauses};
-ghost use Rattle.groups.specs.Groups.{Within, Written, Joined, joined};
+ghost use Rattle.groups.specs.Groups.{LeavesFit, Written, Joined, joined};
 
 // What a group left behind: its outputs, the last variable that it took, and the next place in the list.
 pub struct Group {
@@ -67,7 +67,7 @@ fn join(left: Group, p: usize, right: Group, q: usize, out: &mut [i32]) -> Group
 
 // Writes the clauses of a group, its variables numbered after n: the left part, the right part, itself.
 pub fn put_group(leaves: &[i32], n: usize, out: &mut [i32], at: usize) -> Group
-    requires { ⌜ Within (now leaves) × (n + added (tree (now leaves)) ≤ maxVariables) × (at + length (flat (totalizer n (tree (now leaves)))) ≤ length (now out)) ⌝ }
+    requires { ⌜ LeavesFit (now leaves) × (n + added (tree (now leaves)) ≤ maxVariables) × (at + length (flat (totalizer n (tree (now leaves)))) ≤ length (now out)) ⌝ }
     ensures { λ r. ⌜ Written n (now (leaves .entry)) (now (out .entry)) at (now (out .exit)) r ⌝ }
 {
     let m = leaves.len();

@@ -13,8 +13,8 @@ use Rattle.literal.specs.Literal.{holds}
 use Rattle.formula.specs.Formula.{any, all, clauses, satisfied}
 use Rattle.walk.specs.State.{isUnassigned, unassignedIn}
 use Rattle.walk.specs.Branching.{isAgainst, assignedOrAgainst, isOpposed, shorter, shorterOf, shortest, fewest}
-use Rattle.walk.specs.BranchingLaws.{fewer, fewest-opposed, fewest-other}
-use Rattle.opposed.specs.Opposed.{opposes}
+use Rattle.walk.specs.BranchingLaws.{fewer, fewest-opposed, fewest-other, fewer-assoc, shorter-fewer}
+use Rattle.opposed.specs.Opposed.{opposes, isSome}
 
 -- a literal that holds, one that is unassigned, and one that is assigned and does not hold
 pub opposes-held : (row a : List ℕ) (x : ℤ) → holds a x ≡ true → opposes row a x ≡ false
@@ -73,10 +73,6 @@ pub shortest-past : (row a : List ℕ) (l : List ℤ) (i : ℕ) → length l ≤
 shortest-past row a l i h = rw (drop-of-length-le l h)
 
 -- step 3 asks whether some clause is opposed: there is one where there is a shortest
-abbrev pub isSome : Option ℕ → Bool
-isSome none = false
-isSome (some k) = true
-
 pub any-opposed : (row a : List ℕ) (f : List (List ℤ)) → any (isOpposed row a) f ≡ isSome (fewest row a f)
 any-opposed row a [] = refl
 any-opposed row a (c ∷ f) = go (isOpposed row a c) refl (any-opposed row a f)

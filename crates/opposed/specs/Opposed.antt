@@ -1,6 +1,6 @@
 -- Opposed clauses, literal by literal and in a list.
 use mathlib.Core.Path.{_≡_}
-use mathlib.Core.Bool.{Bool, true, not, _&&_}
+use mathlib.Core.Bool.{Bool, true, false, not, _&&_}
 use mathlib.Core.List.{List}
 use mathlib.Core.Option.{Option, none, some}
 use Prim.Native.Nat.{ℕ, _<_}
@@ -29,3 +29,8 @@ abbrev pub IsFirst : List ℕ → List ℕ → List ℤ → Found → Type 0
 IsFirst row a l W.Nothing = shortest row a (clauses l) ≡ none
 IsFirst row a l (W.At i) =
     (i < length l) × (isOpposed row a (clauseAt i l) ≡ true) × (shortest row a (clauses l) ≡ shortest row a (clauses (drop i l)))
+
+-- whether there is such a number
+abbrev pub isSome : Option ℕ → Bool
+isSome none = false
+isSome (some k) = true

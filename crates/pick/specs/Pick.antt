@@ -10,7 +10,8 @@ use lib.IntN.{ℤ}
 use Rattle.literal.specs.declared.Variable.{Variable}
 use Rattle.formula.specs.Formula.{models}
 use Rattle.distance.specs.Distance.{disagreement}
-use Rattle.opposed.specs.Laws.{isSome, any-opposed}
+use Rattle.opposed.specs.Laws.{any-opposed}
+use Rattle.opposed.specs.Opposed.{isSome}
 use Rattle.walk.specs.Branching.{fewest, branchingVariable}
 use Rattle.walk.specs.BranchingLaws.{branching-sound}
 use Rattle.walk.specs.Promises.{Branches}

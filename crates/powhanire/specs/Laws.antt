@@ -9,7 +9,7 @@ use Rattle.searches.specs.declared.Searched.{Searched}
 use Rattle.searches.specs.declared.Searched.the-variants.{Refused, Found, Nothing}
 use Rattle.answers.specs.declared.numbers.Answer.{Answer}
 use Rattle.answers.specs.Answers.{answerOf}
-use Rattle.powhanire.specs.Meaning.{Says}
+use Rattle.powhanire.specs.Meaning.{NumbersMean}
 use Rattle.powhanire.specs.Replies.{Told}
 
 -- the answer x of a call is the variant y, the export gives y's numbers, and x's reply is known
@@ -19,13 +19,13 @@ module _ {A : Type 0} (reply-of : A → Reply) where
 
 -- what a search's answer means, its numbers say
 module _ {Means : Searched → Type 0} where
-  refusal-says : (r : Refusal) → Told (refusing r) → Says Means (answerOf (refusing r))
+  refusal-says : (r : Refusal) → Told (refusing r) → NumbersMean Means (answerOf (refusing r))
   refusal-says r told = record { found = λ e. absurd (omega arith); none = λ e f. absurd (true≢false (sym (told .answered e))) }
 
-  numbers-say : (s : Searched) → Told (replyOf s) → Means s → Says Means (answerOf (replyOf s))
+  numbers-say : (s : Searched) → Told (replyOf s) → Means s → NumbersMean Means (answerOf (replyOf s))
   numbers-say (Refused r) told meant = refusal-says r told
   numbers-say (Found broken) told meant = record { found = λ e. meant; none = λ e f. absurd (omega arith) }
   numbers-say Nothing told meant = record { found = λ e. absurd (omega arith); none = λ e f. meant }
 
-  pub says : (s : Searched) {a : Answer} {reply : Reply} → a ≡ answerOf (replyOf s) → replyOf s ≡ reply → Told reply → Means s → Says Means a
-  says s given replied told meant = subst (Says Means) (sym given) (numbers-say s (subst Told (sym replied) told) meant)
+  pub says : (s : Searched) {a : Answer} {reply : Reply} → a ≡ answerOf (replyOf s) → replyOf s ≡ reply → Told reply → Means s → NumbersMean Means a
+  says s given replied told meant = subst (NumbersMean Means) (sym given) (numbers-say s (subst Told (sym replied) told) meant)

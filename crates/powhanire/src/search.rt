@@ -5,7 +5,7 @@ ghost use lib.ListN.{length};
 ghost use Rattle.searches.specs.Answers.{SearchMeans, PlainMeans, NearestMeans};
 ghost use Rattle.searches.specs.Searches.{searchReply, searchChoice, plainReply, plainChoice, nearestReply, nearestChoice};
 ghost use Rattle.answers.specs.Answers.{answerOf};
-ghost use Rattle.powhanire.specs.Meaning.{Says};
+ghost use Rattle.powhanire.specs.Meaning.{NumbersMean};
 
 // A choice within the limit d; the value is the number of broken wishes.
 #[no_mangle]
@@ -18,7 +18,7 @@ pub extern "C" fn powhanire_search(
 ) -> Answer
     ensures answer { λ r. ⌜ r ≡ answerOf (searchReply n (now (rules .entry)) (now (row .entry)) d (length (now (choice .entry)))) ⌝ }
     ensures output { λ r. ⌜ now (choice .exit) ≡ searchChoice n (now (rules .entry)) (now (row .entry)) d (now (choice .entry)) ⌝ }
-    ensures meaning { λ r. ⌜ Says (SearchMeans n (now (rules .entry)) (now (row .entry)) d (now (choice .exit))) r ⌝ }
+    ensures meaning { λ r. ⌜ NumbersMean (SearchMeans n (now (rules .entry)) (now (row .entry)) d (now (choice .exit))) r ⌝ }
 {
     answers::of_searched(wish_search::search(n, rules, row, d, choice))
 }
@@ -28,7 +28,7 @@ pub extern "C" fn powhanire_search(
 pub extern "C" fn powhanire_plain(n: usize, rules: &[i32], choice: &mut [u8]) -> Answer
     ensures answer { λ r. ⌜ r ≡ answerOf (plainReply n (now (rules .entry)) (length (now (choice .entry)))) ⌝ }
     ensures output { λ r. ⌜ now (choice .exit) ≡ plainChoice n (now (rules .entry)) (now (choice .entry)) ⌝ }
-    ensures meaning { λ r. ⌜ Says (PlainMeans n (now (rules .entry)) (now (choice .exit))) r ⌝ }
+    ensures meaning { λ r. ⌜ NumbersMean (PlainMeans n (now (rules .entry)) (now (choice .exit))) r ⌝ }
 {
     answers::of_searched(plain_search::search(n, rules, choice))
 }
@@ -43,7 +43,7 @@ pub extern "C" fn powhanire_nearest(
 ) -> Answer
     ensures answer { λ r. ⌜ r ≡ answerOf (nearestReply n (now (rules .entry)) (now (row .entry)) (length (now (choice .entry)))) ⌝ }
     ensures output { λ r. ⌜ now (choice .exit) ≡ nearestChoice n (now (rules .entry)) (now (row .entry)) (now (choice .entry)) ⌝ }
-    ensures meaning { λ r. ⌜ Says (NearestMeans n (now (rules .entry)) (now (row .entry)) (now (choice .exit))) r ⌝ }
+    ensures meaning { λ r. ⌜ NumbersMean (NearestMeans n (now (rules .entry)) (now (row .entry)) (now (choice .exit))) r ⌝ }
 {
     answers::of_searched(nearest_search::search(n, rules, row, choice))
 }

@@ -1,4 +1,5 @@
 pub mod Causes
+pub mod Exact
 pub mod Leaves
 pub mod Rewrite
 pub mod Writing

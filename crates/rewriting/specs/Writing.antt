@@ -16,12 +16,12 @@ use Rattle.totalizer.specs.Totalizer.{leaves, tree, added, atMost, rewrittenVar
 use Rattle.totalizer.specs.Trees as trees
 use Rattle.totalizer.specs.Rows.{leaves-length, leaves-within}
 use Rattle.totalizer.specs.Sizes.{added-most}
-use Rattle.groups.specs.Groups.{Within}
+use Rattle.groups.specs.Groups.{LeavesFit}
 use Rattle.rewriting.specs.Rewrite.{done}
 use Rattle.rewriting.specs.Causes.{Writable}
 
 -- literals of the variables 1 to n are within the limit, if n is
-within : (n : ℕ) (l : List ℤ) → n ≤ maxVariables → trees.Within n l → Within l
+within : (n : ℕ) (l : List ℤ) → n ≤ maxVariables → trees.Within n l → LeavesFit l
 within n [] h w i = omega arith
 within n (x ∷ l) h w zero = omega (arith, w .1)
 within n (x ∷ l) h w (suc i) = within n l h (w .2) i
@@ -47,7 +47,7 @@ module _ (n : ℕ) (rules : List ℤ) (row : List ℕ) (d : ℕ) (out : List ℤ
     found-room = omega (arith, wrote .place, wrote-length wrote, ok .few)
 
     module _ {o : List ℤ} {from : ℕ} (copied : Wrote rules out 0 o from) where
-      pub own-asks : Within (take m found) × (n + added (tree (take m found)) ≤ maxVariables) × (from + length (own (take m found)) ≤ length o)
+      pub own-asks : LeavesFit (take m found) × (n + added (tree (take m found)) ≤ maxVariables) × (from + length (own (take m found)) ≤ length o)
       own-asks = rw these (
         within n (leaves row) (omega (arith, ok .small)) (rw (← ok .long) (leaves-within row)),
         omega (arith, ok .small, ok .few, added-most (leaves row) (ok .few)),

@@ -10,7 +10,7 @@ use lib.IntN.{ℤ}
 use lib.ListN.{length, take}
 use borrow.Author.Tests.{ne-eqb, le-ltb}
 use Rattle.refusal.specs.declared.Refusal.{Refusal}
-use Rattle.refusal.specs.Reply.{Reply, refusing, answering, cause, unless, tooShort, filled}
+use Rattle.refusal.specs.Reply.{refusing, answering, cause, unless, tooShort, filled}
 use Rattle.lent.specs.Lent.{refusalOf, outOfRange}
 use Rattle.limits.specs.Limits.{maxVariables}
 use Rattle.rule_list.specs.Sound.{unread, badRule}
@@ -26,12 +26,8 @@ use Rattle.report.specs.Report.{refusalLine, fitted}
 use Rattle.problem_files.specs.Problem.{unlessRefused}
 use Rattle.problem_files.specs.ReadLaws.{front}
 use Rattle.problem_files.specs.Room.{enough, unrefused}
+use Rattle.rewritten_file.specs.FileSize.{sizeOf}
 use Rattle.rewritten_file.specs.Printed.{rewritingRefused, rewrittenText}
-
--- the length of a file, from the reply of its writer: written, or "length needed"
-abbrev pub sizeOf : Reply → ℕ
-sizeOf (refusing r) = r .place
-sizeOf (answering v x y z) = x
 
 -- the file of a sound list
 module _ (n : ℕ) (l : List ℤ) (out : List ℕ) (positive : 0 < n) (most : n ≤ maxVariables) (sound : badRule n unread 0 l ≡ none) where

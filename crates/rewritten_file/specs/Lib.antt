@@ -1,4 +1,5 @@
 pub mod Example
+pub mod FileSize
 pub mod Laws
 pub mod Printed
 pub mod Sizes

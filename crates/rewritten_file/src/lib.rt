@@ -12,7 +12,7 @@ ghost use Rattle.dimacs.specs.Written.{written};
 ghost use Rattle.rule_writer.specs.Write.{replyOf};
 ghost use Rattle.report.specs.Report.{fitted};
 ghost use Rattle.rewritten_file.specs.Printed.{longest, rewrittenText, printed};
-ghost use Rattle.rewritten_file.specs.Laws.{sizeOf};
+ghost use Rattle.rewritten_file.specs.FileSize.{sizeOf};
 
 // Puts what is printed for a rule file and a wish file into the lent bytes, if it fits, and gives
 // its length.

@@ -1,2 +1,4 @@
+pub mod RuleFiles
 pub mod Rules
+pub mod WishFiles
 pub mod Wishes

@@ -32,7 +32,7 @@ answerIn n bytes broken = record { choice = take n bytes; broken = broken }
 -- the wish search: a model within the limit, with its own count; or no model is within the limit
 abbrev pub SearchMeans : ℕ → List ℤ → List ℕ → ℕ → List ℕ → Searched → Type 0
 SearchMeans n rules row d bytes (Refused r) = Unit {0}
-SearchMeans n rules row d bytes (Found broken) = P.Found n (clauses rules) row d (answerIn n bytes broken)
+SearchMeans n rules row d bytes (Found broken) = P.ModelWithin n (clauses rules) row d (answerIn n bytes broken)
 SearchMeans n rules row d bytes Nothing = (a : List ℕ) → Model n (clauses rules) a → d < disagreement row a
 
 -- plain search: a model, and no wish is broken, since there is none; or there is no model
@@ -80,8 +80,8 @@ module _ (n : ℕ) (before : List ℕ) where
         → SearchMeans n rules row d bytes (searchedOf (brokenBy o))
     search-means d none e g = search-none n rules sound row d .0 e
     search-means d (some x) e g =
-        let w : P.Found n (clauses rules) row d x = search-found n rules sound row d x e in
-        subst (P.Found n (clauses rules) row d) (front x (w .model .choice .size) bytes g) w
+        let w : P.ModelWithin n (clauses rules) row d x = search-found n rules sound row d x e in
+        subst (P.ModelWithin n (clauses rules) row d) (front x (w .model .choice .size) bytes g) w
 
     pub nearest-means : (o : Option Answer) → nearestWalk n (clauses rules) row ≡ o → bytes ≡ choiceAfter none o n before
         → NearestMeans n rules row bytes (searchedOf (brokenBy o))

@@ -1,5 +1,6 @@
 pub mod Admitted
 pub mod Answers
+pub mod Exact
 pub mod Fits
 pub mod Meaning
 pub mod Searches

@@ -12,11 +12,10 @@ use Rattle.literal.specs.Literal.{variable, holds}
 use Rattle.formula.specs.Formula.{all}
 use Rattle.soundness.specs.Laws.{and-both, all-append}
 use Rattle.choices.specs.Choices.{Choice}
-use Rattle.totalizer.specs.Choice.{binary, choice-of}
+use Rattle.totalizer.specs.Choice.{binary, choice-of, holds-take}
 use Rattle.totalizer.specs.Totalizer.{Tree, leaf, node, tree, size, added, leaves, rewrittenVariables, count, unary, counters, completion, Over}
 use Rattle.totalizer.specs.Trees.{held, Within, tree-over}
 use Rattle.totalizer.specs.Counters.{segment, length-counters}
-use Rattle.totalizer.specs.Choice.{holds-take}
 
 -- two assignments that agree on the variables 1 to n
 module _ (n : ℕ) (g h : ℤ → Bool) (same : (x : ℤ) → variable x ≤ n → g x ≡ h x) where

@@ -15,7 +15,7 @@ use Rattle.walk.specs.State.{State, unassigned, assign, fits}
 use Rattle.walk.specs.Propagation.{propagate}
 use Rattle.walk.specs.Branching.{fewest}
 use Rattle.walk.specs.Walk.{Answer, Outcome, isDeadEnd, complete, completed, firstValue, firstAnswer, walkBy}
-use Rattle.walk.specs.Promises.{Found, Branches}
+use Rattle.walk.specs.Promises.{ModelWithin, Branches}
 use Rattle.walk.specs.Extension.{Extends}
 use Rattle.walk.specs.Assignment.{extends-branch}
 use Rattle.walk.specs.PropagationLaws.{propagate-forced}
@@ -42,7 +42,7 @@ start-extends n c = record { keeps = λ i q. absurd (q (nothing-assigned n i)) }
 -- what an answer says of the state that the walk started from
 abbrev pub Right : ℕ → List (List ℤ) → List ℕ → ℕ → List ℕ → Option Answer → Type 0
 Right n f row d a none = (c : List ℕ) → Model n f c → Extends c a → d < disagreement row c
-Right n f row d a (some x) = Found n f row d x
+Right n f row d a (some x) = ModelWithin n f row d x
 
 module _ (n : ℕ) (f : List (List ℤ)) (fit : fits n f ≡ true) (row : List ℕ) (d : ℕ) where
   after-settling : (a : List ℕ) (o : Option Answer) → Right n f row d (propagate f a) o → Right n f row d a o

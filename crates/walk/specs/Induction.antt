@@ -59,7 +59,7 @@ module _ (n : ℕ) (f : List (List ℤ)) (fit : fits n f ≡ true) (row : List �
       at false p true q z r = subst (P a) (sym (decide-complete f row d try a p q)) (w .completes a s p q)
       at false p false q true r = subst (P a) (sym (decide-exhausted f row d try a p q r)) (w .exhausts a s p q r)
       at false p false q false r =
-          subst (P a) (sym (decide-fork f row d try a p q r)) (fork (branchingVariable row a f) refl (record { alive = p; incomplete = q; within = r }))
+          subst (P a) (sym (decide-fork f row d try a p q r)) (fork (branchingVariable row a f) refl (record { alive = p; incomplete = q; unexhausted = r }))
 
   pub walk-induction : (k : ℕ) (a : List ℕ) → State n a → unassigned a < k → P a (walkBy k f row d a)
   walk-induction zero a h l = absurd (not-suc-le-zero l)

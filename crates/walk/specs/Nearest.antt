@@ -14,7 +14,7 @@ use Rattle.distance.specs.Laws.{cost-free}
 use Rattle.choices.specs.Choices.{Model}
 use Rattle.walk.specs.State.{unassigned, fits}
 use Rattle.walk.specs.Walk.{Answer, walk, firstAnswer, climb, nearestWalk}
-use Rattle.walk.specs.Promises.{Found, Closest}
+use Rattle.walk.specs.Promises.{ModelWithin, Closest}
 use Rattle.walk.specs.Correctness.{start-state, start-extends, Right, walk-right}
 
 -- no choice breaks more wishes than there are
@@ -50,7 +50,7 @@ module _ (n : ℕ) (f : List (List ℤ)) (fit : fits n f ≡ true) (row : List �
   at-limit : (d : ℕ) → ((a : List ℕ) → Model n f a → d ≤ disagreement row a) → (o : Option Answer) → Right n f row d (replicate n 2) o → RightUpTo n f row d o
   at-limit d h none p = λ a m. p a m (start-extends n a)
   at-limit d h (some x) p =
-      let r : Found n f row d x = p in
+      let r : ModelWithin n f row d x = p in
       record { model = r .model; counted = r .counted; below = λ a m. omega (arith, h a m, r .limited) }
 
   climb-right : (k d m : ℕ) → m ≡ d + k → ((a : List ℕ) → Model n f a → d ≤ disagreement row a) → RightUpTo n f row m (climb n f row k d)

@@ -11,7 +11,7 @@ use Rattle.choices.specs.Choices.{Model}
 use Rattle.walk.specs.Walk.{Answer, isDeadEnd, complete, isExhausted}
 
 -- an answer of the walk: a model, with its own count, within the limit
-pub record Found (n : ℕ) (f : List (List ℤ)) (row : List ℕ) (d : ℕ) (x : Answer) : Type 0 where
+pub record ModelWithin (n : ℕ) (f : List (List ℤ)) (row : List ℕ) (d : ℕ) (x : Answer) : Type 0 where
   pub model : Model n f (x .choice)
   pub counted : disagreement row (x .choice) ≡ x .broken
   pub limited : x .broken ≤ d
@@ -26,7 +26,7 @@ pub record Closest (n : ℕ) (f : List (List ℤ)) (row : List ℕ) (x : Answer)
 pub record Undecided (f : List (List ℤ)) (row : List ℕ) (d : ℕ) (a : List ℕ) : Type 0 where
   pub alive : isDeadEnd f row d a ≡ false
   pub incomplete : models (complete row a) f ≡ false
-  pub within : isExhausted f row d a ≡ false
+  pub unexhausted : isExhausted f row d a ≡ false
 
 -- a variable to branch on: unassigned, and one of 1 to n
 pub record Branches (a : List ℕ) (n v : ℕ) : Type 0 where

@@ -14,14 +14,14 @@ use Rattle.choices.specs.Choices.{Model, within-iff, within-none, nearest-none,
 use Rattle.walk.specs.State.{State, unassigned, fits}
 use Rattle.walk.specs.Branching.{branchingVariable}
 use Rattle.walk.specs.Walk.{Answer, walkBy, walk, plainWalk, nearestWalk}
-use Rattle.walk.specs.Promises.{Found, Closest, Undecided, Branches}
+use Rattle.walk.specs.Promises.{ModelWithin, Closest, Undecided, Branches}
 use Rattle.walk.specs.WalkLaws.{walk-enough}
 use Rattle.walk.specs.Induction.{branching}
 use Rattle.walk.specs.Correctness.{start-state, start-unassigned, start-extends, Right}
 use Rattle.walk.specs.Nearest.{RightUpTo, disagreement-wishes, disagreement-free, start-right, nearest-right}
 
 -- Soundness: what the walk finds is a choice that meets all rules, with the count that it breaks, and that is at most d.
-pub walk-sound : (n : ℕ) (f : List (List ℤ)) → fits n f ≡ true → (row : List ℕ) (d : ℕ) (x : Answer) → walk n f row d .answer ≡ some x → Found n f row d x
+pub walk-sound : (n : ℕ) (f : List (List ℤ)) → fits n f ≡ true → (row : List ℕ) (d : ℕ) (x : Answer) → walk n f row d .answer ≡ some x → ModelWithin n f row d x
 walk-sound n f fit row d x e = subst (Right n f row d (replicate n 2)) e (start-right n f fit row d)
 
 -- Completeness: it finds nothing exactly when every choice that meets all rules breaks more than d wishes.
@@ -37,7 +37,7 @@ walk-none n f fit row d = (forth, λ g. back g (walk n f row d .answer) (start-r
     back : ((a : List ℕ) → Model n f a → d < disagreement row a) → (o : Option Answer) → Right n f row d (replicate n 2) o → o ≡ none
     back g none p = refl
     back g (some x) p =
-        let r : Found n f row d x = p in
+        let r : ModelWithin n f row d x = p in
         absurd (omega (arith, g (x .choice) (r .model), r .counted, r .limited))
 
 -- The same of the choices that are listed.

@@ -13,7 +13,7 @@ use borrow.Author.Tests.{lt-ltb, le-leb, ltb-true, ltb-false, leb-true}
 use Rattle.distance.specs.Distance.{weight, wishes}
 use Rattle.limits.specs.Limits.{maxWishes}
 use Rattle.lent.specs.Sound.{badWish}
-use Rattle.wish_file.specs.Wishes.{Wish, wishList, marked, rowOf}
+use Rattle.wish_file.specs.Wishes.{Wish, wishList, marked, rowOf, Rising}
 
 -- the bytes of a row are 0, 1 and 2
 abbrev pub Bytes : List ℕ → Type 0
@@ -47,11 +47,6 @@ list-length v (w ∷ row) = go (ltb w 2) (list-length (suc v) row)
         → length (cond t (record { variable = v; mark = w } ∷ wishList (suc v) row) (wishList (suc v) row)) ≡ cond t 1 0 + wishes row
     go true e = omega arith
     go false e = omega arith
-
--- wishes whose variables rise above last and are at most n, with marks 0 and 1
-abbrev pub Rising : ℕ → ℕ → List Wish → Type 0
-Rising n last [] = Unit {0}
-Rising n last (w ∷ ws) = (last < w .variable) × (w .variable ≤ n) × (w .mark < 2) × Rising n (w .variable) ws
 
 pub list-rising : (row : List ℕ) (v n last : ℕ) → last < v → v + length row ≤ suc n → Rising n last (wishList v row)
 list-rising [] v n last h k = tt

@@ -1,7 +1,7 @@
 -- The wishes of a row, one by one, and the row of some wishes.
 use mathlib.Core.Bool.{cond}
 use mathlib.Core.List.{List, [], _∷_}
-use Prim.Native.Nat.{ℕ, suc, _-_}
+use Prim.Native.Nat.{ℕ, suc, _-_, _≤_, _<_}
 use lib.Dec.{ltb}
 use lib.ListN.{set, replicate}
 
@@ -24,3 +24,8 @@ marked row (w ∷ ws) = marked (set row (w .variable - 1) (w .mark)) ws
 -- the row of n bytes that some wishes give: the other variables are free
 abbrev pub rowOf : ℕ → List Wish → List ℕ
 rowOf n ws = marked (replicate n 2) ws
+
+-- wishes whose variables rise above last and are at most n, with marks 0 and 1
+abbrev pub Rising : ℕ → ℕ → List Wish → Type 0
+Rising n last [] = Unit {0}
+Rising n last (w ∷ ws) = (last < w .variable) × (w .variable ≤ n) × (w .mark < 2) × Rising n (w .variable) ws

@@ -17,8 +17,7 @@ use Rattle.limits.specs.Limits.{maxWishVariables, maxWishes, maxLimit}
 use Rattle.wish_file.specs.Format.{headerColumns, wishColumns, wishOf, outside, misfit, badLine, wishAt, badLines, wishesIn, Reading, refuses, gives, readLines, readHeader, reading}
 use Rattle.wish_file.specs.Layout.{columnWidth, lineSize, lineNumbers}
 use Rattle.wish_file.specs.RoundTrip.{accepted-parts, accepted, lines-written}
-use Rattle.wish_file.specs.WishLaws.{Rising}
-use Rattle.wish_file.specs.Wishes.{Wish, marked, rowOf}
+use Rattle.wish_file.specs.Wishes.{Wish, marked, rowOf, Rising}
 use Rattle.wish_lines.specs.Laws.{line-numbers, line-long, line-none, line-field}
 use Rattle.wish_lines.specs.Lines.{present, isLine, field}
 use Rattle.wish_reader.specs.Read.{readReply, readOutput, fileScan}

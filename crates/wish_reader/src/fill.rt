@@ -7,8 +7,7 @@ ghost use mathlib.Core.Path.{_≡_};
 ghost use Prim.Native.Nat.{_≤_};
 ghost use lib.ListN.{length, drop, replicate};
 ghost use Rattle.wish_file.specs.Format.{wishesIn};
-ghost use Rattle.wish_file.specs.WishLaws.{Rising};
-ghost use Rattle.wish_file.specs.Wishes.{marked};
+ghost use Rattle.wish_file.specs.Wishes.{marked, Rising};
 
 // Leaves n variables free.
 pub fn free_row(n: usize, row: &mut [u8])

@@ -3,7 +3,8 @@ use mathlib.Core.Path.{_≡_, ap, _∙_}
 use native.Mathlib.Omega.{arith}
 use lib.ListN.{length}
 use Rattle.dimacs.specs.Written.{written}
-use Rattle.rewritten_file.specs.Laws.{sizeOf, file-size, file-put}
+use Rattle.rewritten_file.specs.FileSize.{sizeOf}
+use Rattle.rewritten_file.specs.Laws.{file-size, file-put}
 use Rattle.rewritten_file.specs.Sizes.{written-most}
 use borrow.Author.Needs.{needs}
 use Rattle.rewritten_file.proofs.put_file.Statement.{statement}

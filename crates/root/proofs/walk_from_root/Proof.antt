@@ -8,7 +8,7 @@ use borrow.Author.Needs.{needs}
 use Rattle.formula.specs.Formula.{clauses}
 use Rattle.rule_list.specs.Sound.{unread, badRule}
 use Rattle.walk.specs.Walk.{walkFrom}
-use Rattle.powhanire.specs.Meaning.{Says}
+use Rattle.dll.specs.Tried.{TriedBy}
 use Rattle.root.specs.Root.{root-says, root-searching}
 use Rattle.root.proofs.walk_from_root.Statement.{statement}
 use Rattle.root.proofs.walk_from_root.Tie as tie
@@ -48,7 +48,7 @@ returns c =
     let w = walkFrom f (g .args .row .now) (g .args .d) in
     let a : List ℕ = c .before .before .before .before .before .before .before .before .before .before .before .before .before .before .before .unassign-all .last .0 in
     root-says (w (replicate (length (g .args .a .now)) 2)) 0 (g .args .trail .now) a (c .before .before .before .before .before .before .before .before .attempt .last .1 .1 .1 .1 .1 .0) (c .before .before .before .before .before .before .before .before .attempt .last .1 .1 .1 .1 .0) (c .before .before .before .before .before .before .before .before .attempt .result)
-    (subst (λ (s : List ℕ). Says (w s) 0 (g .args .trail .now) a (c .before .before .before .before .before .before .before .before .attempt .last .1 .1 .1 .1 .1 .0) (c .before .before .before .before .before .before .before .before .attempt .last .1 .1 .1 .1 .0) (c .before .before .before .before .before .before .before .before .attempt .result)) (c .before .before .before .before .before .before .before .before .before .before .before .before .before .before .before .unassign-all .ensures) (c .before .before .before .before .before .before .before .before .attempt .ensures))
+    (subst (λ (s : List ℕ). TriedBy (w s) 0 (g .args .trail .now) a (c .before .before .before .before .before .before .before .before .attempt .last .1 .1 .1 .1 .1 .0) (c .before .before .before .before .before .before .before .before .attempt .last .1 .1 .1 .1 .0) (c .before .before .before .before .before .before .before .before .attempt .result)) (c .before .before .before .before .before .before .before .before .before .before .before .before .before .before .before .unassign-all .ensures) (c .before .before .before .before .before .before .before .before .attempt .ensures))
 
 pub walk-from-root-spec : {M : Type 1} → statement M
 walk-from-root-spec =

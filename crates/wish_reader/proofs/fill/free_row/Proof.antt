@@ -2,9 +2,8 @@
 use mathlib.Core.Path.{_≡_, refl, sym, ap, _∙_}
 use Prim.Native.Nat.{ℕ, _-_, _≤_}
 use native.Mathlib.Omega.{arith}
-use lib.ListN.{length}
+use lib.ListN.{length, replicate, length-set}
 use borrow.Author.Needs.{needs}
-use lib.ListN.{replicate, length-set}
 use lib.Seq.{sets}
 use Rattle.wish_file.specs.Fill.{fill-step, fill-done}
 use Rattle.wish_reader.specs.Laws.{filled-free}

@@ -1,0 +1,64 @@
+-- The rule file's two calls, the reader first (document 01, "The rule file"): "a file in the writer's form, read and written, is that file".
+use mathlib.Core.Path.{_≡_, refl, ap}
+use mathlib.Core.Bool.{false}
+use mathlib.Core.List.{List, _++_}
+use mathlib.Core.Option.{Option, none, some}
+use Prim.Native.Nat.{ℕ, _≤_}
+use native.Mathlib.Omega.{arith}
+use lib.IntN.{ℤ}
+use lib.ListN.{length, take, drop}
+use lib.Seq.{take-append-seam}
+use borrow.Author.Tests.{le-ltb, ne-eqb}
+use Rattle.refusal.specs.declared.Refusal.{Refusal}
+use Rattle.refusal.specs.Reply.{answering, unless, tooShort, filled}
+use Rattle.lent.specs.Lent.{refusalOf, outOfRange}
+use Rattle.limits.specs.Limits.{maxVariables}
+use Rattle.dimacs.specs.Accepted.{accepted, written-read}
+use Rattle.dimacs.specs.Format.{Reading, refuses, gives, reading}
+use Rattle.dimacs.specs.Written.{written}
+use Rattle.rule_writer.specs.Write.{lentToWrite, writeReply, writeOutput}
+use Rattle.rule_reader.specs.Read.{readReply, readOutput}
+
+-- what a call that answered has filled is its result
+filled-front : (o : Option Refusal) (list out : List ℤ) (v x y z n c : ℕ) → unless o (answering 1 n c (length list)) ≡ answering v x y z
+    → (x ≡ n) × (take z (filled o list out) ≡ list)
+filled-front none list out v x y z n c e =
+    let size : length list ≡ z = cc in
+    ((cc), rw (← size) (take-append-seam list (drop (length list) out)))
+filled-front (some r) list out v x y z n c e = let z : _≡_ {A = ℕ} 0 1 = cc in absurd (omega arith)
+
+module _ (file out : List ℕ) where
+  -- the writer answers with the file's length, and leaves the file
+  abbrev pub WritesFile : ℕ → List ℤ → Type 0
+  WritesFile n l = (writeReply n l (length out) ≡ answering 1 (length file) 0 0) × (writeOutput n l out ≡ file ++ drop (length file) out)
+
+  -- so it does with what a file in its form reads as
+  module _ (room : length file ≤ length out) (n c : ℕ) (l : List ℤ) (read : reading file ≡ gives n c l) (form : written n l ≡ file) where
+    unrefused : refusalOf (lentToWrite n l (length out)) ≡ none
+    unrefused =
+        let a = accepted file n c l read in
+        let range : outOfRange n 0 ≡ false = rw (ne-eqb n 0 (λ z. omega (arith, a .least)), le-ltb maxVariables n (a .most)) in
+        let space : length (written n l) ≤ length out = omega (arith, ap length form) in
+        rw (range, a .sound, le-ltb (length out) (length (written n l)) space)
+
+    writes : WritesFile n l
+    writes = rw (unrefused) (
+      ap (λ (s : List ℕ). answering 1 (length s) 0 0) form,
+      ap (λ (s : List ℕ). s ++ drop (length s) out) form,
+    )
+
+-- a file in the writer's form, whatever it was written from, that the reader takes
+module _ (n₀ : ℕ) (l₀ : List ℤ) (file : List ℕ) (form : file ≡ written n₀ l₀) (list : List ℤ) (v n c size : ℕ) (taken : readReply (reading file) list ≡ answering v n c size) where
+  -- the part of the lent list that the reader filled
+  abbrev pub part : List ℤ
+  part = take size (readOutput (reading file) list)
+
+  -- the writer, given that and lent room for the file, makes the file
+  pub written-again : (out : List ℕ) → length file ≤ length out → WritesFile file out n part
+  written-again out room = go (reading file) refl
+    where
+      go : (g : Reading) → reading file ≡ g → WritesFile file out n part
+      go (refuses r) e = let z : _≡_ {A = ℕ} 0 1 = cc (rw (e) at taken) in absurd (omega arith)
+      go (gives m k l) e =
+          let same = filled-front (tooShort (length l) (length list)) l list v n c size m k (rw (e) at taken) in
+          rw (e, same .0, same .1) (writes file out room m k l e (written-read n₀ l₀ file form m k l e))

@@ -1,0 +1,92 @@
+-- `second_route::from_writer` meets its contract: the writer is refused, or the reader has the part of the file that it filled.
+use mathlib.Core.Path.{_≡_, sym, ap, _∙_}
+use mathlib.Core.List.{List}
+use Prim.Native.Nat.{ℕ, _≤_}
+use native.Mathlib.Omega.{arith}
+use lib.IntN.{ℤ}
+use lib.ListN.{length, length-take}
+use borrow.Author.Needs.{needs}
+use Rattle.refusal.specs.Reply.{answering}
+use Rattle.rule_writer.specs.Write.{writeReply, replyOf}
+use Rattle.searches.specs.Answers as searches
+use Rattle.second_route.specs.Laws.{written-inside, writer-refused, writer-answered}
+use Rattle.second_route.specs.Routes.{Buffers}
+use Rattle.second_route.proofs.from_writer.Statement.{statement}
+use Rattle.second_route.proofs.from_writer.Tie as tie
+
+write-rules-requires : tie.Need-write-rules-requires
+write-rules-requires c κs = search needs
+
+enum-known-r : tie.Need-enum-known-r
+enum-known-r c = search needs
+
+enum-known-k : tie.Need-enum-known-k
+enum-known-k c = search needs
+
+-- what the writer said, and the part that it filled
+said : (c : tie.After-known-told2)
+    → answering 1 (c .before .k .given .0 .0) 0 0 ≡ writeReply (c .before .before .before .before .before .before .before .before .before .args .n) (c .before .before .before .before .before .before .before .before .before .args .rules .now) (length (c .before .before .before .before .before .before .before .before .before .args .file .now))
+said c = sym (ap replyOf (c .before .k .given .1)) ∙ c .before .before .before .before .before .write-rules .ensures .0
+
+inside : (c : tie.After-known-told2) → c .before .k .given .0 .0 ≤ length (c .before .before .before .before .before .write-rules .last .1 .1 .0)
+inside c =
+    let args = c .before .before .before .before .before .before .before .before .before .args in
+    rw (c .before .before .before .before .before .write-rules .ensures .1) (written-inside (args .n) (args .rules .now) (args .file .now) (c .before .k .given .0 .0) (said c))
+
+slice-reshare-prefix-from-reader : tie.Need-slice-reshare-prefix-from-reader
+slice-reshare-prefix-from-reader c = omega (arith, inside c)
+
+slice-aggregate-from-reader : tie.Need-slice-aggregate-from-reader
+slice-aggregate-from-reader c = simp length-take (omega (arith, inside (c .before)))
+
+from-reader-requires : tie.Need-from-reader-requires
+from-reader-requires c κs = search needs
+
+same-length : tie.Need-same-length
+same-length c = search needs
+
+-- the buffers, as far as they are lent here
+abbrev lent : List ℤ → List ℕ → List ℤ → List ℕ → Buffers
+lent rules file list choice = record { rewritten = rules; file = file; list = list; choice = choice }
+
+returns : tie.Need-returns
+returns c =
+    let args = c .before .before .before .before .before .before .before .before .before .args in
+    let call = c .before .before .before .before .before .write-rules in
+    let held = c .before .r .given in
+    let out = writer-refused (lent (args .rules .now) (args .file .now) (args .list .now) (args .choice .now)) (args .n) (args .rules .now) (held .0 .0) (sym (ap replyOf (held .1)) ∙ call .ensures .0) in
+    (out .0, (call .ensures .1, (out .1, out .2)))
+
+same-length-2 : tie.Need-same-length-2
+same-length-2 c = search needs
+
+same-length-3 : tie.Need-same-length-3
+same-length-3 c = search needs
+
+same-length-4 : tie.Need-same-length-4
+same-length-4 c = search needs
+
+returns-2 : tie.Need-returns-2
+returns-2 c =
+    let args = c .before .before .before .before .before .before .before .before .before .before .before .before .before .before .before .before .args in
+    let call = c .before .before .before .before .before .before .before .before .before .before .before .before .write-rules in
+    let rest = c .before .before .before .from-reader in
+    let out = writer-answered (lent (args .rules .now) (args .file .now) (args .list .now) (args .choice .now)) (args .n) (args .rules .now) (c .before .before .before .before .before .before .before .before .k .given .0 .0) (said (c .before .before .before .before .before .before .before)) (call .last .1 .1 .0) (call .ensures .1) (searches.replyOf (rest .result)) (rest .last .1 .0) (rest .last .1 .1 .0) (rest .ensures .0) (rest .ensures .1 .0) (rest .ensures .1 .1) in
+    (out .0, (call .ensures .1, (out .1, out .2)))
+
+pub from-writer-spec : {M : Type 1} → statement M
+from-writer-spec =
+    tie.close
+    (tie.spec
+    write-rules-requires
+    enum-known-r
+    enum-known-k
+    slice-reshare-prefix-from-reader
+    slice-aggregate-from-reader
+    from-reader-requires
+    same-length
+    returns
+    same-length-2
+    same-length-3
+    same-length-4
+    returns-2)

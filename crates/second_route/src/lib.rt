@@ -1,0 +1,74 @@
+// The second route of document 01: rewriting, the writer, the reader and plain search, each on exactly
+// what the one before it returned or left in the part it filled. (The first route is one call,
+// wish_search::search.)
+use rewriting::Rewritten;
+use rule_reader::ReadRules;
+use rule_writer::WrittenRules;
+use searches::Searched;
+ghost use mathlib.Core.Path.{_≡_};
+ghost use Rattle.dimacs.specs.Format.{reading};
+ghost use Rattle.rule_reader.specs.Read.{readOutput};
+ghost use Rattle.rule_writer.specs.Write.{writeOutput};
+ghost use Rattle.searches.specs.Answers.{replyOf};
+ghost use Rattle.second_route.specs.Routes.{Buffers, fromReader, fromWriter, secondRoute};
+ghost use Rattle.second_route.specs.Left.{choiceFromReader, listFromWriter, choiceFromWriter, secondLeaves};
+
+// The whole route, with a buffer lent for what each call writes.
+pub fn second_route(
+    n: usize,
+    rules: &[i32],
+    row: &[u8],
+    d: usize,
+    rewritten: &mut [i32],
+    file: &mut [u8],
+    list: &mut [i32],
+    choice: &mut [u8],
+) -> Searched
+    ensures reply { λ r. ⌜ replyOf r ≡ secondRoute n (now (rules .entry)) (now (row .entry)) d (record { rewritten = now (rewritten .entry); file = now (file .entry); list = now (list .entry); choice = now (choice .entry) }) ⌝ }
+    ensures rewritten { λ r. ⌜ now (rewritten .exit) ≡ secondLeaves n (now (rules .entry)) (now (row .entry)) d (record { rewritten = now (rewritten .entry); file = now (file .entry); list = now (list .entry); choice = now (choice .entry) }) .rewritten ⌝ }
+    ensures file { λ r. ⌜ now (file .exit) ≡ secondLeaves n (now (rules .entry)) (now (row .entry)) d (record { rewritten = now (rewritten .entry); file = now (file .entry); list = now (list .entry); choice = now (choice .entry) }) .file ⌝ }
+    ensures list { λ r. ⌜ now (list .exit) ≡ secondLeaves n (now (rules .entry)) (now (row .entry)) d (record { rewritten = now (rewritten .entry); file = now (file .entry); list = now (list .entry); choice = now (choice .entry) }) .list ⌝ }
+    ensures choice { λ r. ⌜ now (choice .exit) ≡ secondLeaves n (now (rules .entry)) (now (row .entry)) d (record { rewritten = now (rewritten .entry); file = now (file .entry); list = now (list .entry); choice = now (choice .entry) }) .choice ⌝ }
+{
+    match rewriting::rewrite(n, rules, row, d, rewritten) {
+        Rewritten::Refused(r) => Searched::Refused(r),
+        Rewritten::Done(sizes) => {
+            let k = sizes.length;
+            from_writer(sizes.variables, &rewritten[..k], file, list, choice)
+        }
+    }
+}
+
+// The route from the writer on.
+fn from_writer(
+    n: usize,
+    rules: &[i32],
+    file: &mut [u8],
+    list: &mut [i32],
+    choice: &mut [u8],
+) -> Searched
+    ensures reply { λ r. ⌜ replyOf r ≡ fromWriter (record { rewritten = now (rules .entry); file = now (file .entry); list = now (list .entry); choice = now (choice .entry) }) n (now (rules .entry)) ⌝ }
+    ensures file { λ r. ⌜ now (file .exit) ≡ writeOutput n (now (rules .entry)) (now (file .entry)) ⌝ }
+    ensures list { λ r. ⌜ now (list .exit) ≡ listFromWriter (record { rewritten = now (rules .entry); file = now (file .entry); list = now (list .entry); choice = now (choice .entry) }) n (now (rules .entry)) ⌝ }
+    ensures choice { λ r. ⌜ now (choice .exit) ≡ choiceFromWriter (record { rewritten = now (rules .entry); file = now (file .entry); list = now (list .entry); choice = now (choice .entry) }) n (now (rules .entry)) ⌝ }
+{
+    match rule_writer::write_rules(n, rules, file) {
+        WrittenRules::Refused(r) => Searched::Refused(r),
+        WrittenRules::Written(k) => from_reader(&file[..k], list, choice),
+    }
+}
+
+// The route from the reader on.
+fn from_reader(file: &[u8], list: &mut [i32], choice: &mut [u8]) -> Searched
+    ensures reply { λ r. ⌜ replyOf r ≡ fromReader (record { rewritten = now (list .entry); file = now (file .entry); list = now (list .entry); choice = now (choice .entry) }) (now (file .entry)) ⌝ }
+    ensures list { λ r. ⌜ now (list .exit) ≡ readOutput (reading (now (file .entry))) (now (list .entry)) ⌝ }
+    ensures choice { λ r. ⌜ now (choice .exit) ≡ choiceFromReader (record { rewritten = now (list .entry); file = now (file .entry); list = now (list .entry); choice = now (choice .entry) }) (now (file .entry)) ⌝ }
+{
+    match rule_reader::read_rules(file, list) {
+        ReadRules::Refused(r) => Searched::Refused(r),
+        ReadRules::Read(counts) => {
+            let k = counts.length;
+            plain_search::search(counts.variables, &list[..k], choice)
+        }
+    }
+}
