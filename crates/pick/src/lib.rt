@@ -11,7 +11,6 @@ ghost use lib.ListN.{length};
 ghost use Rattle.formula.specs.Formula.{clauses};
 ghost use Rattle.distance.specs.Distance.{disagreement};
 ghost use Rattle.rule_list.specs.Sound.{unread, badRule};
-ghost use Rattle.rule_reader.specs.Laws.{isSome};
 ghost use Rattle.opposed.specs.Opposed.{sizeOf, isSome};
 ghost use Rattle.walk.specs.Walk.{firstValue};
 ghost use Rattle.pick.specs.Pick.{pickOf};

@@ -4,7 +4,6 @@ use mathlib.Core.Bool.{Bool, true, false, _&&_}
 use lib.Dec.{eqb}
 use borrow.Author.Needs.{needs}
 use Rattle.opposed.specs.declared.fewest.Fewest.{Fewest}
-use Rattle.rule_reader.specs.Laws.{isSome}
 use Rattle.opposed.specs.Opposed.{sizeOf, isSome}
 use Rattle.pick.proofs.is_exhausted.Statement.{statement}
 use Rattle.pick.proofs.is_exhausted.Tie as tie
