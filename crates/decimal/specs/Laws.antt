@@ -1,5 +1,5 @@
 -- Reading and writing a number undo one another.
-use mathlib.Core.Path.{_≡_, refl, sym, ap, ap₂, _∙_}
+use mathlib.Core.Path.{_≡_, refl, sym, ap, _∙_}
 use mathlib.Core.Bool.{Bool, true, false, cond, _&&_, and-false, and-true, and-eq-true-iff}
 use mathlib.Core.List.{List, [], _∷_, _++_, append-assoc, append-nil}
 use mathlib.Core.Option.{Option, none, some, Option·some-injective, Option·none-ne-some}
@@ -7,8 +7,7 @@ use Prim.Native.Nat.{ℕ, zero, suc, _+_, _-_, _*_, _/_, _%_, _^_, _≤_, _<_}
 use native.Mathlib.Nat.{pow-suc, one-le-pow, pow-le-pow-right, not-suc-le-zero}
 use native.Mathlib.Omega.{arith}
 use lib.Dec.{eqb, leb, ltb}
-use lib.ListN.{length, take, drop, set, length-append}
-use lib.Seq.{drop-cons, lt-length-set, getD-set-same, drop-set-lt, take-set-le, set-split, sets, sets-eq}
+use lib.ListN.{length, length-append}
 use borrow.Author.Tests.{lt-ltb, le-ltb, le-leb, lt-leb, ltb-true, ltb-false, leb-true, eqb-true, eqb-false}
 use Rattle.decimal.specs.Decimal.{digits, decimal, isDigit, onlyDigits, valueFrom, isNumber, number}
 
@@ -292,35 +291,3 @@ count-most (suc k) v h = go (ltb v 10) refl (count-most k (v / 10) (omega (arith
     go : (t : Bool) → ltb v 10 ≡ t → length (decimal (v / 10)) ≤ suc k → length (decimal v) ≤ suc (suc k)
     go true e ih = omega (arith, count-one v (ltb-true v 10 e))
     go false e ih = omega (arith, count-more v (ltb-false v 10 e))
-
--- what stands before and after some bytes that were written over a list
-pub written-sets : (l : List ℕ) (at : ℕ) (w : List ℕ) (i : ℕ) → i ≡ at + length w → i ≤ length l → take at l ++ (w ++ drop i l) ≡ sets l at w
-written-sets l at w i e h =
-    ap (λ (k : ℕ). take at l ++ (w ++ drop k l)) e ∙ sym (append-assoc (take at l) w (drop (at + length w) l)) ∙ sym (sets-eq w l at (omega arith))
-
--- bytes written after others
-pub sets-append : (l : List ℕ) (at : ℕ) (w v : List ℕ) → sets l at (w ++ v) ≡ sets (sets l at w) (at + length w) v
-sets-append l at [] v = let same : at + 0 ≡ at = omega arith in rw (same)
-sets-append l at (b ∷ w) v =
-    let same : suc at + length w ≡ at + suc (length w) = omega arith in
-    sets-append (set l at b) (suc at) w v ∙ ap (λ (k : ℕ). sets (sets (set l at b) (suc at) w) k v) same
-
--- writing the last digit of several, and the only one: what the buffer is to hold does not change
-pub written-last : (l : List ℕ) (at i v : ℕ) → 10 ≤ v → i ≡ at + length (decimal v) → i ≤ length l
-    → take at l ++ (decimal v ++ drop i l)
-    ≡ take at (set l (i - 1) (48 + v % 10)) ++ (decimal (v / 10) ++ drop (i - 1) (set l (i - 1) (48 + v % 10)))
-written-last l at i v h e f =
-    let here : i - 1 < length l = omega (arith, count-more v h) in
-    let below : at ≤ i - 1 = omega (arith, count-more v h) in
-    let next : suc (i - 1) ≡ i = omega (arith, count-more v h) in
-    let d : ℕ = 48 + v % 10 in
-    let kept : drop (i - 1) (set l (i - 1) d) ≡ d ∷ drop i l =
-    drop-cons (set l (i - 1) d) (i - 1) 0 (lt-length-set l (i - 1) d here)
-    ∙ ap₂ (λ (x : ℕ) (r : List ℕ). x ∷ r) (getD-set-same l (i - 1) d 0 here) (drop-set-lt (suc (i - 1)) l (i - 1) d (omega arith) ∙ ap (λ (k : ℕ). drop k l) next) in
-    rw (take-set-le at l (i - 1) d below, kept, decimal-more v h) (ap (λ (r : List ℕ). take at l ++ r) (append-assoc (decimal (v / 10)) (d ∷ []) (drop i l)))
-
-pub written-only : (l : List ℕ) (at i v : ℕ) → v < 10 → i ≡ at + length (decimal v) → i ≤ length l
-    → take at l ++ (decimal v ++ drop i l) ≡ set l at (48 + v)
-written-only l at i v h e f =
-    let next : i ≡ suc at = omega (arith, count-one v h) in
-    rw (set-split l at (48 + v) (omega arith), decimal-one v h, next)

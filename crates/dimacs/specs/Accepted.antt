@@ -20,11 +20,12 @@ use Rattle.rule_list.specs.Laws.{zeros, zeros-clauses}
 use Rattle.rule_list.specs.Sound.{Scan, unread, mayJoin, stands, after, unclosed, badRule}
 use Rattle.decimal.specs.Decimal.{decimal, number}
 use Rattle.decimal.specs.Laws.{decimal-digits, decimal-some, decimal-read}
+use Rattle.text.specs.Text.{numeral}
 use Rattle.dimacs.specs.Class.{classOf}
 use Rattle.dimacs.specs.Format.{pastComments, Header, header, numbered, outside, positive, negative, signed, element, badToken, badTokens, refuses, gives, reading, readTokens, readFrom}
 use Rattle.dimacs.specs.Tokens.{Token, tokensFrom}
-use Rattle.dimacs.specs.RoundTrip.{unsigned, tokensOf, tokens-written, header-fields, heading-joined, heading-length}
-use Rattle.dimacs.specs.Written.{numeral, body, heading, written}
+use Rattle.dimacs.specs.RoundTrip.{unsigned, tokensOf, tokens-written, header-fields, header-joined, header-length}
+use Rattle.dimacs.specs.Written.{body, headerText, written}
 
 -- a token that is not refused is a number that may come next, in a file with clauses to come
 good-next : (n c : ℕ) (s : Scan) (at : ℕ) (x : ℤ) → c ≤ maxClauses → badToken n c s at (some x) ≡ none → (s .clauses < c) × (stands n s x ≡ true)
@@ -238,9 +239,9 @@ written-back n l n′ c′ l′ e =
     let c : ℕ = length (clauses l) in
     let size : ℕ = 6 + (suc (length (decimal n)) + suc (length (decimal c))) in
     let head : numbered (number (decimal n)) (number (decimal c)) size ≡ some (record { variables = n′; clauses = c′; size = p .size }) =
-    sym (ap header (heading-joined n c (body l)) ∙ header-fields (decimal n) (decimal c) (body l) (decimal-digits n) (decimal-digits c)) ∙ p .head in
+    sym (ap header (header-joined n c (body l)) ∙ header-fields (decimal n) (decimal c) (body l) (decimal-digits n) (decimal-digits c)) ∙ p .head in
     let parts = numbered-parts (number (decimal n)) (number (decimal c)) size n′ c′ (p .size) head in
-    let place : 0 + p .size ≡ length (heading n c) = zero-add (p .size) ∙ sym (parts .1) ∙ heading-length n c in
+    let place : 0 + p .size ≡ length (headerText n c) = zero-add (p .size) ∙ sym (parts .1) ∙ header-length n c in
     let same : tokensFrom (written n l) (0 + p .size) ≡ tokensOf (0 + p .size) l = tokens-written n l (0 + p .size) place in (
       decimal-read n n′ (parts .0),
       p .gave ∙ ap (map element) same

@@ -18,13 +18,14 @@ use Rattle.rule_list.specs.Laws.{zeros, zeros-clauses}
 use Rattle.rule_list.specs.Sound.{Scan, unread, mayJoin, stands, after, unclosed, badRule}
 use Rattle.decimal.specs.Decimal.{decimal, number, onlyDigits, isDigit}
 use Rattle.decimal.specs.Laws.{decimal-digits, decimal-some, number-decimal}
+use Rattle.text.specs.Text.{numeral}
 use Rattle.dimacs.specs.Class.{classOf}
 use Rattle.dimacs.specs.Format.{header, numbered, outside, preamble, positive, signed, element, badToken, badTokens, gives, reading, readFrom}
 use Rattle.dimacs.specs.Laws.{digit-class, digit-in-token, all-digits, before-digits, beyond-digits}
 use Rattle.dimacs.specs.TokenLaws.{kept-outside, tokens-token, blank-outside}
 use Rattle.dimacs.specs.Tokens.{inToken, Token, Position, isWithin, within, step, tokens, positionAt, tokensFrom}
 use Rattle.dimacs.specs.Sizes.{sound-step, zeros-some, sound-clauses}
-use Rattle.dimacs.specs.Written.{numeral, separator, body, heading, written}
+use Rattle.dimacs.specs.Written.{separator, body, headerText, written}
 
 -- a written number is one token, and reads as that number
 numeral-some : (x : ℤ) → 0 < length (numeral x)
@@ -138,29 +139,29 @@ header-fields w v r h k =
       lt-ltb (length v) (length (v ++ 10 ∷ r)) (omega (arith, length-append v (10 ∷ r))),
     )
 
-pub heading-joined : (n c : ℕ) (r : List ℕ) → heading n c ++ r ≡ preamble ++ (decimal n ++ 32 ∷ (decimal c ++ 10 ∷ r))
-heading-joined n c r =
+pub header-joined : (n c : ℕ) (r : List ℕ) → headerText n c ++ r ≡ preamble ++ (decimal n ++ 32 ∷ (decimal c ++ 10 ∷ r))
+header-joined n c r =
     ap (λ (t : List ℕ). preamble ++ t)
     (append-assoc (decimal n) (32 ∷ (decimal c ++ 10 ∷ [])) r ∙ ap (λ (t : List ℕ). decimal n ++ 32 ∷ t) (append-assoc (decimal c) (10 ∷ []) r))
 
-pub heading-length : (n c : ℕ) → 6 + (suc (length (decimal n)) + suc (length (decimal c))) ≡ length (heading n c)
-heading-length n c =
+pub header-length : (n c : ℕ) → 6 + (suc (length (decimal n)) + suc (length (decimal c))) ≡ length (headerText n c)
+header-length n c =
     omega (arith, length-append (decimal n) (32 ∷ (decimal c ++ 10 ∷ [])), length-append (decimal c) (10 ∷ []))
 
 header-written : (n c : ℕ) (r : List ℕ) → n < 100000 → c < 100000
-    → header (heading n c ++ r) ≡ some (record { variables = n; clauses = c; size = length (heading n c) })
+    → header (headerText n c ++ r) ≡ some (record { variables = n; clauses = c; size = length (headerText n c) })
 header-written n c r h k =
-    ap header (heading-joined n c r)
+    ap header (header-joined n c r)
     ∙ header-fields (decimal n) (decimal c) r (decimal-digits n) (decimal-digits c)
-    ∙ rw (number-decimal n h, number-decimal c k) (ap (λ (size : ℕ). some (record { variables = n; clauses = c; size = size })) (heading-length n c))
+    ∙ rw (number-decimal n h, number-decimal c k) (ap (λ (size : ℕ). some (record { variables = n; clauses = c; size = size })) (header-length n c))
 
 inside : (n c : ℕ) → 1 ≤ n → n ≤ maxVariables → c ≤ maxClauses → outside n c ≡ false
 inside n c h k f = rw (ne-eqb n 0 (omega arith), le-ltb maxVariables n k, le-ltb maxClauses c f)
 
--- past the heading come the tokens of the list
-pub tokens-written : (n : ℕ) (l : List ℤ) (at : ℕ) → at ≡ length (heading n (length (clauses l))) → tokensFrom (written n l) at ≡ tokensOf at l
+-- past the header come the tokens of the list
+pub tokens-written : (n : ℕ) (l : List ℤ) (at : ℕ) → at ≡ length (headerText n (length (clauses l))) → tokensFrom (written n l) at ≡ tokensOf at l
 tokens-written n l at e =
-    ap (tokens (positionAt (written n l) at) at) (ap (λ (k : ℕ). drop k (written n l)) e ∙ drop-append-seam (heading n (length (clauses l))) (body l))
+    ap (tokens (positionAt (written n l) at) at) (ap (λ (k : ℕ). drop k (written n l)) e ∙ drop-append-seam (headerText n (length (clauses l))) (body l))
     ∙ tokens-body l (positionAt (written n l) at) at (kept-outside (written n l) at)
 
 -- every sound list, written and read, is that list again
@@ -169,7 +170,7 @@ pub read-written : (n : ℕ) (l : List ℤ) → 1 ≤ n → n ≤ maxVariables �
 unfolding classOf
 read-written n l h k e =
     ap (readFrom (written n l) 0) (header-written n c (body l) (omega arith) (omega (arith, small)))
-    ∙ rw (inside n c h k small, tokens-written n l (0 + length (heading n c)) (zero-add (length (heading n c))), good .passed) (ap (gives n c) (good .same))
+    ∙ rw (inside n c h k small, tokens-written n l (0 + length (headerText n c)) (zero-add (length (headerText n c))), good .passed) (ap (gives n c) (good .same))
   where
     c : ℕ
     c = length (clauses l)
@@ -180,5 +181,5 @@ read-written n l h k e =
     small : c ≤ maxClauses
     small = sound-clauses n l e
 
-    good : Good n c (length (written n l)) unread (0 + length (heading n c)) l
-    good = good-tokens l n c (length (written n l)) unread 0 (0 + length (heading n c)) (omega arith) e (omega (arith, closed))
+    good : Good n c (length (written n l)) unread (0 + length (headerText n c)) l
+    good = good-tokens l n c (length (written n l)) unread 0 (0 + length (headerText n c)) (omega arith) e (omega (arith, closed))

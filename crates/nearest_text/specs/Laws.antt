@@ -1,18 +1,19 @@
--- The equations by which proofs write the values of a choice, one after the other.
-use mathlib.Core.Path.{_≡_, refl, sym, ap, _∙_}
+-- The equations by which proofs put the values of a choice, one after the other, and how long a text can be.
+use mathlib.Core.Path.{_≡_, refl, ap, _∙_}
 use mathlib.Core.Bool.{Bool, true, false, cond, _&&_}
-use mathlib.Core.List.{List, [], _∷_, _++_, append-assoc, append-nil}
-use Prim.Native.Nat.{ℕ, zero, suc, _+_, _%_, _≤_, _<_}
-use native.Mathlib.Nat.{not-suc-le-zero}
+use mathlib.Core.List.{List, [], _∷_, _++_}
+use mathlib.Core.Option.{some}
+use Prim.Native.Nat.{ℕ, zero, suc, _+_, _*_, _%_, _^_, _≤_, _<_}
 use native.Mathlib.Numerals.{add-one}
 use native.Mathlib.Omega.{arith}
 use lib.Dec.{eqb, ltb}
-use lib.ListN.{length, getD, take, length-take}
-use lib.Seq.{take-suc}
+use lib.ListN.{length, getD, drop, length-append, drop-of-length-le}
+use lib.Seq.{drop-cons}
 use borrow.Author.Tests.{eq-eqb, ne-eqb, lt-ltb, le-ltb}
+use Rattle.literal.specs.Literal.{variable, literal}
 use Rattle.decimal.specs.Decimal.{decimal}
-use Rattle.decimal.specs.Laws.{count-most}
-use Rattle.nearest_text.specs.Printed.{lineBreak, signedNumber, entry, values}
+use Rattle.text.specs.Laws.{digits-most, numeral-most}
+use Rattle.nearest_text.specs.Printed.{longest, lineBreak, signedNumber, entry, values, optimum, opening, closing, solution}
 
 -- where a line begins
 pub break-first : (i : ℕ) → i ≡ 0 → lineBreak i ≡ []
@@ -28,32 +29,57 @@ break-inside i h = go (ltb 0 i)
 pub break-new : (i : ℕ) → (i ≡ 0 → ⊥) → i % 16 ≡ 0 → lineBreak i ≡ 10 ∷ 118 ∷ []
 break-new i h e = rw (lt-ltb 0 i (omega arith), eq-eqb (i % 16) 0 e)
 
--- a variable that is on, and one that is off
-pub signed-on : (v b : ℕ) → b ≡ 1 → signedNumber v b ≡ 32 ∷ decimal v
-signed-on v b e = rw (eq-eqb b 1 e)
+-- what is left of a choice to put: a value and the rest, or nothing
+pub values-split : (choice : List ℕ) (i : ℕ) → i < length choice → values i (drop i choice) ≡ entry i (getD choice i 0) ++ values (i + 1) (drop (i + 1) choice)
+values-split choice i h = rw (drop-cons choice i 0 h, add-one i)
 
-pub signed-off : (v b : ℕ) → 0 < v → (b ≡ 1 → ⊥) → signedNumber v b ≡ 32 ∷ 45 ∷ decimal v
-signed-off zero b h n = absurd (not-suc-le-zero h)
-signed-off (suc k) b h n = rw (ne-eqb b 1 n)
+pub values-past : (choice : List ℕ) (i : ℕ) → length choice ≤ i → values i (drop i choice) ≡ []
+values-past choice i h = rw (drop-of-length-le choice h)
 
--- a number up to 256
-pub digits-few : (v : ℕ) → v ≤ 256 → length (decimal v) ≤ 3
-digits-few v h = count-most 2 v (omega arith)
+-- a value takes at most seven bytes: those of a line's beginning, a space, a minus and three digits
+literal-variable : (v : ℕ) (b : Bool) → variable (literal v b) ≡ v
+literal-variable v true = refl
+literal-variable zero false = refl
+literal-variable (suc k) false = refl
 
--- one more value
-values-append : (i : ℕ) (a b : List ℕ) → values i (a ++ b) ≡ values i a ++ values (i + length a) b
-values-append i [] b = ap (λ (k : ℕ). values k b) (omega arith)
-values-append i (x ∷ a) b =
-    let place : suc i + length a ≡ i + suc (length a) = omega arith in
-    ap (λ (l : List ℕ). entry i x ++ l) (values-append (suc i) a b ∙ ap (λ (k : ℕ). values (suc i) a ++ values k b) place)
-    ∙ sym (append-assoc (entry i x) (values (suc i) a) (values (i + suc (length a)) b))
+break-most : (i : ℕ) → length (lineBreak i) ≤ 2
+break-most i = go (ltb 0 i && eqb (i % 16) 0)
+  where
+    go : (b : Bool) → length (cond {A = List ℕ} b (10 ∷ 118 ∷ []) []) ≤ 2
+    go true = omega arith
+    go false = omega arith
 
-pub values-next : (choice : List ℕ) (i : ℕ) → i < length choice → values 0 (take i choice) ++ entry i (getD choice i 0) ≡ values 0 (take (i + 1) choice)
-values-next choice i h =
-    let place : 0 + length (take i choice) ≡ i = omega (arith, length-take i choice) in
-    sym
-    (ap (λ (k : ℕ). values 0 (take k choice)) (add-one i)
-    ∙ ap (values 0) (take-suc choice i 0 h)
-    ∙ values-append 0 (take i choice) (getD choice i 0 ∷ [])
-    ∙ ap (λ (k : ℕ). values 0 (take i choice) ++ values k (getD choice i 0 ∷ [])) place
-    ∙ ap (λ (l : List ℕ). values 0 (take i choice) ++ l) (append-nil (entry i (getD choice i 0))))
+entry-most : (i b : ℕ) → i < 256 → length (entry i b) ≤ 7
+entry-most i b h =
+    omega (
+      arith,
+      length-append (lineBreak i) (signedNumber (suc i) b),
+      break-most i,
+      numeral-most 2 (literal (suc i) (eqb b 1)) (omega (arith, literal-variable (suc i) (eqb b 1))),
+    )
+
+values-most : (choice : List ℕ) (i : ℕ) → i + length choice ≤ 256 → length (values i choice) ≤ 7 * length choice
+values-most [] i h = omega arith
+values-most (b ∷ choice) i h =
+    omega (
+      arith,
+      length-append (entry i b) (values (suc i) choice),
+      entry-most i b (omega arith),
+      values-most choice (suc i) (omega arith),
+    )
+
+-- the lines of a choice, in their parts
+pub solution-length : (broken : ℕ) (choice : List ℕ)
+    → length (solution (some broken) choice) ≡ length opening + (length (decimal broken) + (length optimum + (length (values 0 choice) + length closing)))
+solution-length broken choice =
+    omega (
+      arith,
+      length-append opening (decimal broken ++ (optimum ++ (values 0 choice ++ closing))),
+      length-append (decimal broken) (optimum ++ (values 0 choice ++ closing)),
+      length-append optimum (values 0 choice ++ closing),
+      length-append (values 0 choice) closing,
+    )
+
+pub solution-most : (broken : ℕ) (choice : List ℕ) → broken < 2 ^ 64 → length choice ≤ 256 → length (solution (some broken) choice) ≤ longest
+solution-most broken choice h k =
+    omega (arith, solution-length broken choice, digits-most broken h, values-most choice 0 (omega arith))

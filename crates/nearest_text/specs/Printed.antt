@@ -11,7 +11,7 @@ use Rattle.distance.specs.Distance.{nearest}
 use Rattle.refusal.specs.declared.Refusal.{Refusal}
 use Rattle.lent.specs.Lent.{refusalOf}
 use Rattle.decimal.specs.Decimal.{decimal}
-use Rattle.dimacs.specs.Written.{numeral}
+use Rattle.text.specs.Text.{numeral}
 use Rattle.searches.specs.Searches.{lentToSearch, nearestChoice}
 use Rattle.problem_files.specs.Problem.{unlessRefused, problem, printedFor}
 

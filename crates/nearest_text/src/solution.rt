@@ -4,7 +4,7 @@ ghost use mathlib.Core.Option.{some};
 ghost use mathlib.Core.Path.{_≡_};
 ghost use Prim.Native.Nat.{_≤_};
 ghost use lib.ListN.{length};
-ghost use lib.Seq.{sets};
+ghost use Rattle.text.specs.Wrote.{Wrote};
 ghost use Rattle.report.specs.Report.{fitted};
 ghost use Rattle.nearest_text.specs.Printed.{longest, solution};
 
@@ -13,21 +13,21 @@ pub fn put_found(broken: usize, choice: &[u8], out: &mut [u8]) -> usize
     requires { ⌜ length (now choice) ≤ 256 ⌝ }
     ensures { λ r. ⌜ (r ≡ length (solution (some broken) (now (choice .entry)))) × (now (out .exit) ≡ fitted (solution (some broken) (now (choice .entry))) (now (out .entry))) × (r ≤ longest) ⌝ }
 {
-    let mut text = space();
-    let n = put_lines(broken, choice, &mut text);
-    report::put_text(&text[..n], out)
+    let mut lines = space();
+    let n = put_lines(broken, choice, &mut lines);
+    report::put_text(&lines[..n], out)
 }
 
-// Writes the lines where there is room for the longest.
+// Puts the lines.
 fn put_lines(broken: usize, choice: &[u8], out: &mut [u8]) -> usize
-    requires { ⌜ (length (now choice) ≤ 256) × (longest ≤ length (now out)) ⌝ }
-    ensures { λ r. ⌜ (r ≡ length (solution (some broken) (now (choice .entry)))) × (now (out .exit) ≡ sets (now (out .entry)) 0 (solution (some broken) (now (choice .entry)))) × (r ≤ longest) ⌝ }
+    requires { ⌜ (length (now choice) ≤ 256) × (length (solution (some broken) (now choice)) ≤ length (now out)) ⌝ }
+    ensures { λ r. ⌜ Wrote (solution (some broken) (now (choice .entry))) (now (out .entry)) 0 (now (out .exit)) r ⌝ }
 {
-    let count = report::put_bytes(b"o ", out, 0);
-    let answer = decimal::put_decimal(broken, out, count);
-    let first = report::put_bytes(b"\ns OPTIMUM FOUND\nv", out, answer);
+    let count = text::put_bytes(b"o ", out, 0);
+    let answer = text::put_number(broken, out, count);
+    let first = text::put_bytes(b"\ns OPTIMUM FOUND\nv", out, answer);
     let end = values::put_values(choice, out, first);
-    report::put_bytes(b" 0\n", out, end)
+    text::put_bytes(b" 0\n", out, end)
 }
 
 // Space for the longest text.

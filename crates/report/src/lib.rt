@@ -1,8 +1,7 @@
 // What a program prints, in bytes that its caller lends. A text goes there whole or not at all, and
 // its length is told either way.
-mod bytes;
+mod fitted;
 mod line;
 
-pub use bytes::put_bytes;
-pub use bytes::put_text;
+pub use fitted::put_text;
 pub use line::put_refusal;

@@ -6,24 +6,23 @@ ghost use lib.ListN.{length};
 ghost use Rattle.refusal.specs.Reply.{refusal};
 ghost use Rattle.report.specs.Report.{refusalLine, fitted};
 
-// Writes the line of a refusal, and gives its length: two numbers of at most twenty digits.
+// Puts the line of a refusal, and gives its length: two numbers of at most twenty digits.
 pub fn put_refusal(refused: Refusal, out: &mut [u8]) -> usize
     ensures { λ r. ⌜ (r ≡ length (refusalLine refused)) × (now (out .exit) ≡ fitted (refusalLine refused) (now (out .entry))) × (r ≤ 42) ⌝ }
 {
     put_line(refused.number, refused.place, out)
 }
 
-// Writes the number, a space, the place and a line feed.
+// Puts the number, a space, the place and a line feed.
 fn put_line(number: usize, place: usize, out: &mut [u8]) -> usize
     ensures { λ r. ⌜ (r ≡ length (refusalLine (refusal number place))) × (now (out .exit) ≡ fitted (refusalLine (refusal number place)) (now (out .entry))) × (r ≤ 42) ⌝ }
 {
-    let needed = decimal::digit_count(number) + decimal::digit_count(place) + 2;
+    let needed = text::number_length(number) + text::number_length(place) + 2;
     if out.len() < needed {
         return needed;
     }
-    let space = decimal::put_decimal(number, out, 0);
-    out[space] = 32;
-    let end = decimal::put_decimal(place, out, space + 1);
-    out[end] = 10;
-    end + 1
+    let space = text::put_number(number, out, 0);
+    let next = text::put_byte(b' ', out, space);
+    let end = text::put_number(place, out, next);
+    text::put_byte(b'\n', out, end)
 }

@@ -6,7 +6,7 @@ use mathlib.Core.Option.{none}
 use Prim.Native.Nat.{ℕ, suc, _*_, _≤_}
 use native.Mathlib.Omega.{arith}
 use lib.Dec.{leb, ltb}
-use lib.IntN.{ℤ, pos, negsuc}
+use lib.IntN.{ℤ}
 use lib.ListN.{length, length-append}
 use borrow.Author.Tests.{leb-true, eqb-true}
 use Rattle.literal.specs.Literal.{variable}
@@ -15,14 +15,12 @@ use Rattle.limits.specs.Limits.{maxVariables, maxClauses, maxLiterals}
 use Rattle.rule_list.specs.Sound.{Scan, mayJoin, stands, after, unread, badRule}
 use Rattle.decimal.specs.Laws.{count-most}
 use Rattle.soundness.specs.Laws.{and-left}
-use Rattle.dimacs.specs.RoundTrip.{heading-length}
+use Rattle.text.specs.Laws.{numeral-most}
+use Rattle.text.specs.Text.{numeral}
+use Rattle.dimacs.specs.RoundTrip.{header-length}
 use Rattle.dimacs.specs.Sizes.{sound-step, sound-length, sound-clauses}
-use Rattle.dimacs.specs.Written.{numeral, separator, body, heading, written}
+use Rattle.dimacs.specs.Written.{separator, body, headerText, written}
 use Rattle.rewritten_file.specs.Printed.{longest}
-
-numeral-most : (x : ℤ) → variable x ≤ maxVariables → length (numeral x) ≤ 4
-numeral-most (pos v) h = omega (arith, count-most 2 v (omega arith))
-numeral-most (negsuc k) h = omega (arith, count-most 2 (suc k) (omega arith))
 
 stands-within : (n : ℕ) (s : Scan) (x : ℤ) → stands n s x ≡ true → variable x ≤ n
 stands-within n s x e = go (closes x) refl e
@@ -39,7 +37,7 @@ body-most (x ∷ l) n s i h e =
     omega (
       arith,
       length-append (numeral x) (separator x ∷ body l),
-      numeral-most x (omega arith),
+      numeral-most 2 x (omega arith),
       body-most l n (after s x) (suc i) h (step .1),
     )
 
@@ -49,8 +47,8 @@ written-most n l h e =
     let c : ℕ = length (clauses l) in
     omega (
       arith,
-      length-append (heading n c) (body l),
-      heading-length n c,
+      length-append (headerText n c) (body l),
+      header-length n c,
       count-most 2 n (omega arith),
       count-most 3 c (omega (arith, sound-clauses n l e)),
       body-most l n unread 0 h e,

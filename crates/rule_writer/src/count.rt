@@ -2,18 +2,14 @@
 ghost use mathlib.Core.Path.{_≡_};
 ghost use Prim.Native.Nat.{_+_, _≤_};
 ghost use lib.ListN.{length};
-ghost use Rattle.dimacs.specs.Written.{numeral, body, heading};
+ghost use Rattle.dimacs.specs.Written.{body, headerText};
+ghost use Rattle.rule_writer.specs.Writing.{element};
 
 // How many bytes an element of the list takes, with the space or line feed after it.
 pub fn element_length(x: i32) -> usize
-    ensures { λ r. ⌜ (r ≡ length (numeral x) + 1) × (r ≤ 12) ⌝ }
+    ensures { λ r. ⌜ (r ≡ length (element x)) × (r ≤ 12) ⌝ }
 {
-    let digits = decimal::digit_count(literal::variable_of(x).0);
-    if literal::wanted_by(x) == 0 {
-        digits + 2
-    } else {
-        digits + 1
-    }
+    text::signed_length(x) + 1
 }
 
 // How many bytes the lines of a list take.
@@ -31,8 +27,8 @@ pub fn body_length(rules: &[i32]) -> usize
 }
 
 // How many bytes the header for n variables and some clauses takes.
-pub fn heading_length(n: usize, clauses: usize) -> usize
-    ensures { λ r. ⌜ (r ≡ length (heading n clauses)) × (r ≤ 48) ⌝ }
+pub fn header_length(n: usize, clauses: usize) -> usize
+    ensures { λ r. ⌜ (r ≡ length (headerText n clauses)) × (r ≤ 48) ⌝ }
 {
-    decimal::digit_count(n) + decimal::digit_count(clauses) + 8
+    text::number_length(n) + text::number_length(clauses) + 8
 }

@@ -43,13 +43,13 @@ fn write_sound(n: usize, count: usize, rules: &[i32], file: &mut [u8]) -> Writte
     ensures reply { λ r. ⌜ replyOf r ≡ unless (short (written n (now (rules .entry))) (now (file .entry))) (answering 1 (length (written n (now (rules .entry)))) 0 0) ⌝ }
     ensures output { λ r. ⌜ now (file .exit) ≡ filled (short (written n (now (rules .entry))) (now (file .entry))) (written n (now (rules .entry))) (now (file .entry)) ⌝ }
 {
-    let needed = count::heading_length(n, count) + count::body_length(rules);
+    let needed = count::header_length(n, count) + count::body_length(rules);
     if file.len() < needed {
         return WrittenRules::Refused(Refusal {
             number: 15,
             place: needed,
         });
     }
-    let at = put::put_heading(n, count, file);
+    let at = put::put_header(n, count, file);
     WrittenRules::Written(put::put_body(rules, file, at))
 }

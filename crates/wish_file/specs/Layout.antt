@@ -2,22 +2,19 @@
 use mathlib.Core.Bool.{cond}
 use mathlib.Core.List.{List, [], _∷_, _++_}
 use mathlib.Core.Option.{Option, none, some}
-use Prim.Native.Nat.{ℕ, zero, suc, _+_, _-_, _*_}
+use Prim.Native.Nat.{ℕ, zero, suc, _+_, _*_}
 use lib.Dec.{eqb}
-use lib.ListN.{length, take, drop, replicate}
-use Rattle.decimal.specs.Decimal.{decimal, number}
+use lib.ListN.{take, drop}
+use Rattle.decimal.specs.Decimal.{number}
+use Rattle.text.specs.Text.{column}
 
 abbrev pub columnWidth : ℕ
 columnWidth = 5
 
--- a number in its column
-abbrev pub column : ℕ → List ℕ
-column v = replicate (columnWidth - length (decimal v)) 32 ++ decimal v
-
 -- a line: the columns of its numbers, and a line feed
 abbrev pub line : List ℕ → List ℕ
 line [] = 10 ∷ []
-line (v ∷ vs) = column v ++ line vs
+line (v ∷ vs) = column columnWidth v ++ line vs
 
 -- the size of a line of k columns
 abbrev pub lineSize : ℕ → ℕ

@@ -7,17 +7,18 @@ use Prim.Native.Nat.{ℕ, zero, suc, _+_, _-_, _≤_, _<_, zero-le}
 use native.Mathlib.Nat.{le-refl}
 use native.Mathlib.Omega.{arith}
 use lib.Dec.{eqb}
-use lib.ListN.{length, take, drop, replicate, length-append, length-drop, length-replicate}
+use lib.ListN.{length, take, drop, replicate, length-append, length-drop}
 use lib.Seq.{length-take-le, take-at, drop-at, take-add}
 use borrow.Author.Tests.{ne-eqb, eqb-true}
 use Rattle.decimal.specs.Decimal.{decimal, number, isDigit, onlyDigits}
 use Rattle.decimal.specs.Laws.{digit-low, number-decimal, decimal-number, decimal-digits, count-most}
-use Rattle.wish_file.specs.Layout.{columnWidth, column, line, lineSize, pastSpaces, columnNumber, joined, lineNumbers}
+use Rattle.text.specs.Laws as text
+use Rattle.text.specs.Text.{column}
+use Rattle.wish_file.specs.Layout.{columnWidth, line, lineSize, pastSpaces, columnNumber, joined, lineNumbers}
 
 -- a column has room for a number of five digits
-pub column-length : (v : ℕ) → v < 100000 → length (column v) ≡ columnWidth
-column-length v h =
-    omega (arith, length-append (replicate (columnWidth - length (decimal v)) 32) (decimal v), length-replicate {A = ℕ} (columnWidth - length (decimal v)) 32, count-most 4 v h)
+pub column-length : (v : ℕ) → v < 100000 → length (column columnWidth v) ≡ columnWidth
+column-length v h = text.column-length columnWidth v (count-most 4 v h)
 
 past-spaces : (k : ℕ) (w : List ℕ) → pastSpaces (replicate k 32 ++ w) ≡ pastSpaces w
 past-spaces zero w = refl
@@ -28,9 +29,9 @@ past-digits [] h = refl
 past-digits (b ∷ w) h = rw (ne-eqb b 32 (omega (arith, digit-low b (and-eq-true-iff (isDigit b) (onlyDigits w) .0 h .0))))
 
 -- a written column reads as its number
-pub column-read : (v : ℕ) (r : List ℕ) → v < 100000 → columnNumber (column v ++ r) ≡ some v
+pub column-read : (v : ℕ) (r : List ℕ) → v < 100000 → columnNumber (column columnWidth v ++ r) ≡ some v
 column-read v r h =
-    ap (λ (w : List ℕ). number (pastSpaces w)) (take-at (column v) r columnWidth (column-length v h))
+    ap (λ (w : List ℕ). number (pastSpaces w)) (take-at (column columnWidth v) r columnWidth (column-length v h))
     ∙ ap number (past-spaces (columnWidth - length (decimal v)) (decimal v) ∙ past-digits (decimal v) (decimal-digits v))
     ∙ number-decimal v h
 
@@ -57,7 +58,7 @@ spaces-split (b ∷ w) = go (eqb b 32) refl (spaces-split w)
         rw (no-more)
 
 -- what reads as a number is how its column is written
-pub column-written : (s : List ℕ) (v : ℕ) → columnWidth ≤ length s → columnNumber s ≡ some v → column v ≡ take columnWidth s
+pub column-written : (s : List ℕ) (v : ℕ) → columnWidth ≤ length s → columnNumber s ≡ some v → column columnWidth v ≡ take columnWidth s
 column-written s v h e =
     let w : List ℕ = take columnWidth s in
     let size : columnWidth ≡ length w = sym (length-take-le columnWidth s h) in
@@ -73,15 +74,15 @@ Fit (v ∷ vs) = (v < 100000) × Fit vs
 pub line-length : (vs : List ℕ) → Fit vs → length (line vs) ≡ lineSize (length vs)
 line-length [] f = refl
 line-length (v ∷ vs) f =
-    omega (arith, length-append (column v) (line vs), column-length v (f .0), line-length vs (f .1))
+    omega (arith, length-append (column columnWidth v) (line vs), column-length v (f .0), line-length vs (f .1))
 
 -- a written line reads as its numbers
 pub line-read : (vs r : List ℕ) → Fit vs → lineNumbers (length vs) (line vs ++ r) ≡ some vs
 line-read [] r f = refl
 line-read (v ∷ vs) r f =
-    ap (λ (s : List ℕ). lineNumbers (suc (length vs)) s) (append-assoc (column v) (line vs) r)
+    ap (λ (s : List ℕ). lineNumbers (suc (length vs)) s) (append-assoc (column columnWidth v) (line vs) r)
     ∙ ap₂ joined (column-read v (line vs ++ r) (f .0))
-    (ap (λ (s : List ℕ). lineNumbers (length vs) s) (drop-at (column v) (line vs ++ r) columnWidth (column-length v (f .0)))
+    (ap (λ (s : List ℕ). lineNumbers (length vs) s) (drop-at (column columnWidth v) (line vs ++ r) columnWidth (column-length v (f .0)))
     ∙ line-read vs r (f .1))
 
 -- some bytes begin with the line of some numbers, of k columns

@@ -1,59 +1,42 @@
-// The bytes of a wish file, written into a buffer that has room for them.
+// The parts of a wish file, put into bytes that have room for them.
 use literal::Variable;
 use wish_file::COLUMN_WIDTH;
 ghost use mathlib.Core.List.{[], _∷_};
-ghost use mathlib.Core.Path.{_≡_};
-ghost use Prim.Native.Nat.{_+_, _<_, _≤_};
+ghost use Prim.Native.Nat.{_+_, _≤_};
 ghost use lib.ListN.{length};
-ghost use lib.Seq.{sets};
+ghost use Rattle.text.specs.Wrote.{Wrote};
 ghost use Rattle.wish_file.specs.Format.{wishLines};
-ghost use Rattle.wish_file.specs.Layout.{column, line};
+ghost use Rattle.wish_file.specs.Layout.{line};
 ghost use Rattle.wish_file.specs.Wishes.{wishList};
 
-// Writes a number right-justified in the column at a place, and gives the place past it.
-fn put_column(v: usize, out: &mut [u8], at: usize) -> usize
-    requires { ⌜ (v < 100000) × (at + 5 ≤ length (now out)) ⌝ }
-    ensures { λ r. ⌜ (r ≡ at + 5) × (now (out .exit) ≡ sets (now (out .entry)) at (column v)) ⌝ }
-{
-    let start = at + (COLUMN_WIDTH - decimal::digit_count(v));
-    let mut i = at;
-    while i < start {
-        out[i] = b' ';
-        i += 1;
-    }
-    decimal::put_decimal(v, out, start)
-}
-
-// Writes line one.
+// Puts line one.
 pub fn put_header(n: usize, wishes: usize, d: usize, out: &mut [u8]) -> usize
-    requires { ⌜ (n < 100000) × (wishes < 100000) × (d < 100000) × (16 ≤ length (now out)) ⌝ }
-    ensures { λ r. ⌜ (r ≡ 16) × (now (out .exit) ≡ sets (now (out .entry)) 0 (line (n ∷ wishes ∷ d ∷ []))) ⌝ }
+    requires { ⌜ length (line (n ∷ wishes ∷ d ∷ [])) ≤ length (now out) ⌝ }
+    ensures { λ r. ⌜ Wrote (line (n ∷ wishes ∷ d ∷ [])) (now (out .entry)) 0 (now (out .exit)) r ⌝ }
 {
-    let second = put_column(n, out, 0);
-    let third = put_column(wishes, out, second);
-    let end = put_column(d, out, third);
-    out[end] = b'\n';
-    end + 1
+    let second = text::put_column(n, COLUMN_WIDTH, out, 0);
+    let third = text::put_column(wishes, COLUMN_WIDTH, out, second);
+    let end = text::put_column(d, COLUMN_WIDTH, out, third);
+    text::put_byte(b'\n', out, end)
 }
 
-// Writes the line of a variable's byte, if it is a wish.
+// Puts the line of a variable's byte, if it is a wish.
 fn put_wish(variable: Variable, wish: u8, out: &mut [u8], at: usize) -> usize
-    requires { ⌜ (variable .0 < 100000) × (at + length (wishLines (wishList (variable .0) (wish ∷ []))) ≤ length (now out)) ⌝ }
-    ensures { λ r. ⌜ (r ≡ at + length (wishLines (wishList (variable .0) (wish ∷ [])))) × (now (out .exit) ≡ sets (now (out .entry)) at (wishLines (wishList (variable .0) (wish ∷ [])))) ⌝ }
+    requires { ⌜ at + length (wishLines (wishList (variable .0) (wish ∷ []))) ≤ length (now out) ⌝ }
+    ensures { λ r. ⌜ Wrote (wishLines (wishList (variable .0) (wish ∷ []))) (now (out .entry)) at (now (out .exit)) r ⌝ }
 {
     if 2 <= wish {
         return at;
     }
-    let second = put_column(variable.0, out, at);
-    let end = put_column(wish as usize, out, second);
-    out[end] = b'\n';
-    end + 1
+    let second = text::put_column(variable.0, COLUMN_WIDTH, out, at);
+    let end = text::put_column(wish as usize, COLUMN_WIDTH, out, second);
+    text::put_byte(b'\n', out, end)
 }
 
-// Writes the lines of a row's wishes.
+// Puts the lines of a row's wishes.
 pub fn put_wishes(row: &[u8], out: &mut [u8], from: usize) -> usize
-    requires { ⌜ (length (now row) < 100000) × (from + length (wishLines (wishList 1 (now row))) ≤ length (now out)) ⌝ }
-    ensures { λ r. ⌜ (r ≡ from + length (wishLines (wishList 1 (now (row .entry))))) × (now (out .exit) ≡ sets (now (out .entry)) from (wishLines (wishList 1 (now (row .entry))))) ⌝ }
+    requires { ⌜ from + length (wishLines (wishList 1 (now row))) ≤ length (now out) ⌝ }
+    ensures { λ r. ⌜ Wrote (wishLines (wishList 1 (now (row .entry)))) (now (out .entry)) from (now (out .exit)) r ⌝ }
 {
     let mut at = from;
     let mut i = 0;

@@ -1,17 +1,17 @@
 -- `rule_writer::write_sound` meets its contract: no room, or the header and the lines.
-use mathlib.Core.Path.{ap₂, _∙_}
 use mathlib.Core.List.{List}
 use Prim.Native.Nat.{ℕ, _+_}
 use native.Mathlib.Omega.{arith}
-use lib.Seq.{sets}
-use Rattle.dimacs.specs.Written.{body, written}
-use Rattle.rule_writer.specs.Laws.{written-length, written-whole, no-room, room}
+use Rattle.text.specs.Wrote.{wrote-more, wrote-as, wrote-whole}
+use Rattle.dimacs.specs.Written.{written}
+use Rattle.rule_writer.specs.Laws.{no-room, room}
+use Rattle.rule_writer.specs.Writing.{written-parts, written-length}
 use borrow.Author.Needs.{needs}
 use Rattle.rule_writer.proofs.write_sound.Statement.{statement}
 use Rattle.rule_writer.proofs.write_sound.Tie as tie
 
-heading-length-requires : tie.Need-heading-length-requires
-heading-length-requires c κs = search needs
+header-length-requires : tie.Need-header-length-requires
+header-length-requires c κs = search needs
 
 body-length-requires : tie.Need-body-length-requires
 body-length-requires c κs = search needs
@@ -23,13 +23,13 @@ returns : tie.Need-returns
 returns c =
     let args = c .before .before .before .before .args in
     let w : List ℕ = written (args .n) (args .rules .now) in
-    let needed = c .before .before .heading-length .result + c .before .body-length .result in
+    let needed = c .before .before .header-length .result + c .before .body-length .result in
     no-room w (args .file .now) needed
-    (omega (arith, c .before .before .heading-length .ensures .0, c .before .body-length .ensures .0, written-length (args .n) (args .count) (args .rules .now) (c .before .before .before .before .pre .0)))
+    (omega (arith, c .before .before .header-length .ensures .0, c .before .body-length .ensures .0, written-length (args .n) (args .count) (args .rules .now) (c .before .before .before .before .pre .0)))
     (c .if1 .taken)
 
-put-heading-requires : tie.Need-put-heading-requires
-put-heading-requires c κs = search needs
+put-header-requires : tie.Need-put-header-requires
+put-header-requires c κs = search needs
 
 put-body-requires : tie.Need-put-body-requires
 put-body-requires c κs = search needs
@@ -44,28 +44,26 @@ returns-2 c =
     let k = start .args .count in
     let l = start .args .rules .now in
     let file = start .args .file .now in
-    let head = c .before .before .before .before .before .before .put-heading in
+    let head = c .before .before .before .before .before .before .put-header in
     let tail = c .before .before .put-body in
     let size = written-length n k l (start .pre .0) in
     let needed = c .before .before .before .before .before .before .before .before .if1 .left in
-    let one = c .before .before .before .before .before .before .before .before .before .before .heading-length .ensures .0 in
+    let one = c .before .before .before .before .before .before .before .before .before .before .header-length .ensures .0 in
     let two = c .before .before .before .before .before .before .before .before .before .body-length .ensures .0 in
-    room (written n l) file (tail .result) (omega (arith, head .ensures .0, tail .ensures .0, size))
-    (omega (arith, head .ensures .0, tail .ensures .0, needed, one, two))
+    room (written n l) file (tail .result) (omega (arith, head .ensures .place, tail .ensures .place, size))
+    (omega (arith, head .ensures .place, tail .ensures .place, needed, one, two))
     (tail .last .1 .0)
-    (tail .ensures .1
-    ∙ ap₂ (λ (o : List ℕ) (j : ℕ). sets o j (body l)) (head .ensures .1) (head .ensures .0)
-    ∙ written-whole n k l file (start .pre .0) (omega (arith, size, needed, one, two)))
+    (wrote-whole (wrote-as (written-parts n k l (start .pre .0)) (wrote-more (head .ensures) (tail .ensures))) (omega (arith, size, needed, one, two)))
 
 pub write-sound-spec : {M : Type 1} → statement M
 write-sound-spec =
     tie.close
     (tie.spec
-    heading-length-requires
+    header-length-requires
     body-length-requires
     add-needed
     returns
-    put-heading-requires
+    put-header-requires
     put-body-requires
     same-length
     returns-2)

@@ -1,16 +1,13 @@
 -- `wish_writer::write_wishes` meets its contract: refused for a cause, or written in two parts.
-use mathlib.Core.Path.{_≡_, refl, ap₂, _∙_}
-use mathlib.Core.List.{List}
+use mathlib.Core.Path.{_≡_}
 use mathlib.Core.Option.{none}
-use Prim.Native.Nat.{ℕ}
 use native.Mathlib.Omega.{arith}
 use lib.ListN.{length}
-use lib.Seq.{sets}
 use Rattle.distance.specs.Distance.{wishes}
 use Rattle.lent.specs.Lent.{refusalOf}
-use Rattle.wish_file.specs.Format.{wishLines}
-use Rattle.wish_file.specs.Wishes.{wishList}
-use Rattle.wish_writer.specs.Laws.{scan-refused, scan-sound, Writable, writable, numbers-fit, whole-length, fits-room, written-whole, refused-for, answered}
+use Rattle.text.specs.Wrote.{Wrote, wrote-more, wrote-as, wrote-whole}
+use Rattle.wish_file.specs.Format.{written}
+use Rattle.wish_writer.specs.Laws.{scan-refused, scan-sound, Writable, writable, parts, head-length, whole-length, fits-room, refused-for, answered}
 use Rattle.wish_writer.specs.Write.{lentToWrite}
 use borrow.Author.Needs.{needs}
 use Rattle.wish_writer.proofs.write_wishes.Statement.{statement}
@@ -45,8 +42,7 @@ put-header-requires c κs =
     let m = c .before .before .wishes .given .0 .0 in
     let count = sound (c .before) .1 in
     let w = fit (c .before) in
-    let small = numbers-fit (args .n) (args .row .now) (args .d) (length (args .file .now)) w m count in
-    omega (arith, small, w .space)
+    omega (arith, head-length (args .n) (args .row .now) (args .d) (length (args .file .now)) w m count, w .space)
 
 put-wishes-requires : tie.Need-put-wishes-requires
 put-wishes-requires c κs =
@@ -55,15 +51,14 @@ put-wishes-requires c κs =
     let count = sound (c .before .before .before .before .before) .1 in
     let w = fit (c .before .before .before .before .before) in
     let row = args .row .now in
-    let room = length (args .file .now) in (
-      omega (arith, w .size, w .most),
-      omega (
-        arith,
-        c .before .before .before .put-header .ensures .0,
-        c .before .before .before .put-header .kept .1 .1 .1 .0,
-        whole-length (args .n) row (args .d) room w m count,
-        fits-room (args .n) row (args .d) room w m count,
-      ),
+    let room = length (args .file .now) in
+    omega (
+      arith,
+      c .before .before .before .put-header .ensures .place,
+      c .before .before .before .put-header .kept .1 .1 .1 .0,
+      head-length (args .n) row (args .d) room w m count,
+      whole-length (args .n) row (args .d) room w m count,
+      fits-room (args .n) row (args .d) room w m count,
     )
 
 returns : tie.Need-returns
@@ -84,15 +79,14 @@ returns-2 c =
     let w = fit (c .before .before .before .before .before .before .before .before) in
     let row = args .row .now in
     let out = args .file .now in
-    let tail : List ℕ = wishLines (wishList 1 row) in
     let header = c .before .before .before .before .before .before .put-header in
     let lines = c .before .before .put-wishes in
+    let whole : Wrote (written (args .n) row (args .d)) out 0 (lines .last .1 .0) (lines .result) =
+    wrote-as (parts (args .n) row (args .d) (length out) w m count) (wrote-more (header .ensures) (lines .ensures)) in
     answered (args .n) row (args .d) out (sound (c .before .before .before .before .before .before .before .before) .0) (lines .result)
-    (omega (arith, lines .ensures .0, header .ensures .0, whole-length (args .n) row (args .d) (length out) w m count))
+    (omega (arith, whole .place))
     (lines .last .1 .0)
-    (lines .ensures .1
-    ∙ ap₂ (λ (o : List ℕ) (k : ℕ). sets o k tail) (header .ensures .1) (header .ensures .0)
-    ∙ written-whole (args .n) row (args .d) (length out) w m count out refl)
+    (wrote-whole whole (fits-room (args .n) row (args .d) (length out) w m count))
 
 pub write-wishes-spec : {M : Type 1} → statement M
 write-wishes-spec =

@@ -1,10 +1,13 @@
 -- `nearest_text::solution::put_found` meets its contract: the lines are written apart, and then put where they fit.
 use mathlib.Core.Option.{some}
+use Prim.Native.Nat.{_≤_}
 use native.Mathlib.Omega.{arith}
-use lib.ListN.{take}
-use Rattle.report.specs.Laws.{renamed, puts-front}
+use lib.ListN.{length, take}
+use Rattle.text.specs.Wrote.{wrote-front}
+use Rattle.report.specs.Laws.{renamed}
 use Rattle.problem_files.specs.Told.{cut}
-use Rattle.nearest_text.specs.Printed.{solution}
+use Rattle.nearest_text.specs.Laws.{solution-most}
+use Rattle.nearest_text.specs.Printed.{longest, solution}
 use borrow.Author.Needs.{needs}
 use Rattle.nearest_text.proofs.solution.put_found.Statement.{statement}
 use Rattle.nearest_text.proofs.solution.put_found.Tie as tie
@@ -15,14 +18,26 @@ space-requires c κs = search needs
 slice-aggregate-put-lines : tie.Need-slice-aggregate-put-lines
 slice-aggregate-put-lines c = search needs
 
-put-lines-requires : tie.Need-put-lines-requires
-put-lines-requires c κs = search needs
+-- no lines are longer than the space
+few : (c : tie.Start) → length (solution (some (c .args .broken)) (c .args .choice .now)) ≤ longest
+few c = solution-most (c .args .broken) (c .args .choice .now) (c .fits .broken .fits) (c .pre)
 
-array-share-prefix-text : tie.Need-array-share-prefix-text
-array-share-prefix-text c = search needs
+put-lines-requires : tie.Need-put-lines-requires
+put-lines-requires c κs =
+    let start = c .before .before .before .before in
+    (start .pre, omega (arith, few start, c .before .space .ensures))
+
+array-share-prefix-lines : tie.Need-array-share-prefix-lines
+array-share-prefix-lines c =
+    let put = c .before .put-lines in
+    let start = c .before .before .before .before .before .before in
+    omega (arith, few start, put .ensures .place, put .kept, c .before .before .before .space .ensures)
 
 slice-aggregate-put-text : tie.Need-slice-aggregate-put-text
-slice-aggregate-put-text c = cut (c .before .before .put-lines .result) (c .before .before .put-lines .last .1 .1 .0) (omega (arith, c .before .before .put-lines .ensures .2))
+slice-aggregate-put-text c =
+    let put = c .before .before .put-lines in
+    let start = c .before .before .before .before .before .before .before in
+    cut (put .result) (put .last .1 .1 .0) (omega (arith, few start, put .ensures .place, put .kept, c .before .before .before .before .space .ensures))
 
 put-text-requires : tie.Need-put-text-requires
 put-text-requires c κs = search needs
@@ -32,13 +47,15 @@ same-length c = search needs
 
 returns : tie.Need-returns
 returns c =
-    let args = c .before .before .before .before .before .before .before .before .before .before .before .args in
-    let wrote = c .before .before .before .before .before .before .put-lines in
     let put = c .before .before .put-text in
+    let wrote = c .before .before .before .before .before .before .put-lines in
+    let space = c .before .before .before .before .before .before .before .before .space in
+    let start = c .before .before .before .before .before .before .before .before .before .before .before in
+    let args = start .args in
     let lines = solution (some (args .broken)) (args .choice .now) in
-    let text = puts-front lines (c .before .before .before .before .before .before .before .before .space .result) (wrote .last .1 .1 .0) (wrote .result) (omega (arith, wrote .ensures .0), wrote .ensures .1) (omega (arith, wrote .ensures .0, wrote .ensures .2, c .before .before .before .before .before .before .before .before .space .ensures)) in
-    let said = renamed (take (wrote .result) (wrote .last .1 .1 .0)) lines (put .result) (args .out .now) (put .last .1 .0) text (put .ensures .0) (put .ensures .1) in
-    (said .0, said .1, omega (arith, said .0, wrote .ensures .0, wrote .ensures .2))
+    let front = wrote-front (wrote .ensures) (omega (arith, few start, space .ensures)) in
+    let said = renamed (take (wrote .result) (wrote .last .1 .1 .0)) lines (put .result) (args .out .now) (put .last .1 .0) front (put .ensures .0) (put .ensures .1) in
+    (said .0, said .1, omega (arith, said .0, few start))
 
 pub put-found-spec : {M : Type 1} → statement M
 put-found-spec =
@@ -47,7 +64,7 @@ put-found-spec =
     space-requires
     slice-aggregate-put-lines
     put-lines-requires
-    array-share-prefix-text
+    array-share-prefix-lines
     slice-aggregate-put-text
     put-text-requires
     same-length

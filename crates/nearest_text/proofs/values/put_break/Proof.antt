@@ -1,60 +1,42 @@
 -- `nearest_text::values::put_break` meets its contract: no line begins here, or one does.
-use mathlib.Core.Path.{sym, ap, _∙_}
-use Prim.Native.Nat.{ℕ}
-use native.Mathlib.Numerals.{add-one}
+use mathlib.Core.Path.{sym, ap}
 use native.Mathlib.Omega.{arith}
-use lib.ListN.{length, set, length-set}
-use lib.Seq.{sets}
-use Rattle.nearest_text.specs.Laws.{break-first, break-inside, break-new}
+use lib.ListN.{length}
 use borrow.Author.Needs.{needs}
+use Rattle.text.specs.Wrote.{wrote-none, wrote-as}
+use Rattle.nearest_text.specs.Laws.{break-first, break-inside, break-new}
 use Rattle.nearest_text.proofs.values.put_break.Statement.{statement}
 use Rattle.nearest_text.proofs.values.put_break.Tie as tie
 
 returns : tie.Need-returns
 returns c =
-    let args = c .before .args in
-    let none-is = break-first (args .i) (c .if1 .taken) in
-    (omega (arith, ap length none-is), sym (ap (sets (args .out .now) (args .at)) none-is), omega arith)
+    let args = c .before .before .args in
+    wrote-as (sym (break-first (args .i) (c .if1 .taken))) (wrote-none (args .out .now) (args .at))
 
 returns-2 : tie.Need-returns-2
 returns-2 c =
-    let args = c .before .before .args in
-    let none-is = break-inside (args .i) (c .if2 .taken) in
-    (omega (arith, ap length none-is), sym (ap (sets (args .out .now) (args .at)) none-is), omega arith)
+    let args = c .before .before .before .args in
+    wrote-as (sym (break-inside (args .i) (c .if2 .taken))) (wrote-none (args .out .now) (args .at))
 
-slice-write-out : tie.Need-slice-write-out
-slice-write-out c = search needs
+slice-aggregate-put-bytes : tie.Need-slice-aggregate-put-bytes
+slice-aggregate-put-bytes c = search needs
 
-add-out : tie.Need-add-out
-add-out c = search needs
-
-slice-write-out-2 : tie.Need-slice-write-out-2
-slice-write-out-2 c = simp length-set (omega arith)
-
-add-result : tie.Need-add-result
-add-result c = search needs
+put-bytes-requires : tie.Need-put-bytes-requires
+put-bytes-requires c κs =
+    let due = c .before .before in
+    let args = due .before .before .before .args in
+    omega (arith, ap length (break-new (args .i) (due .before .if1 .left) (due .if2 .left)))
 
 same-length : tie.Need-same-length
 same-length c = search needs
 
 returns-3 : tie.Need-returns-3
 returns-3 c =
-    let args = c .before .before .args in
-    let new = break-new (args .i) (c .before .if1 .left) (c .if2 .left) in (
-      omega (arith, ap length new),
-      ap (λ (k : ℕ). set (set (args .out .now) (args .at) 10) k 118) (add-one (args .at)) ∙ sym (ap (sets (args .out .now) (args .at)) new),
-      omega arith,
-    )
+    let due = c .before .before .before .before .before in
+    let args = due .before .before .before .args in
+    wrote-as (sym (break-new (args .i) (due .before .if1 .left) (due .if2 .left))) (c .before .before .put-bytes .ensures)
 
 pub put-break-spec : {M : Type 1} → statement M
 put-break-spec =
     tie.close
-    (tie.spec
-    returns
-    returns-2
-    slice-write-out
-    add-out
-    slice-write-out-2
-    add-result
-    same-length
-    returns-3)
+    (tie.spec returns returns-2 slice-aggregate-put-bytes put-bytes-requires same-length returns-3)

@@ -1,38 +1,88 @@
--- `nearest_text::values::put_value` meets its contract: the number follows the break.
-use mathlib.Core.Path.{subst}
+-- `nearest_text::values::put_value` meets its contract: the break, a space and the number, one after the other.
+use mathlib.Core.Path.{_≡_, ap, _∙_}
 use Prim.Native.Nat.{ℕ, suc}
 use native.Mathlib.Numerals.{add-one}
 use native.Mathlib.Omega.{arith}
-use Rattle.report.specs.Laws.{Puts, puts-more}
-use Rattle.nearest_text.specs.Printed.{lineBreak, signedNumber}
+use lib.Dec.{eqb}
+use lib.IntN.{ℤ}
+use lib.ListN.{length, length-append}
+use mir.Syntax.{w32}
+use mir.Val.{toZ, ofZ}
 use borrow.Author.Needs.{needs}
+use Rattle.literal.specs.Laws.{as-read}
+use Rattle.literal.specs.Literal.{literal}
+use Rattle.text.specs.Text.{numeral}
+use Rattle.text.specs.Wrote.{wrote-more, wrote-as}
+use Rattle.nearest_text.specs.Printed.{lineBreak, signedNumber}
 use Rattle.nearest_text.proofs.values.put_value.Statement.{statement}
 use Rattle.nearest_text.proofs.values.put_value.Tie as tie
 
-put-break-requires : tie.Need-put-break-requires
-put-break-requires c κs = search needs
+-- the call's beginning, seen from where the literal was made
+abbrev start-of : tie.After-literal-of → tie.Start
+start-of c = c .before .before .before .before .before .before .before .before .before .before
 
-add-t8 : tie.Need-add-t8
-add-t8 c = search needs
+-- the literal that was made is that of the variable's value
+made-is : (c : tie.After-literal-of) → toZ w32 (ofZ w32 (c .literal-of .result)) ≡ literal (suc (start-of c .args .i)) (eqb (start-of c .args .value) 1)
+made-is c =
+    as-read (c .literal-of .result) (c .literal-of .ok) ∙ c .literal-of .ensures ∙ ap (λ (v : ℕ). literal v (eqb (start-of c .args .value) 1)) (add-one (start-of c .args .i))
+
+put-break-requires : tie.Need-put-break-requires
+put-break-requires c κs =
+    let args = c .before .before .args in
+    omega (arith, length-append (lineBreak (args .i)) (signedNumber (suc (args .i)) (args .value)))
+
+put-byte-requires : tie.Need-put-byte-requires
+put-byte-requires c κs =
+    let break = c .before .before .before in
+    let args = break .before .before .before .args in
+    omega (
+      arith,
+      length-append (lineBreak (args .i)) (signedNumber (suc (args .i)) (args .value)),
+      break .put-break .ensures .place,
+      break .put-break .kept,
+    )
+
+add-t12 : tie.Need-add-t12
+add-t12 c = search needs
+
+literal-of-requires : tie.Need-literal-of-requires
+literal-of-requires c κs = search needs
 
 put-signed-requires : tie.Need-put-signed-requires
-put-signed-requires c κs = search needs
+put-signed-requires c κs =
+    let made = c .before in
+    let space = made .before .before .before in
+    let break = space .before .before .before .before in
+    let args = start-of made .args in
+    omega (
+      arith,
+      length-append (lineBreak (args .i)) (signedNumber (suc (args .i)) (args .value)),
+      ap (λ (z : ℤ). length (numeral z)) (made-is made),
+      break .put-break .ensures .place,
+      break .put-break .kept,
+      space .put-byte .ensures .place,
+      space .put-byte .kept,
+    )
 
 same-length : tie.Need-same-length
 same-length c = search needs
 
 returns : tie.Need-returns
 returns c =
-    let args = c .before .before .before .before .before .before .before .before .before .args in
-    let one = c .before .before .before .before .before .before .put-break in
-    let two = c .before .before .put-signed in
-    let text = signedNumber (suc (args .i)) (args .value) in
-    let number : Puts text (one .last .1 .0) (one .result) (two .last .1 .1 .0) (two .result) =
-    subst (λ (k : ℕ). Puts (signedNumber k (args .value)) (one .last .1 .0) (one .result) (two .last .1 .1 .0) (two .result)) (add-one (args .i)) (two .ensures .0, two .ensures .1) in
-    let whole = puts-more (lineBreak (args .i)) text (args .out .now) (one .last .1 .0) (two .last .1 .1 .0) (args .from) (one .result) (two .result)
-    (one .ensures .0, one .ensures .1) number in
-    (whole .0, whole .1, omega (arith, one .ensures .2, two .ensures .2))
+    let end = c .before .before in
+    let made = end .before .before in
+    let space = made .before .before .before in
+    let break = space .before .before .before .before in
+    wrote-more (break .put-break .ensures) (wrote-more (space .put-byte .ensures) (wrote-as (ap numeral (made-is made)) (end .put-signed .ensures)))
 
 pub put-value-spec : {M : Type 1} → statement M
 put-value-spec =
-    tie.close (tie.spec put-break-requires add-t8 put-signed-requires same-length returns)
+    tie.close
+    (tie.spec
+    put-break-requires
+    put-byte-requires
+    add-t12
+    literal-of-requires
+    put-signed-requires
+    same-length
+    returns)

@@ -1,14 +1,15 @@
 -- `wish_writer::put::put_wishes` meets its contract. The loop's invariant: with the lines of the rest of the row written from here, the buffer is what it is to be.
-use mathlib.Core.Path.{_≡_, sym, ap, ap₂, _∙_}
+use mathlib.Core.Path.{_≡_, sym, ap, _∙_}
 use mathlib.Core.List.{List}
 use Prim.Native.Nat.{ℕ, _+_, _-_, _≤_}
 use native.Mathlib.Omega.{arith}
 use lib.ListN.{length, drop}
 use borrow.Author.Needs.{needs}
 use lib.Seq.{sets}
+use Rattle.text.specs.Wrote.{wrote-before}
 use Rattle.wish_file.specs.Format.{wishLines}
 use Rattle.wish_file.specs.Wishes.{wishList}
-use Rattle.wish_writer.specs.Laws.{rest, lines-length, lines-step, lines-past}
+use Rattle.wish_writer.specs.Writing.{rest, lines-split, lines-length, lines-past}
 use Rattle.wish_writer.proofs.put.put_wishes.Statement.{statement}
 use Rattle.wish_writer.proofs.put.put_wishes.Tie as tie
 
@@ -48,10 +49,8 @@ loop-again c =
     let later : List ℕ = rest row (loop .i) inside in (
       omega arith,
       call .kept .1 .1 .0 ∙ loop .inv .1,
-      omega (arith, lines-length row (loop .i) inside, call .ensures .0, loop .inv .2),
-      ap₂ (λ (o : List ℕ) (k : ℕ). sets o k later) (call .ensures .1) (call .ensures .0)
-          ∙ sym (lines-step row (loop .i) inside (loop .out) (loop .at))
-          ∙ loop .inv .3,
+      omega (arith, lines-length row (loop .i) inside, call .ensures .place, loop .inv .2),
+      wrote-before later (call .ensures) ∙ ap (sets (loop .out) (loop .at)) (sym (lines-split row (loop .i) inside)) ∙ loop .inv .3,
     )
 
 same-length : tie.Need-same-length Inv-loop μ-loop
@@ -62,7 +61,7 @@ returns c =
     let row = c .before .before .before .before .args .row .now in
     let loop = c .before .loop in
     let past = lines-past row (loop .i) (loop .i + 1) (c .loop-test .left) in
-    (omega (arith, ap length past), sym (ap (sets (loop .out) (loop .at)) past) ∙ loop .inv .3)
+    record { place = omega (arith, ap length past); list = sym (ap (sets (loop .out) (loop .at)) past) ∙ loop .inv .3 }
 
 pub put-wishes-spec : {M : Type 1} → statement M
 put-wishes-spec =
