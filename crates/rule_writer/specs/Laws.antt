@@ -12,12 +12,7 @@ use Rattle.refusal.specs.declared.Refusal.{Refusal}
 use Rattle.refusal.specs.Reply.{Reply, refusal, cause, refusing, answering, unless, tooShort, filled}
 use Rattle.lent.specs.Lent.{refusalOf, outOfRange}
 use Rattle.rule_list.specs.Sound.{unread, badRule}
-use Rattle.decimal.specs.Decimal.{decimal}
-use Rattle.decimal.specs.Laws.{count-most}
-use Rattle.text.specs.Wrote.{sets-append}
-use Rattle.dimacs.specs.Format.{preamble}
-use Rattle.dimacs.specs.Written.{separator, body, heading, written}
-use Rattle.text.specs.Text.{numeral}
+use Rattle.dimacs.specs.Written.{written}
 use Rattle.rule_writer.specs.Write.{lentToWrite}
 
 -- the last cause, of an output that has no room
