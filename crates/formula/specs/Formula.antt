@@ -6,7 +6,8 @@ use Prim.Native.Nat.{ℕ, suc, _+_}
 use lib.Dec.{eqb}
 use lib.IntN.{ℤ}
 use lib.ListN.{length}
-use Rattle.literal.specs.Literal.{variable, holds}
+use Rattle.literal.specs.Literal.{holds}
+pub use Rattle.literal.specs.Literal.{closes}
 
 -- some element passes the test; every element does
 abbrev pub any {ℓ} : {A : Type ℓ} → (A → Bool) → List A → Bool
@@ -16,10 +17,6 @@ any p (x ∷ l) = p x || any p l
 abbrev pub all {ℓ} : {A : Type ℓ} → (A → Bool) → List A → Bool
 all p [] = true
 all p (x ∷ l) = p x && all p l
-
--- the 0 that closes a clause
-abbrev pub closes : ℤ → Bool
-closes x = eqb (variable x) 0
 
 -- a literal in front of the first clause
 abbrev pub onto : ℤ → List (List ℤ) → List (List ℤ)

@@ -9,8 +9,6 @@ use native.Mathlib.Numerals.{add-one}
 use lib.IntN.{ℤ, pos}
 use lib.ListN.{length, getD, take, drop, length-drop, drop-of-length-le}
 use lib.Seq.{drop-cons, drop-drop}
-use borrow.Author.Tests.{eq-eqb, ne-eqb}
-use Rattle.literal.specs.Literal.{variable}
 use Rattle.formula.specs.Formula.{any, closes, onto, clauses, clauseLength, satisfied, models}
 
 -- a list that is not empty is its first clause, what closes it, and the rest
@@ -25,11 +23,11 @@ clauses-split [] h = absurd (not-suc-le-zero h)
 clauses-split (x ∷ l) h = split (closes x) x l (clauses-split l)
 
 -- the first clause from an index on: at its closing 0, at a literal, and past the end
-pub length-closed : (l : List ℤ) (i : ℕ) → i < length l → variable (getD l i (pos 0)) ≡ 0 → clauseLength (drop i l) ≡ 0
-length-closed l i h e = rw (drop-cons l i (pos 0) h, eq-eqb (variable (getD l i (pos 0))) 0 e)
+pub length-closed : (l : List ℤ) (i : ℕ) → i < length l → closes (getD l i (pos 0)) ≡ true → clauseLength (drop i l) ≡ 0
+length-closed l i h e = rw (drop-cons l i (pos 0) h, e)
 
-pub length-literal : (l : List ℤ) (i : ℕ) → i < length l → (variable (getD l i (pos 0)) ≡ 0 → ⊥) → clauseLength (drop i l) ≡ suc (clauseLength (drop (i + 1) l))
-length-literal l i h e = rw (drop-cons l i (pos 0) h, ne-eqb (variable (getD l i (pos 0))) 0 e, add-one i)
+pub length-literal : (l : List ℤ) (i : ℕ) → i < length l → closes (getD l i (pos 0)) ≡ false → clauseLength (drop i l) ≡ suc (clauseLength (drop (i + 1) l))
+length-literal l i h e = rw (drop-cons l i (pos 0) h, e, add-one i)
 
 pub length-past : (l : List ℤ) (i : ℕ) → length l ≤ i → clauseLength (drop i l) ≡ 0
 length-past l i h = rw (drop-of-length-le l h)

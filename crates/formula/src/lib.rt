@@ -10,7 +10,7 @@ pub fn clause_end(list: &[i32], from: usize) -> usize
 {
     let mut i = from;
     while i < list.len() {
-        if literal::variable_of(list[i]).0 == 0 {
+        if literal::closes(list[i]) {
             return i;
         }
         i += 1;

@@ -1,16 +1,17 @@
 -- What the machine's signed operations make of an i32, in the integers' own terms.
-use mathlib.Core.Path.{_≡_, refl}
+use mathlib.Core.Path.{_≡_, refl, sym, _∙_}
 use mathlib.Core.Bool.{Bool, true, false, true≢false}
 use Prim.Native.Nat.{ℕ, zero, suc, _≤_}
 use native.Mathlib.Nat.{zero-add, not-suc-le-zero}
 use native.Mathlib.Omega.{arith}
-use borrow.Author.Tests.{ltb-true}
+use borrow.Author.Tests.{ltb-true, ne-eqb}
+use lib.Dec.{eqb}
 use lib.IntN.{ℤ, pos, negsuc, natAbs, negℤ, _-ℤ_, +ℤ-idl}
 use lib.Signed.{ltZ}
 use mir.Syntax.{w32, w64}
 use mir.Val.{Fits, SFits, toZ, ofZ}
 use mir.ValLaws.{toZ-ofZ}
-use Rattle.literal.specs.Literal.{wanted, literal}
+use Rattle.literal.specs.Literal.{closes, wanted, literal}
 
 pub widens : (x : ℤ) → SFits w32 x → SFits w64 x
 widens x f = record { sfits = omega (arith, f .sfits) }
@@ -75,3 +76,9 @@ pub opposite-fits : (x : ℤ) → natAbs x ≤ 2147483647 → SFits w32 (negℤ 
 opposite-fits (pos zero) h = record { sfits = omega arith }
 opposite-fits (pos (suc n)) h = record { sfits = omega arith }
 opposite-fits (negsuc n) h = record { sfits = omega arith }
+
+-- of all i32 only 0 lies as 0
+pub zero-is : (x : ℤ) → SFits w32 x → eqb (ofZ w32 x) 0 ≡ closes x
+zero-is (pos n) f = refl
+zero-is (negsuc n) f =
+    ne-eqb (ofZ w32 (negsuc n)) 0 (λ e. omega (arith, e, f .sfits)) ∙ sym (ne-eqb (suc n) 0 (λ e. omega (arith, e)))

@@ -12,6 +12,10 @@ use lib.ListN.{getD}
 abbrev pub variable : ℤ → ℕ
 variable x = natAbs x
 
+-- "each rule closed by 0": the number that is no literal and closes a clause
+abbrev pub closes : ℤ → Bool
+closes x = eqb (variable x) 0
+
 -- the value that makes a literal hold
 abbrev pub wanted : ℤ → ℕ
 wanted (pos k) = 1

@@ -3,7 +3,7 @@
 ghost use mathlib.Core.Path.{_≡_};
 ghost use Prim.Native.Nat.{_≤_};
 ghost use lib.IntN.{negℤ};
-ghost use Rattle.literal.specs.Literal.{variable, wanted, literal, value, holds};
+ghost use Rattle.literal.specs.Literal.{variable, closes, wanted, literal, value, holds};
 
 // A variable's number, from 1 (document 01: a setting).
 pub struct Variable(pub usize);
@@ -21,6 +21,13 @@ pub fn variable_of(x: i32) -> Variable
     } else {
         Variable(wide as usize)
     }
+}
+
+// Whether a number of a rule list is the 0 that closes a clause, and no literal.
+pub fn closes(x: i32) -> bool
+    ensures { λ r. ⌜ r ≡ closes x ⌝ }
+{
+    x == 0
 }
 
 // The value that makes a literal hold: 1 for on, 0 for off.

@@ -6,7 +6,7 @@ use lib.IntN.{pos}
 use lib.ListN.{length, getD, drop}
 use borrow.Author.Needs.{needs}
 use Rattle.literal.specs.Laws.{as-read}
-use Rattle.literal.specs.Literal.{variable}
+use Rattle.literal.specs.Literal.{closes}
 use Rattle.formula.specs.Formula.{clauseLength}
 use Rattle.formula.specs.Laws.{length-closed, length-literal, length-past}
 use Rattle.formula.proofs.clause_end.Statement.{statement}
@@ -21,27 +21,27 @@ abbrev μ-loop : tie.MeasureT-loop
 loop-holds : tie.Need-loop-holds Inv-loop μ-loop
 loop-holds c = search needs
 
-mul-variable-of : tie.Need-mul-variable-of Inv-loop μ-loop
-mul-variable-of c = search needs
+mul-closes : tie.Need-mul-closes Inv-loop μ-loop
+mul-closes c = search needs
 
-shared-slice-copy-out-variable-of : tie.Need-shared-slice-copy-out-variable-of Inv-loop μ-loop
-shared-slice-copy-out-variable-of c = search needs
+shared-slice-copy-out-closes : tie.Need-shared-slice-copy-out-closes Inv-loop μ-loop
+shared-slice-copy-out-closes c = search needs
 
-variable-of-requires : tie.Need-variable-of-requires Inv-loop μ-loop
-variable-of-requires c κs = search needs
+closes-requires : tie.Need-closes-requires Inv-loop μ-loop
+closes-requires c κs = search needs
 
--- what the callee was handed is the list's element
-handed : (c : tie.After-struct-known Inv-loop μ-loop)
-    → c .before .variable-of .result .0 ≡ variable (getD (c .before .before .before .before .before .args .list .now) (c .before .before .before .before .loop .i) (pos 0))
-handed c =
-    c .before .variable-of .ensures
-    ∙ ap variable (as-read (getD (c .before .before .before .before .before .args .list .now) (c .before .before .before .before .loop .i) (pos 0)) (c .before .before .variable-of-arg .given))
+-- the test was made on the list's element
+tested : (c : tie.After-closes Inv-loop μ-loop)
+    → c .closes .result ≡ closes (getD (c .before .before .before .before .args .list .now) (c .before .before .before .loop .i) (pos 0))
+tested c =
+    c .closes .ensures
+    ∙ ap closes (as-read (getD (c .before .before .before .before .args .list .now) (c .before .before .before .loop .i) (pos 0)) (c .before .closes-arg .given))
 
 returns : tie.Need-returns Inv-loop μ-loop
 returns c =
-    let l = c .before .before .before .before .before .before .args .list .now in
-    let i = c .before .before .before .before .before .loop .i in
-    omega (arith, length-closed l i (c .before .before .before .before .loop-test .taken) (sym (handed (c .before)) ∙ c .if1 .taken))
+    let l = c .before .before .before .before .before .args .list .now in
+    let i = c .before .before .before .before .loop .i in
+    omega (arith, length-closed l i (c .before .before .before .loop-test .taken) (sym (tested (c .before)) ∙ c .if1 .taken))
 
 add-i : tie.Need-add-i Inv-loop μ-loop
 add-i c = search needs
@@ -51,9 +51,9 @@ loop-less c = search needs
 
 loop-again : tie.Need-loop-again Inv-loop μ-loop
 loop-again c =
-    let l = c .before .before .before .before .before .before .args .list .now in
-    let i = c .before .before .before .before .before .loop .i in
-    omega (arith, length-literal l i (c .before .before .before .before .loop-test .taken) (λ e. c .if1 .left (handed (c .before) ∙ e)))
+    let l = c .before .before .before .before .before .args .list .now in
+    let i = c .before .before .before .before .loop .i in
+    omega (arith, length-literal l i (c .before .before .before .loop-test .taken) (sym (tested (c .before)) ∙ c .if1 .left))
 
 returns-2 : tie.Need-returns-2 Inv-loop μ-loop
 returns-2 c = omega (arith, length-past (c .before .before .args .list .now) (c .before .loop .i) (c .loop-test .left))
@@ -65,9 +65,9 @@ clause-end-spec =
     Inv-loop
     μ-loop
     loop-holds
-    mul-variable-of
-    shared-slice-copy-out-variable-of
-    variable-of-requires
+    mul-closes
+    shared-slice-copy-out-closes
+    closes-requires
     returns
     add-i
     loop-less
