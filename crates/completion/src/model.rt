@@ -26,7 +26,7 @@ pub fn read_completed(list: &[i32], from: usize, row: &[u8], assignment: &[u8]) 
 {
     let mut i = from;
     while i < list.len() {
-        if literal::variable_of(list[i]).0 == 0 {
+        if literal::closes(list[i]) {
             return Completed {
                 end: i,
                 satisfied: false,

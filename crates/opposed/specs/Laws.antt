@@ -13,7 +13,7 @@ use Rattle.literal.specs.Literal.{holds}
 use Rattle.formula.specs.Formula.{any, all, clauses, satisfied}
 use Rattle.walk.specs.State.{isUnassigned, unassignedIn}
 use Rattle.walk.specs.Branching.{isAgainst, assignedOrAgainst, isOpposed, shorter, shorterOf, shortest, fewest}
-use Rattle.walk.specs.BranchingLaws.{fewer, fewest-opposed, fewest-other, fewer-assoc, shorter-fewer}
+use Rattle.walk.specs.BranchingLaws.{fewer, fewest-opposed, fewest-other}
 use Rattle.opposed.specs.Opposed.{opposes, isSome}
 
 -- a literal that holds, one that is unassigned, and one that is assigned and does not hold
@@ -72,7 +72,7 @@ module _ (row a : List ℕ) (c : List ℤ) (f : List (List ℤ)) where
 pub shortest-past : (row a : List ℕ) (l : List ℤ) (i : ℕ) → length l ≤ i → shortest row a (clauses (drop i l)) ≡ none
 shortest-past row a l i h = rw (drop-of-length-le l h)
 
--- step 3 asks whether some clause is opposed: there is one where there is a shortest
+-- some clause is opposed where there is a shortest
 pub any-opposed : (row a : List ℕ) (f : List (List ℤ)) → any (isOpposed row a) f ≡ isSome (fewest row a f)
 any-opposed row a [] = refl
 any-opposed row a (c ∷ f) = go (isOpposed row a c) refl (any-opposed row a f)

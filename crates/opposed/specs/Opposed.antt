@@ -12,8 +12,8 @@ use Rattle.walk.specs.Branching.{assignedOrAgainst, isOpposed, shortest}
 use Rattle.standing.specs.Clause.{clauseAt}
 use Rattle.opposed.specs.declared.fewest.Fewest.{Fewest}
 use Rattle.opposed.specs.declared.fewest.Fewest.the-variants as F
-use Rattle.opposed.specs.declared.shortest.Found.{Found}
-use Rattle.opposed.specs.declared.shortest.Found.the-variants as W
+use Rattle.opposed.specs.declared.shortest.Begins.{Begins}
+use Rattle.opposed.specs.declared.shortest.Begins.the-variants as W
 
 -- a literal of an opposed clause
 abbrev pub opposes : List ℕ → List ℕ → ℤ → Bool
@@ -24,8 +24,13 @@ abbrev pub sizeOf : Fewest → Option ℕ
 sizeOf F.Nothing = none
 sizeOf (F.Literals k) = some k
 
+-- step 3 asks whether some clause is opposed: there is one where there is a number
+abbrev pub isSome : Option ℕ → Bool
+isSome none = false
+isSome (some k) = true
+
 -- there is no opposed clause, or one begins at i and the shortest is not before it
-abbrev pub IsFirst : List ℕ → List ℕ → List ℤ → Found → Type 0
+abbrev pub IsFirst : List ℕ → List ℕ → List ℤ → Begins → Type 0
 IsFirst row a l W.Nothing = shortest row a (clauses l) ≡ none
 IsFirst row a l (W.At i) =
     (i < length l) × (isOpposed row a (clauseAt i l) ≡ true) × (shortest row a (clauses l) ≡ shortest row a (clauses (drop i l)))

@@ -1,6 +1,6 @@
 // How many unassigned literals the shortest opposed clause has.
 use crate::pair::unassigned_in;
-use crate::shortest::Found;
+use crate::shortest::Begins;
 use crate::shortest::first_opposed;
 use crate::shortest::shortest_opposed;
 ghost use mathlib.Core.Path.{_≡_};
@@ -19,8 +19,8 @@ pub fn fewest_opposed(list: &[i32], row: &[u8], assignment: &[u8]) -> Fewest
     ensures { λ r. ⌜ sizeOf r ≡ fewest (now (row .entry)) (now (assignment .entry)) (clauses (now (list .entry))) ⌝ }
 {
     match first_opposed(list, row, assignment) {
-        Found::Nothing => Fewest::Nothing,
-        Found::At(from) => {
+        Begins::Nothing => Fewest::Nothing,
+        Begins::At(from) => {
             let shortest = shortest_opposed(list, from, row, assignment);
             Fewest::Literals(unassigned_in(shortest, assignment))
         }

@@ -12,24 +12,24 @@ ghost use Rattle.standing.specs.Clause.{clauseAt};
 ghost use Rattle.opposed.specs.Opposed.{IsFirst};
 
 // Where the first opposed clause begins, if there is one.
-pub enum Found {
+pub enum Begins {
     At(usize),
     Nothing,
 }
 
 // Goes through the list until a clause is opposed.
-pub fn first_opposed(list: &[i32], row: &[u8], assignment: &[u8]) -> Found
+pub fn first_opposed(list: &[i32], row: &[u8], assignment: &[u8]) -> Begins
     ensures { λ r. ⌜ IsFirst (now (row .entry)) (now (assignment .entry)) (now (list .entry)) r ⌝ }
 {
     let mut from = 0;
     while from < list.len() {
         let end = formula::clause_end(list, from);
         if is_opposed(&list[from..end], row, assignment) {
-            return Found::At(from);
+            return Begins::At(from);
         }
         from = end + 1;
     }
-    Found::Nothing
+    Begins::Nothing
 }
 
 // The shortest opposed clause, handed back as itself, given where the first one begins.

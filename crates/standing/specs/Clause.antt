@@ -8,7 +8,7 @@ use native.Mathlib.Omega.{arith}
 use lib.IntN.{ℤ, pos}
 use lib.ListN.{length, getD, take, drop}
 use lib.Seq.{drop-cons}
-use Rattle.literal.specs.Literal.{variable, holds}
+use Rattle.literal.specs.Literal.{closes, holds}
 use Rattle.formula.specs.Formula.{any, clauses, clauseLength, models}
 use Rattle.formula.specs.Laws.{length-closed, length-literal, length-past, clauses-step}
 
@@ -18,10 +18,10 @@ clauseAt i l = take (clauseLength (drop i l)) (drop i l)
 
 module _ (l : List ℤ) (i : ℕ) where
   -- at a literal, at the closing 0, and past the end
-  pub at-literal : i < length l → (variable (getD l i (pos 0)) ≡ 0 → ⊥) → clauseAt i l ≡ getD l i (pos 0) ∷ clauseAt (i + 1) l
+  pub at-literal : i < length l → closes (getD l i (pos 0)) ≡ false → clauseAt i l ≡ getD l i (pos 0) ∷ clauseAt (i + 1) l
   at-literal h e = rw (length-literal l i h e, drop-cons l i (pos 0) h, add-one i)
 
-  pub at-closed : i < length l → variable (getD l i (pos 0)) ≡ 0 → clauseAt i l ≡ []
+  pub at-closed : i < length l → closes (getD l i (pos 0)) ≡ true → clauseAt i l ≡ []
   at-closed h e = rw (length-closed l i h e)
 
   pub at-past : length l ≤ i → clauseAt i l ≡ []
@@ -50,7 +50,7 @@ passing-start p l from = record { far = refl; none = refl }
 
 module _ (p : ℤ → Bool) (l : List ℤ) (from i : ℕ) (s : Passing p l from i) where
   -- the clause's end
-  pub passing-closed : i < length l → variable (getD l i (pos 0)) ≡ 0 → Tested p l from i false
+  pub passing-closed : i < length l → closes (getD l i (pos 0)) ≡ true → Tested p l from i false
   passing-closed h z =
       record { ends = omega (arith, s .far, length-closed l i h z); verdict = sym (s .none ∙ ap (any p) (at-closed l i h z)) }
 
@@ -58,17 +58,17 @@ module _ (p : ℤ → Bool) (l : List ℤ) (from i : ℕ) (s : Passing p l from 
   passing-past h =
       record { ends = omega (arith, s .far, length-past l i h); verdict = sym (s .none ∙ ap (any p) (at-past l i h)) }
 
-  module _ (h : i < length l) (nonzero : variable (getD l i (pos 0)) ≡ 0 → ⊥) where
+  module _ (h : i < length l) (literal : closes (getD l i (pos 0)) ≡ false) where
     next : any p (clauseAt from l) ≡ any p (getD l i (pos 0) ∷ clauseAt (i + 1) l)
-    next = s .none ∙ ap (any p) (at-literal l i h nonzero)
+    next = s .none ∙ ap (any p) (at-literal l i h literal)
 
     -- a literal that passes the test: the end is looked for after it
     pub passing-found : p (getD l i (pos 0)) ≡ true → (e : ℕ) → e ≡ i + 1 + clauseLength (drop (i + 1) l) → Tested p l from e true
-    passing-found t e q = record { ends = omega (arith, s .far, length-literal l i h nonzero); verdict = sym (next ∙ rw t) }
+    passing-found t e q = record { ends = omega (arith, s .far, length-literal l i h literal); verdict = sym (next ∙ rw t) }
 
     -- and one that does not
     pub passing-next : p (getD l i (pos 0)) ≡ false → Passing p l from (i + 1)
-    passing-next t = record { far = omega (arith, s .far, length-literal l i h nonzero); none = next ∙ rw t }
+    passing-next t = record { far = omega (arith, s .far, length-literal l i h literal); none = next ∙ rw t }
 
 -- an assignment satisfies the formula where it satisfies the clause, which r says, and the rest
 pub tested-models : (a : List ℕ) (l : List ℤ) (from end : ℕ) (r : Bool) → Tested (holds a) l from end r → from < length l

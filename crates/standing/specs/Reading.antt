@@ -7,7 +7,7 @@ use Prim.Native.Nat.{ℕ, suc, _+_, _≤_, _<_}
 use native.Mathlib.Omega.{arith}
 use lib.IntN.{ℤ, pos}
 use lib.ListN.{length, getD, drop}
-use Rattle.literal.specs.Literal.{variable, holds}
+use Rattle.literal.specs.Literal.{closes, holds}
 use Rattle.formula.specs.Formula.{clauseLength}
 use Rattle.walk.specs.State.{find, isUnassigned, unassignedIn}
 use Rattle.standing.specs.Clause.{clauseAt, at-literal, at-closed, at-past, Tested, Passing, passing-start, passing-closed, passing-past, passing-found, passing-next}
@@ -37,23 +37,23 @@ module _ (a : List ℕ) (l : List ℤ) (from i count last : ℕ) (s : Reads a l 
         unit = λ q. s .unit (cc);
       }
 
-  pub reads-closed : i < length l → variable (getD l i (pos 0)) ≡ 0 → IsRead a l from i (Open count) last
+  pub reads-closed : i < length l → closes (getD l i (pos 0)) ≡ true → IsRead a l from i (Open count) last
   reads-closed h z = closed (at-closed l i h z) (passing-closed (holds a) l from i (s .passing) h z)
 
   pub reads-past : length l ≤ i → IsRead a l from i (Open count) last
   reads-past h = closed (at-past l i h) (passing-past (holds a) l from i (s .passing) h)
 
-  module _ (h : i < length l) (nonzero : variable (getD l i (pos 0)) ≡ 0 → ⊥) where
+  module _ (h : i < length l) (literal : closes (getD l i (pos 0)) ≡ false) where
     abbrev x : ℤ
     x = getD l i (pos 0)
 
     next : clauseAt i l ≡ x ∷ clauseAt (i + 1) l
-    next = at-literal l i h nonzero
+    next = at-literal l i h literal
 
     -- a literal that holds
     pub reads-satisfied : holds a x ≡ true → (e : ℕ) → e ≡ i + 1 + clauseLength (drop (i + 1) l) → IsRead a l from e Satisfied last
     reads-satisfied t e q =
-        let found = passing-found (holds a) l from i (s .passing) h nonzero t e q in
+        let found = passing-found (holds a) l from i (s .passing) h literal t e q in
         record {
           ends = found .ends;
           stands = ap (λ (b : Bool). cond b Satisfied (Open (unassignedIn a (clauseAt from l)))) (found .verdict);
@@ -67,7 +67,7 @@ module _ (a : List ℕ) (l : List ℤ) (from i count last : ℕ) (s : Reads a l 
           let one : unassignedIn a (clauseAt i l) ≡ suc (unassignedIn a (clauseAt (i + 1) l)) = ap (unassignedIn a) next ∙ rw u in
           let here : find (isUnassigned a) (clauseAt i l) ≡ some x = ap (find (isUnassigned a)) next ∙ rw u in
           record {
-            passing = passing-next (holds a) l from i (s .passing) h nonzero t;
+            passing = passing-next (holds a) l from i (s .passing) h literal t;
             few = omega (arith, s .few);
             total = omega (arith, s .total, one);
             later = λ e. absurd (omega arith);
@@ -78,7 +78,7 @@ module _ (a : List ℕ) (l : List ℤ) (from i count last : ℕ) (s : Reads a l 
       reads-assigned u =
           let same : unassignedIn a (clauseAt i l) ≡ unassignedIn a (clauseAt (i + 1) l) = ap (unassignedIn a) next ∙ rw u in
           record {
-            passing = passing-next (holds a) l from i (s .passing) h nonzero t;
+            passing = passing-next (holds a) l from i (s .passing) h literal t;
             few = omega (arith, s .few);
             total = omega (arith, s .total, same);
             later = λ e. s .later e ∙ ap (find (isUnassigned a)) next ∙ rw u;

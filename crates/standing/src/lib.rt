@@ -33,7 +33,7 @@ pub fn read_clause(list: &[i32], from: usize, assignment: &[u8]) -> Reading
     let mut last: usize = 0;
     let mut i = from;
     while i < list.len() {
-        if literal::variable_of(list[i]).0 == 0 {
+        if literal::closes(list[i]) {
             return Reading {
                 end: i,
                 standing: Standing::Open(count),

@@ -5,7 +5,7 @@ use Prim.Native.Nat.{_-_}
 use lib.IntN.{pos}
 use lib.ListN.{length, getD}
 use Rattle.literal.specs.Laws.{as-read}
-use Rattle.literal.specs.Literal.{variable, holds}
+use Rattle.literal.specs.Literal.{closes, holds}
 use Rattle.walk.specs.State.{isUnassigned}
 use Rattle.standing.specs.Reading.{Reads, reads-start, reads-closed, reads-past, reads-satisfied, reads-unassigned, reads-assigned}
 use borrow.Author.Needs.{needs}
@@ -18,33 +18,43 @@ Inv-loop list from assignment count₀ last₀ i₀ count last i = Reads assignm
 abbrev μ-loop : tie.MeasureT-loop
 μ-loop list from assignment count₀ last₀ i₀ count last i = length list - i
 
+-- Points of the program: the entry; the loop's head; the number there tested for the closing 0; the literal tested for holding; and for being unassigned.
+abbrev entry : tie.At-loop Inv-loop μ-loop → tie.Start Inv-loop μ-loop
+entry c = c .before .before
+
+abbrev head : tie.After-closes Inv-loop μ-loop → tie.At-loop Inv-loop μ-loop
+head c = c .before .before .before
+
+abbrev told : tie.After-holds-in Inv-loop μ-loop → tie.After-closes Inv-loop μ-loop
+told c = c .before .before .before
+
+abbrev asked : tie.After-is-unassigned Inv-loop μ-loop → tie.After-holds-in Inv-loop μ-loop
+asked c = c .before .before .before
+
 loop-holds : tie.Need-loop-holds Inv-loop μ-loop
 loop-holds c = reads-start (c .before .args .assignment .now) (c .before .args .list .now) (c .before .args .from)
 
-mul-variable-of : tie.Need-mul-variable-of Inv-loop μ-loop
-mul-variable-of c = search needs
+mul-closes : tie.Need-mul-closes Inv-loop μ-loop
+mul-closes c = search needs
 
-shared-slice-copy-out-variable-of : tie.Need-shared-slice-copy-out-variable-of Inv-loop μ-loop
-shared-slice-copy-out-variable-of c = search needs
+shared-slice-copy-out-closes : tie.Need-shared-slice-copy-out-closes Inv-loop μ-loop
+shared-slice-copy-out-closes c = search needs
 
-variable-of-requires : tie.Need-variable-of-requires Inv-loop μ-loop
-variable-of-requires c κs = search needs
+closes-requires : tie.Need-closes-requires Inv-loop μ-loop
+closes-requires c κs = search needs
 
 -- the callees' answers are about the list's number
-number : (c : tie.After-struct-known Inv-loop μ-loop)
-    → c .before .variable-of .result .0 ≡ variable (getD (c .before .before .before .before .before .before .args .list .now) (c .before .before .before .before .loop .i) (pos 0))
+number : (c : tie.After-closes Inv-loop μ-loop) → c .closes .result ≡ closes (getD (entry (head c) .args .list .now) (head c .loop .i) (pos 0))
 number c =
-    let here = c .before .before .before .before in
-    let x = getD (here .before .before .args .list .now) (here .loop .i) (pos 0) in
-    c .before .variable-of .ensures ∙ ap variable (as-read x (c .before .before .variable-of-arg .given))
+    c .closes .ensures
+    ∙ ap closes (as-read (getD (entry (head c) .args .list .now) (head c .loop .i) (pos 0)) (c .before .closes-arg .given))
 
 returns : tie.Need-returns Inv-loop μ-loop
 returns c =
-    let known = c .before in
-    let here = known .before .before .before .before in
-    let args = here .before .before .args in
-    reads-closed (args .assignment .now) (args .list .now) (args .from) (here .loop .i) (here .loop .count) (here .loop .last) (here .loop .inv)
-    (known .before .before .before .loop-test .taken) (sym (number known) ∙ c .if1 .taken)
+    let now = c .before in
+    let top = head now in
+    let args = entry top .args in
+    reads-closed (args .assignment .now) (args .list .now) (args .from) (top .loop .i) (top .loop .count) (top .loop .last) (top .loop .inv) (now .before .before .loop-test .taken) (sym (number now) ∙ c .if1 .taken)
 
 mul-holds-in : tie.Need-mul-holds-in Inv-loop μ-loop
 mul-holds-in c = search needs
@@ -55,14 +65,11 @@ shared-slice-copy-out-holds-in c = search needs
 holds-in-requires : tie.Need-holds-in-requires Inv-loop μ-loop
 holds-in-requires c κs = search needs
 
-held : (c : tie.After-holds-in Inv-loop μ-loop)
-    → c .holds-in .result
-    ≡ holds (c .before .before .before .before .before .before .before .before .before .args .assignment .now) (getD (c .before .before .before .before .before .before .before .before .before .args .list .now) (c .before .before .before .before .before .before .before .loop .i) (pos 0))
+held : (c : tie.After-holds-in Inv-loop μ-loop) → c .holds-in .result ≡ holds (entry (head (told c)) .args .assignment .now) (getD (entry (head (told c)) .args .list .now) (head (told c) .loop .i) (pos 0))
 held c =
-    let here = c .before .before .before .before .before .before .before in
-    let args = here .before .before .args in
-    c .holds-in .ensures
-    ∙ ap (holds (args .assignment .now)) (as-read (getD (args .list .now) (here .loop .i) (pos 0)) (c .before .holds-in-arg .given))
+    let top = head (told c) in
+    let args = entry top .args in
+    c .holds-in .ensures ∙ ap (holds (args .assignment .now)) (as-read (getD (args .list .now) (top .loop .i) (pos 0)) (c .before .holds-in-arg .given))
 
 add-clause-end : tie.Need-add-clause-end Inv-loop μ-loop
 add-clause-end c = search needs
@@ -72,12 +79,12 @@ clause-end-requires c κs = search needs
 
 returns-2 : tie.Need-returns-2 Inv-loop μ-loop
 returns-2 c =
-    let asked = c .before .before in
-    let known = asked .before .before .before in
-    let here = known .before .before .before .before in
-    let args = here .before .before .args in
-    reads-satisfied (args .assignment .now) (args .list .now) (args .from) (here .loop .i) (here .loop .count) (here .loop .last) (here .loop .inv)
-    (known .before .before .before .loop-test .taken) (λ e. asked .before .before .if1 .left (number known ∙ e)) (sym (held asked) ∙ c .before .if2 .taken) (c .clause-end .result) (c .clause-end .ensures)
+    let tested = c .before .before in
+    let now = told tested in
+    let top = head now in
+    let args = entry top .args in
+    reads-satisfied (args .assignment .now) (args .list .now) (args .from) (top .loop .i) (top .loop .count) (top .loop .last) (top .loop .inv) (now .before .before .loop-test .taken) (sym (number now) ∙ tested .before .before .if1 .left)
+    (sym (held tested) ∙ c .before .if2 .taken) (c .clause-end .result) (c .clause-end .ensures)
 
 mul-is-unassigned : tie.Need-mul-is-unassigned Inv-loop μ-loop
 mul-is-unassigned c = search needs
@@ -89,13 +96,11 @@ is-unassigned-requires : tie.Need-is-unassigned-requires Inv-loop μ-loop
 is-unassigned-requires c κs = search needs
 
 free : (c : tie.After-is-unassigned Inv-loop μ-loop)
-    → c .is-unassigned .result
-    ≡ isUnassigned (c .before .before .before .before .before .before .before .before .before .before .before .before .args .assignment .now) (getD (c .before .before .before .before .before .before .before .before .before .before .before .before .args .list .now) (c .before .before .before .before .before .before .before .before .before .before .loop .i) (pos 0))
+    → c .is-unassigned .result ≡ isUnassigned (entry (head (told (asked c))) .args .assignment .now) (getD (entry (head (told (asked c))) .args .list .now) (head (told (asked c)) .loop .i) (pos 0))
 free c =
-    let here = c .before .before .before .before .before .before .before .before .before .before in
-    let args = here .before .before .args in
-    c .is-unassigned .ensures
-    ∙ ap (isUnassigned (args .assignment .now)) (as-read (getD (args .list .now) (here .loop .i) (pos 0)) (c .before .is-unassigned-arg .given))
+    let top = head (told (asked c)) in
+    let args = entry top .args in
+    c .is-unassigned .ensures ∙ ap (isUnassigned (args .assignment .now)) (as-read (getD (args .list .now) (top .loop .i) (pos 0)) (c .before .is-unassigned-arg .given))
 
 add-count : tie.Need-add-count Inv-loop μ-loop
 add-count c = search needs
@@ -108,29 +113,26 @@ loop-less c = search needs
 
 loop-again : tie.Need-loop-again Inv-loop μ-loop
 loop-again c =
-    let tested = c .before in
-    let asked = tested .before .before .before in
-    let known = asked .before .before .before in
-    let here = known .before .before .before .before in
-    let args = here .before .before .args in
+    let last-test = c .before in
+    let tested = asked last-test in
+    let now = told tested in
+    let top = head now in
+    let args = entry top .args in
     let a = args .assignment .now in
     let l = args .list .now in
-    let i = here .loop .i in
-    let count = here .loop .count in
-    let last = here .loop .last in
-    let inside = known .before .before .before .loop-test .taken in
-    let nonzero : variable (getD l i (pos 0)) ≡ 0 → ⊥ = λ e. asked .before .before .if1 .left (number known ∙ e) in
-    let fails = sym (held asked) ∙ tested .before .before .if2 .left in
+    let inside = now .before .before .loop-test .taken in
+    let literal = sym (number now) ∙ tested .before .before .if1 .left in
+    let fails = sym (held tested) ∙ last-test .before .before .if2 .left in
     ⊎-elim
-    (λ w. rw (w .1, w .2) (reads-unassigned a l (args .from) i count last (here .loop .inv) inside nonzero fails (sym (free tested) ∙ w .0 .taken)))
-    (λ w. rw (w .1, w .2) (reads-assigned a l (args .from) i count last (here .loop .inv) inside nonzero fails (sym (free tested) ∙ w .0 .left)))
+    (λ w. rw (w .1, w .2) (reads-unassigned a l (args .from) (top .loop .i) (top .loop .count) (top .loop .last) (top .loop .inv) inside literal fails (sym (free last-test) ∙ w .0 .taken)))
+    (λ w. rw (w .1, w .2) (reads-assigned a l (args .from) (top .loop .i) (top .loop .count) (top .loop .last) (top .loop .inv) inside literal fails (sym (free last-test) ∙ w .0 .left)))
     (c .if3 .came)
 
 returns-3 : tie.Need-returns-3 Inv-loop μ-loop
 returns-3 c =
-    let here = c .before in
-    let args = here .before .before .args in
-    reads-past (args .assignment .now) (args .list .now) (args .from) (here .loop .i) (here .loop .count) (here .loop .last) (here .loop .inv) (c .loop-test .left)
+    let top = c .before in
+    let args = entry top .args in
+    reads-past (args .assignment .now) (args .list .now) (args .from) (top .loop .i) (top .loop .count) (top .loop .last) (top .loop .inv) (c .loop-test .left)
 
 pub read-clause-spec : {M : Type 1} → statement M
 read-clause-spec =
@@ -139,9 +141,9 @@ read-clause-spec =
     Inv-loop
     μ-loop
     loop-holds
-    mul-variable-of
-    shared-slice-copy-out-variable-of
-    variable-of-requires
+    mul-closes
+    shared-slice-copy-out-closes
+    closes-requires
     returns
     mul-holds-in
     shared-slice-copy-out-holds-in

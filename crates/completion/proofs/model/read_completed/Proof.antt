@@ -5,7 +5,7 @@ use Prim.Native.Nat.{ℕ, _-_}
 use lib.IntN.{pos}
 use lib.ListN.{length, getD}
 use Rattle.literal.specs.Laws.{as-read}
-use Rattle.literal.specs.Literal.{variable, holds}
+use Rattle.literal.specs.Literal.{closes, holds}
 use Rattle.walk.specs.Walk.{complete}
 use Rattle.standing.specs.Clause.{Passing, passing-start, passing-closed, passing-past, passing-found, passing-next}
 use borrow.Author.Needs.{needs}
@@ -18,14 +18,14 @@ Inv-loop list from row assignment i₀ i = Passing (holds (complete row assignme
 abbrev μ-loop : tie.MeasureT-loop
 μ-loop list from row assignment i₀ i = length list - i
 
--- Points of the program: the loop's head, and the number there.
-abbrev head : tie.After-struct-known Inv-loop μ-loop → tie.At-loop Inv-loop μ-loop
-head c = c .before .before .before .before
+-- Points of the program: the entry; the loop's head; the number there tested for the closing 0; that literal tested.
+abbrev head : tie.After-closes Inv-loop μ-loop → tie.At-loop Inv-loop μ-loop
+head c = c .before .before .before
 
 abbrev entry : tie.At-loop Inv-loop μ-loop → tie.Start Inv-loop μ-loop
 entry c = c .before .before .before
 
-abbrev known : tie.After-holds-completed Inv-loop μ-loop → tie.After-struct-known Inv-loop μ-loop
+abbrev known : tie.After-holds-completed Inv-loop μ-loop → tie.After-closes Inv-loop μ-loop
 known c = c .before .before .before
 
 -- the completion
@@ -37,27 +37,27 @@ loop-holds c =
     let args = c .before .before .args in
     passing-start (holds (complete (args .row .now) (args .assignment .now))) (args .list .now) (args .from)
 
-mul-variable-of : tie.Need-mul-variable-of Inv-loop μ-loop
-mul-variable-of c = search needs
+mul-closes : tie.Need-mul-closes Inv-loop μ-loop
+mul-closes c = search needs
 
-shared-slice-copy-out-variable-of : tie.Need-shared-slice-copy-out-variable-of Inv-loop μ-loop
-shared-slice-copy-out-variable-of c = search needs
+shared-slice-copy-out-closes : tie.Need-shared-slice-copy-out-closes Inv-loop μ-loop
+shared-slice-copy-out-closes c = search needs
 
-variable-of-requires : tie.Need-variable-of-requires Inv-loop μ-loop
-variable-of-requires c κs = search needs
+closes-requires : tie.Need-closes-requires Inv-loop μ-loop
+closes-requires c κs = search needs
 
 -- the callees' answers are about the list's number
-number : (c : tie.After-struct-known Inv-loop μ-loop) → c .before .variable-of .result .0 ≡ variable (getD (entry (head c) .args .list .now) (head c .loop .i) (pos 0))
+number : (c : tie.After-closes Inv-loop μ-loop) → c .closes .result ≡ closes (getD (entry (head c) .args .list .now) (head c .loop .i) (pos 0))
 number c =
-    c .before .variable-of .ensures
-    ∙ ap variable (as-read (getD (entry (head c) .args .list .now) (head c .loop .i) (pos 0)) (c .before .before .variable-of-arg .given))
+    c .closes .ensures
+    ∙ ap closes (as-read (getD (entry (head c) .args .list .now) (head c .loop .i) (pos 0)) (c .before .closes-arg .given))
 
 returns : tie.Need-returns Inv-loop μ-loop
 returns c =
     let now = c .before in
     let top = head now in
     let args = entry top .args in
-    passing-closed (holds (filled top)) (args .list .now) (args .from) (top .loop .i) (top .loop .inv) (now .before .before .before .loop-test .taken) (sym (number now) ∙ c .if1 .taken)
+    passing-closed (holds (filled top)) (args .list .now) (args .from) (top .loop .i) (top .loop .inv) (now .before .before .loop-test .taken) (sym (number now) ∙ c .if1 .taken)
 
 mul-holds-completed : tie.Need-mul-holds-completed Inv-loop μ-loop
 mul-holds-completed c = search needs
@@ -86,7 +86,7 @@ returns-2 c =
     let now = known asked in
     let top = head now in
     let args = entry top .args in
-    passing-found (holds (filled top)) (args .list .now) (args .from) (top .loop .i) (top .loop .inv) (now .before .before .before .loop-test .taken) (λ e. asked .before .before .if1 .left (number now ∙ e))
+    passing-found (holds (filled top)) (args .list .now) (args .from) (top .loop .i) (top .loop .inv) (now .before .before .loop-test .taken) (sym (number now) ∙ asked .before .before .if1 .left)
     (sym (held asked) ∙ c .before .if2 .taken) (c .clause-end .result) (c .clause-end .ensures)
 
 add-i : tie.Need-add-i Inv-loop μ-loop
@@ -101,7 +101,7 @@ loop-again c =
     let now = known asked in
     let top = head now in
     let args = entry top .args in
-    passing-next (holds (filled top)) (args .list .now) (args .from) (top .loop .i) (top .loop .inv) (now .before .before .before .loop-test .taken) (λ e. asked .before .before .if1 .left (number now ∙ e))
+    passing-next (holds (filled top)) (args .list .now) (args .from) (top .loop .i) (top .loop .inv) (now .before .before .loop-test .taken) (sym (number now) ∙ asked .before .before .if1 .left)
     (sym (held asked) ∙ c .if2 .left)
 
 returns-3 : tie.Need-returns-3 Inv-loop μ-loop
@@ -117,9 +117,9 @@ read-completed-spec =
     Inv-loop
     μ-loop
     loop-holds
-    mul-variable-of
-    shared-slice-copy-out-variable-of
-    variable-of-requires
+    mul-closes
+    shared-slice-copy-out-closes
+    closes-requires
     returns
     mul-holds-completed
     shared-slice-copy-out-holds-completed

@@ -3,7 +3,7 @@ use mathlib.Core.Path.{sym, ap, subst, _∙_}
 use mathlib.Core.Option.{Option, some, Option·map}
 use Prim.Native.Nat.{ℕ}
 use Rattle.walk.specs.State.{unassignedIn}
-use Rattle.opposed.specs.declared.shortest.Found.the-variants.{At}
+use Rattle.opposed.specs.declared.shortest.Begins.the-variants.{At}
 use Rattle.opposed.specs.Opposed.{IsFirst}
 use borrow.Author.Needs.{needs}
 use Rattle.opposed.proofs.fewest.fewest_opposed.Statement.{statement}
