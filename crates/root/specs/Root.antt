@@ -15,14 +15,14 @@ use Rattle.propagation.specs.Searching.{Searching}
 use Rattle.propagation.specs.Trail.{undone}
 use Rattle.dll.specs.declared.tried.Tried.{Tried}
 use Rattle.dll.specs.declared.tried.Tried.the-variants.{Found, Nothing}
-use Rattle.dll.specs.Tried.{clip, Says}
+use Rattle.dll.specs.Tried.{clip, TriedBy}
 
 -- where the walk comes to o: its answer in the lent assignment, or nothing
 abbrev pub RootSays : Outcome → List ℕ → Tried → Type 0
 RootSays o a (Found broken forks) = (o .answer ≡ some (record { choice = a; broken = broken })) × (forks ≡ clip (o .forks))
 RootSays o a (Nothing forks) = (o .answer ≡ none) × (forks ≡ clip (o .forks))
 
-pub root-says : (o : Outcome) (s : ℕ) (trail a trail′ a′ : List ℕ) (r : Tried) → Says o s trail a trail′ a′ r → RootSays o a′ r
+pub root-says : (o : Outcome) (s : ℕ) (trail a trail′ a′ : List ℕ) (r : Tried) → TriedBy o s trail a trail′ a′ r → RootSays o a′ r
 root-says o s trail a trail′ a′ (Found k g) w = w
 root-says o s trail a trail′ a′ (Nothing g) w = (w .0, w .1)
 
