@@ -15,7 +15,7 @@ use Rattle.propagation.specs.Searching.{Searching, Later, later-more, not-all, 
 use Rattle.propagation.specs.Trail.{undone}
 use Rattle.dll.specs.declared.tried.Tried.{Tried}
 use Rattle.dll.specs.declared.tried.Tried.the-variants.{Found, Nothing}
-use Rattle.dll.specs.Tried.{clip, TriedBy}
+use Rattle.dll.specs.Tried.{clip, TriedBy, withForks}
 
 -- one more fork, counted as far as 64 bits go
 clip-one : (g k : ℕ) → g ≡ clip k → clip (suc (k + 0)) ≡ min (g + 0 + 1) 18446744073709551615
@@ -82,26 +82,22 @@ module _ {n : ℕ} {row a trail : List ℕ} (t : Tally) (h : Searching n row a t
           in-second trail′ a′ r =
               subst (λ (l : List ℕ). TriedBy (try l) (t₄ .settled) trail₄ a₄ trail′ a′ r) (second .values ∙ ap (λ (l : List ℕ). assign l v (1 - c)) back)
 
-          forks-two : (g₂ forks : ℕ) → g₂ ≡ clip (try (assign a v (1 - c)) .forks) → forks ≡ min (g₁ + g₂ + 1) 18446744073709551615
-              → forks ≡ clip (suc (try (assign a v c) .forks + try (assign a v (1 - c)) .forks))
-          forks-two g₂ forks p q = q ∙ sym (clip-two g₁ g₂ (try (assign a v c) .forks) (try (assign a v (1 - c)) .forks) (in-first trail₂ a₂ (Nothing g₁) said₁ .1) p)
+          forks-two : (g₂ : ℕ) → g₂ ≡ clip (try (assign a v (1 - c)) .forks) → min (g₁ + g₂ + 1) 18446744073709551615 ≡ clip (suc (try (assign a v c) .forks + try (assign a v (1 - c)) .forks))
+          forks-two g₂ p = sym (clip-two g₁ g₂ (try (assign a v c) .forks) (try (assign a v (1 - c)) .forks) (in-first trail₂ a₂ (Nothing g₁) said₁ .1) p)
 
           none-there : try (assign a v c) .answer ≡ none
           none-there = in-first trail₂ a₂ (Nothing g₁) said₁ .0
 
-          -- it has the answer
-          pub second-found : (trail′ a′ : List ℕ) (broken g₂ forks : ℕ) → TriedBy (try a₄) (t₄ .settled) trail₄ a₄ trail′ a′ (Found broken g₂) → forks ≡ min (g₁ + g₂ + 1) 18446744073709551615
-              → TriedBy (fork try a v c) (t .settled) trail a trail′ a′ (Found broken forks)
-          second-found trail′ a′ broken g₂ forks said q =
-              let w = in-second trail′ a′ (Found broken g₂) said in
-              rw (none-there, w .0) (refl, forks-two g₂ forks (w .1) q)
+          after : Later (t .settled) trail a trail₄ a₄
+          after =
+              later-more (t .settled) (t .settled) trail a trail₂ a₃ trail₄ a₄ (omega arith) (rw back (restored-later n row a trail (t .settled) (t .broken) h a₂ trail₂ later₂ long))
+              (assigned-after second back-searching (back-branches .above) (back-branches .upTo) (back-branches .unset) other)
 
-          -- neither has
-          pub none-found : (trail′ a′ : List ℕ) (g₂ forks : ℕ) → TriedBy (try a₄) (t₄ .settled) trail₄ a₄ trail′ a′ (Nothing g₂) → forks ≡ min (g₁ + g₂ + 1) 18446744073709551615
-              → TriedBy (fork try a v c) (t .settled) trail a trail′ a′ (Nothing forks)
-          none-found trail′ a′ g₂ forks said q =
+          -- it has the answer, or neither has
+          pub second-said : (trail′ a′ : List ℕ) (r : Tried) → TriedBy (try a₄) (t₄ .settled) trail₄ a₄ trail′ a′ r → TriedBy (fork try a v c) (t .settled) trail a trail′ a′ (withForks g₁ r)
+          second-said trail′ a′ (Found broken g₂) said =
+              let w = in-second trail′ a′ (Found broken g₂) said in
+              rw (none-there, w .0) (refl, forks-two g₂ (w .1))
+          second-said trail′ a′ (Nothing g₂) said =
               let w = in-second trail′ a′ (Nothing g₂) said in
-              let after : Later (t .settled) trail a trail₄ a₄
-              = later-more (t .settled) (t .settled) trail a trail₂ a₃ trail₄ a₄ (omega arith) (rw back (restored-later n row a trail (t .settled) (t .broken) h a₂ trail₂ later₂ long))
-              (assigned-after second back-searching (back-branches .above) (back-branches .upTo) (back-branches .unset) other) in
-              rw (none-there, w .0) (refl, forks-two g₂ forks (w .1) q, later-more (t .settled) (t₄ .settled) trail a trail₄ a₄ trail′ a′ (omega (arith, second .settled)) after (w .2))
+              rw (none-there, w .0) (refl, forks-two g₂ (w .1), later-more (t .settled) (t₄ .settled) trail a trail₄ a₄ trail′ a′ (omega (arith, second .settled)) after (w .2))

@@ -1,6 +1,7 @@
 // Trying a state may call for a fork, and a fork tries two states (document 01, step 5).
 use crate::tried::Tried;
 use crate::tried::add_forks;
+use crate::tried::with_forks;
 use literal::Variable;
 use pick::Pick;
 use propagation::Propagated;
@@ -69,10 +70,10 @@ fn fork(
         Tried::Nothing(before) => {
             propagation::undo(tally.settled, trail, a);
             let second = propagation::assign_to(tally, row, v, 1 - value, a, trail);
-            match attempt(list, row, d, second, a, trail, weights, marks) {
-                Tried::Found(broken, forks) => Tried::Found(broken, add_forks(before, forks)),
-                Tried::Nothing(forks) => Tried::Nothing(add_forks(before, forks)),
-            }
+            with_forks(
+                before,
+                attempt(list, row, d, second, a, trail, weights, marks),
+            )
         }
     }
 }

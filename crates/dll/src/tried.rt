@@ -1,6 +1,7 @@
 // What trying a state comes to.
 ghost use mathlib.Core.Path.{_≡_};
 ghost use Prim.Native.Nat.{_+_, min};
+ghost use Rattle.dll.specs.Tried.{withForks};
 
 // An answer, with the number of broken wishes, or nothing; and the forks that were made, as far as 64
 // bits count them.
@@ -20,4 +21,14 @@ pub fn add_forks(first: u64, second: u64) -> u64
         return 18446744073709551615;
     }
     first + second + 1
+}
+
+// What the second value of a fork came to, with the forks of the first and this one.
+pub fn with_forks(first: u64, second: Tried) -> Tried
+    ensures { λ r. ⌜ r ≡ withForks first second ⌝ }
+{
+    match second {
+        Tried::Found(broken, forks) => Tried::Found(broken, add_forks(first, forks)),
+        Tried::Nothing(forks) => Tried::Nothing(add_forks(first, forks)),
+    }
 }

@@ -34,8 +34,3 @@ abbrev pub IsFirst : List ℕ → List ℕ → List ℤ → Begins → Type 0
 IsFirst row a l W.Nothing = shortest row a (clauses l) ≡ none
 IsFirst row a l (W.At i) =
     (i < length l) × (isOpposed row a (clauseAt i l) ≡ true) × (shortest row a (clauses l) ≡ shortest row a (clauses (drop i l)))
-
--- whether there is such a number
-abbrev pub isSome : Option ℕ → Bool
-isSome none = false
-isSome (some k) = true

@@ -21,14 +21,17 @@ pub fn walk_into(n: usize, list: &[i32], row: &[u8], d: usize, choice: &mut [u8]
     let mut trail = no_trail();
     let mut weights = branching::no_weights();
     let mut marks = branching::no_marks();
+    // what n variables need of the tables: the weighing clears what it is lent
+    let literals = 2 * n + 2;
+    let variables = n + 1;
     match walk_from_root(
         list,
         row,
         d,
         &mut a[..n],
         &mut trail[..n],
-        &mut weights,
-        &mut marks,
+        &mut weights[..literals],
+        &mut marks[..variables],
     ) {
         Tried::Found(broken, forks) => {
             copy_to(&a[..n], choice);

@@ -4,12 +4,10 @@ mod into;
 use dll::Tried;
 use tally::Tally;
 ghost use mathlib.Core.Path.{_≡_};
-ghost use mathlib.Core.Option.{none};
-ghost use Prim.Native.Nat.{_+_, _*_, _≤_, _<_};
 ghost use lib.ListN.{length, replicate};
 ghost use Rattle.formula.specs.Formula.{clauses};
-ghost use Rattle.rule_list.specs.Sound.{unread, badRule};
 ghost use Rattle.walk.specs.Walk.{walk};
+ghost use Rattle.dll.specs.Ready.{Ready};
 ghost use Rattle.root.specs.Root.{RootSays};
 pub use into::answer_of;
 pub use into::walk_into;
@@ -24,8 +22,7 @@ pub fn walk_from_root(
     weights: &mut [u64],
     marks: &mut [u64],
 ) -> Tried
-    requires { ⌜ (length (now trail) ≡ length (now a)) × (length (now a) ≤ 640) × (badRule (length (now a)) unread 0 (now list) ≡ none) ⌝ }
-    requires { ⌜ (2 * length (now a) + 1 < length (now weights)) × (length (now a) < length (now marks)) ⌝ }
+    requires { ⌜ (length (now trail) ≡ length (now a)) × Ready (now list) (length (now a)) (length (now weights)) (length (now marks)) ⌝ }
     ensures { λ r. ⌜ RootSays (walk (length (now (a .entry))) (clauses (now (list .entry))) (now (row .entry)) d) (now (a .exit)) r ⌝ }
 {
     unassign_all(a);

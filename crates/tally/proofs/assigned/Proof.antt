@@ -102,8 +102,8 @@ module _ {M : Type 1} (𝓤 : URA M) (H : Heap 𝓤) (A : Atoms 𝓤) (W : Given
   lent-at l α δ = flent (α ∷ []) (Body (mem T.the-row) l 0 δ)
 
   -- what `assign` says of the last values of the struct, the assignment and the trail
-  abbrev Says : Tally → List ℕ → List ℕ → Type 0
-  Says t zs us = HasAssigned i v n ys ts h zs us t
+  abbrev Told : Tally → List ℕ → List ℕ → Type 0
+  Told t zs us = HasAssigned i v n ys ts h zs us t
 
   abbrev Post : Val → SProp 𝓤
   Post = walkOf 𝓤 H A assigned.ended stayed (assigned.clauses 𝓤 H A at-mem run) .post (((κ₁, (κ₂, tt)), (q₁, (q₂, tt)), tt, a, at), tt)
@@ -125,7 +125,7 @@ module _ {M : Type 1} (𝓤 : URA M) (H : Heap 𝓤) (A : Atoms 𝓤) (W : Given
   goes l α δ = qed W ((‵ (flft (α ∷ []) fullShare) ⊛ ‵ (flft κ₁ q₁) ⊛ ‵ (flft κ₂ q₂) ⊛ ‵ ftrue) ∷ ‵ (owns-at l α δ) ∷ []) ∵ says ! ok $ frame ! $ done !
 
   -- the exit: the `ensures` at the last values, the tokens, what is said of the slices, and what the result, the struct and the numbers own
-  exits : (t : Tally) (w : Val) (zs us : List ℕ) → Says t zs us → length zs ≡ length ys → length us ≡ length ts
+  exits : (t : Tally) (w : Val) (zs us : List ℕ) → Told t zs us → length zs ≡ length ys → length us ≡ length ts
       → ent 𝓤 (⋆ 𝓤 H A (‵ (T.the-row .own t (w ∷ [])) ∷ (‵ (flft κ₁ q₁) ⊛ ‵ (flft κ₂ q₂) ⊛ ‵ ftrue) ∷ ‵ (finally u16 γ₂ us) ∷ ‵ (finally u8 γ₁ zs) ∷ [])) (Post w)
   exits t w zs us e l₁ l₂ =
       qed W (‵ (T.the-row .own t (w ∷ [])) ∷ (‵ (flft κ₁ q₁) ⊛ ‵ (flft κ₂ q₂) ⊛ ‵ ftrue) ∷ ‵ (finally u16 γ₂ us) ∷ ‵ (finally u8 γ₁ zs) ∷ []) ∵
@@ -165,8 +165,8 @@ module _ {M : Type 1} (𝓤 : URA M) (H : Heap 𝓤) (A : Atoms 𝓤) (W : Given
         calls-at ! fm (Assign 𝓤 H A at-mem run) known (to-assign l₇ α δ) (and-then ! (load ! (from ! (stop !)) (look ! 10 refl)) (and-then ! (load ! (from ! (stop !)) (look ! 23 refl)) (and-then ! (load ! (from ! (stop !)) (look ! 21 refl)) (and-then ! (load ! (from ! (stop !)) (look ! 19 refl)) (and-then ! (load ! (from ! (stop !)) (look ! 6 refl)) (and-then ! (load ! (from ! (stop !)) (look ! 2 refl)) (no-more !))))))) (λ u.
         use1 W (later (some (λ (r : Unit {0}). ((‵ (flft (α ∷ []) fullShare) ⊛ ‵ (flft κ₁ q₁) ⊛ ‵ (flft κ₂ q₂) ⊛ ‵ ftrue) ⊛ ‵ (Nothing .own r (u ∷ []))) ⊛ raw (ensured 𝓤 H A assign.ended (assign.clauses 𝓤 H A at-mem run) (α ∷ [], (κ₁, (κ₂, tt))) (args l₇ δ) tt r)))) (id⊢ 𝓤 _) $ await ! tt $ pick ! (λ r.
         -- what `assign` ensures, at some last values
-        split ! $ move ! (1 ∷ []) $ use1 W (some (λ (ws : Tally × (Unit {0} × (Unit {0} × (Unit {0} × (List ℕ × (List ℕ × Unit {0})))))). ‵ (lasts assign.ended (α ∷ [], (κ₁, (κ₂, tt))) (args l₇ δ) ws) ⊛ raw (fact 𝓤 (Says (ws .0) (ws .1 .1 .1 .1 .0) (ws .1 .1 .1 .1 .1 .0))))) (id⊢ 𝓤 _) $ pick ! (λ ws.
-        split ! $ move ! (1 ∷ []) $ heard ! (Says (ws .0) (ws .1 .1 .1 .1 .0) (ws .1 .1 .1 .1 .1 .0)) (λ e.
+        split ! $ move ! (1 ∷ []) $ use1 W (some (λ (ws : Tally × (Unit {0} × (Unit {0} × (Unit {0} × (List ℕ × (List ℕ × Unit {0})))))). ‵ (lasts assign.ended (α ∷ [], (κ₁, (κ₂, tt))) (args l₇ δ) ws) ⊛ raw (fact 𝓤 (Told (ws .0) (ws .1 .1 .1 .1 .0) (ws .1 .1 .1 .1 .1 .0))))) (id⊢ 𝓤 _) $ pick ! (λ ws.
+        split ! $ move ! (1 ∷ []) $ heard ! (Told (ws .0) (ws .1 .1 .1 .1 .0) (ws .1 .1 .1 .1 .1 .0)) (λ e.
         fsplit ! $ move ! (1 ∷ []) $ fsplit ! $ drop ! $ fsplit ! $ drop ! $ fsplit ! $ drop ! $ fsplit ! $ fsplit ! $ move ! (1 ∷ []) $ feqL ! (λ k₁. move ! (1 ∷ []) $ fsplit ! $ fsplit ! $ move ! (1 ∷ []) $ feqL ! (λ k₂. move ! (1 ∷ []) $ drop ! $
         -- [the last trail; the last assignment; the struct's last value; the tokens and the result; the lender's part; _13; …]: the result, which is (), goes into _8
         move ! (3 ∷ []) $ split ! $ move ! (1 ∷ []) $ feqL ! (λ y.

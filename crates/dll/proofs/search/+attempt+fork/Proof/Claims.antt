@@ -10,6 +10,7 @@ use Rattle.propagation.proofs.propagate_units.Reads as propagate-units-reads
 use Rattle.propagation.proofs.assign_to.Reads as assign-to-reads
 use Rattle.propagation.proofs.undo.Reads as undo-reads
 use Rattle.dll.proofs.tried.add_forks.Reads as add-forks-reads
+use Rattle.dll.proofs.tried.with_forks.Reads as with-forks-reads
 use Rattle.dll.proofs.search.attempt.Reads as attempt
 use Rattle.dll.proofs.search.attempt.Kinds as attempt-kinds
 use Rattle.dll.proofs.search.+attempt+fork.Lts-attempt as attempt-lts
@@ -40,4 +41,4 @@ abbrev pub attempt-claims : ℕ → attempt-lts.Claims
 attempt-claims t = (propagate-units-reads.Asked, propagate-units-reads.Learnt, completes-reads.Asked, completes-reads.Learnt, fill-completion-reads.Asked, fill-completion-reads.Learnt, pick-branch-reads.Asked, pick-branch-reads.Learnt, fork-below t, fork.Post)
 
 abbrev pub fork-claims : ℕ → fork-lts.Claims
-fork-claims t = (assign-to-reads.Asked, assign-to-reads.Learnt, attempt-below t, attempt.Post, add-forks-reads.Asked, add-forks-reads.Learnt, undo-reads.Asked, undo-reads.Learnt)
+fork-claims t = (assign-to-reads.Asked, assign-to-reads.Learnt, attempt-below t, attempt.Post, add-forks-reads.Asked, add-forks-reads.Learnt, undo-reads.Asked, undo-reads.Learnt, with-forks-reads.Asked, with-forks-reads.Learnt)

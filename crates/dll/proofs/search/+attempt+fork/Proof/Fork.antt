@@ -7,7 +7,7 @@ use lib.ListN.{length}
 use borrow.Author.Needs.{needs}
 use Rattle.formula.specs.Formula.{clauses}
 use Rattle.walk.specs.Promises.{Branches}
-use Rattle.walk.specs.Walk.{Outcome, walkFrom}
+use Rattle.walk.specs.Walk.{Outcome, walkFrom, fork as forkOf}
 use Rattle.tally.specs.declared.Tally.{Tally}
 use Rattle.propagation.specs.Searching.{Searching}
 use Rattle.dll.specs.declared.tried.Tried.{Tried}
@@ -139,12 +139,6 @@ module _ (t : ℕ) where
     abbrev last-trail : List ℕ
     last-trail = c .attempt2 .last .1 .1 .1 .1 .1 .0
 
-    said-2 : (r : Tried) → c .attempt2 .result ≡ r
-        → TriedBy (try root (second c .assign-to2 .last .1 .1 .1 .1 .0)) (second c .assign-to2 .result .settled) (second c .assign-to2 .last .1 .1 .1 .1 .1 .0) (second c .assign-to2 .last .1 .1 .1 .1 .0) last-trail last-a r
-    said-2 r e =
-        subst (TriedBy (try root (second c .assign-to2 .last .1 .1 .1 .1 .0)) (second c .assign-to2 .result .settled) (second c .assign-to2 .last .1 .1 .1 .1 .1 .0) (second c .assign-to2 .last .1 .1 .1 .1 .0) last-trail last-a) e
-        (c .attempt2 .ensures)
-
     a-long : length last-a ≡ length (root .args .a .now)
     a-long = c .attempt2 .kept .1 .1 .1 .1 .0 ∙ second-state (second c) .state .size
 
@@ -206,17 +200,8 @@ module _ (t : ℕ) where
       let fewer = laws.second-fewer (call .args .tally) (given call) (branches call) (bit call) (try call) (first one .assign-to .ensures) (tried-trail one) (tried-a one) (tried-long one) (forks (undone second)) (nothing (undone second)) (undone second .undo .ensures) (second .assign-to2 .ensures) in
       (omega (arith, fewer, call .pre .0), (long-searching (second-state second), ready-still (second-state second .state .size) (one .attempt .kept .1 .1 .1 .1 .1 .1 .0) (one .attempt .kept .1 .1 .1 .1 .1 .1 .1 .0) (ready call)))
 
-  pub enum-known-broken-2 : lts.Need-enum-known-broken-2 (fork-claims t) (fork-at t) fork.Post
-  enum-known-broken-2 c = search needs
-
-  pub add-forks-requires-2 : lts.Need-add-forks-requires-2 (fork-claims t) (fork-at t) fork.Post
-  add-forks-requires-2 c κs = search needs
-
-  pub enum-known-forks : lts.Need-enum-known-forks (fork-claims t) (fork-at t) fork.Post
-  enum-known-forks c = search needs
-
-  pub add-forks-requires-3 : lts.Need-add-forks-requires-3 (fork-claims t) (fork-at t) fork.Post
-  add-forks-requires-3 c κs = search needs
+  pub with-forks-requires : lts.Need-with-forks-requires (fork-claims t) (fork-at t) fork.Post
+  with-forks-requires c κs = search needs
 
   pub same-length : lts.Need-same-length (fork-claims t) (fork-at t) fork.Post
   same-length c = search needs
@@ -240,47 +225,24 @@ module _ (t : ℕ) where
       (said tried (Found (found .0 .0) (found .0 .1 .0)) (found .1)) (c .add-forks .ensures)
 
   pub same-length-5 : lts.Need-same-length-5 (fork-claims t) (fork-at t) fork.Post
-  same-length-5 c = a-long (c .before .before .before .before .before .before .before .before .before .before .before .before)
+  same-length-5 c = a-long (c .before .before .before .before .before .before .before .before .before)
 
   pub same-length-6 : lts.Need-same-length-6 (fork-claims t) (fork-at t) fork.Post
-  same-length-6 c = trail-long (c .before .before .before .before .before .before .before .before .before .before .before .before)
+  same-length-6 c = trail-long (c .before .before .before .before .before .before .before .before .before)
 
   pub same-length-7 : lts.Need-same-length-7 (fork-claims t) (fork-at t) fork.Post
-  same-length-7 c = weights-long (c .before .before .before .before .before .before .before .before .before .before .before .before)
+  same-length-7 c = weights-long (c .before .before .before .before .before .before .before .before .before)
 
   pub same-length-8 : lts.Need-same-length-8 (fork-claims t) (fork-at t) fork.Post
-  same-length-8 c = marks-long (c .before .before .before .before .before .before .before .before .before .before .before .before)
+  same-length-8 c = marks-long (c .before .before .before .before .before .before .before .before .before)
 
-  -- the other value has the answer
+  -- the other value has it, or neither has
   pub returns-2 : lts.Need-returns-2 (fork-claims t) (fork-at t) fork.Post
   returns-2 c =
-      let tried = c .before .before .before .before .before .before .before .before .before .before .before .before in
+      let tried = c .before .before .before .before .before .before .before .before .before in
       let second = second tried in
       let call = origin second in
       let one = one second in
-      let found = c .before .before .broken2 .given in
-      laws.second-found (call .args .tally) (given call) (branches call) (bit call) (try call) (first one .assign-to .ensures) (tried-trail one) (tried-a one) (tried-long one) (forks (undone second)) (nothing (undone second)) (undone second .undo .ensures) (second .assign-to2 .ensures)
-      (last-trail tried) (last-a tried) (found .0 .0) (found .0 .1 .0) (c .add-forks2 .result) (said-2 tried (Found (found .0 .0) (found .0 .1 .0)) (found .1)) (c .add-forks2 .ensures)
-
-  pub same-length-9 : lts.Need-same-length-9 (fork-claims t) (fork-at t) fork.Post
-  same-length-9 c = a-long (c .before .before .before .before .before .before .before .before .before .before .before .before)
-
-  pub same-length-10 : lts.Need-same-length-10 (fork-claims t) (fork-at t) fork.Post
-  same-length-10 c = trail-long (c .before .before .before .before .before .before .before .before .before .before .before .before)
-
-  pub same-length-11 : lts.Need-same-length-11 (fork-claims t) (fork-at t) fork.Post
-  same-length-11 c = weights-long (c .before .before .before .before .before .before .before .before .before .before .before .before)
-
-  pub same-length-12 : lts.Need-same-length-12 (fork-claims t) (fork-at t) fork.Post
-  same-length-12 c = marks-long (c .before .before .before .before .before .before .before .before .before .before .before .before)
-
-  -- neither has
-  pub returns-3 : lts.Need-returns-3 (fork-claims t) (fork-at t) fork.Post
-  returns-3 c =
-      let tried = c .before .before .before .before .before .before .before .before .before .before .before .before in
-      let second = second tried in
-      let call = origin second in
-      let one = one second in
-      let none = c .before .before .forks .given in
-      laws.none-found (call .args .tally) (given call) (branches call) (bit call) (try call) (first one .assign-to .ensures) (tried-trail one) (tried-a one) (tried-long one) (forks (undone second)) (nothing (undone second)) (undone second .undo .ensures) (second .assign-to2 .ensures)
-      (last-trail tried) (last-a tried) (none .0 .0) (c .add-forks3 .result) (said-2 tried (Nothing (none .0 .0)) (none .1)) (c .add-forks3 .ensures)
+      subst (TriedBy (forkOf (try call) (call .args .a .now) (call .args .v .0) (call .args .value)) (call .args .tally .settled) (call .args .trail .now) (call .args .a .now) (last-trail tried) (last-a tried)) (sym (c .with-forks .ensures))
+      (laws.second-said (call .args .tally) (given call) (branches call) (bit call) (try call) (first one .assign-to .ensures) (tried-trail one) (tried-a one) (tried-long one) (forks (undone second)) (nothing (undone second)) (undone second .undo .ensures) (second .assign-to2 .ensures)
+      (last-trail tried) (last-a tried) (tried .attempt2 .result) (tried .attempt2 .ensures))
