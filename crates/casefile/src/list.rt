@@ -48,6 +48,16 @@ pub fn read_numbers(line: &[u8], at: usize, out: &mut [i32]) -> Filled
     }
 }
 
+// The same where the list is there; else an empty list, and the place stays.
+pub fn read_numbers_if(there: bool, line: &[u8], at: usize, out: &mut [i32]) -> Filled
+    ensures { λ r. ⌜ Prefix (r .end) (now (out .exit)) ⌝ }
+{
+    if there {
+        return read_numbers(line, at, out);
+    }
+    Filled { end: 0, next: at }
+}
+
 fn nothing(line: &[u8]) -> Filled
     ensures { λ r. ⌜ r .end ≡ 0 ⌝ }
 {
@@ -124,6 +134,16 @@ pub fn read_bytes(line: &[u8], at: usize, out: &mut [u8]) -> Filled
         return Filled { end, next };
     }
     nothing(line)
+}
+
+// The same where the list is there; else an empty list, and the place stays.
+pub fn read_bytes_if(there: bool, line: &[u8], at: usize, out: &mut [u8]) -> Filled
+    ensures { λ r. ⌜ Prefix (r .end) (now (out .exit)) ⌝ }
+{
+    if there {
+        return read_bytes(line, at, out);
+    }
+    Filled { end: 0, next: at }
 }
 
 // Copies numbers that are bytes.

@@ -28,9 +28,22 @@ pub fn line_end(text: &[u8], from: usize) -> usize
     requires { ⌜ from ≤ length (now text) ⌝ }
     ensures { λ r. ⌜ (from ≤ r) × (r ≤ length (now (text .entry))) ⌝ }
 {
+    place_of(text, from, LINE_FEED)
+}
+
+// Where the word ends with which a line begins: at a blank, or at the end of the line.
+pub fn word_end(line: &[u8]) -> usize {
+    place_of(line, 0, b' ')
+}
+
+// The first place of a byte from an index on, or the end of the text.
+fn place_of(text: &[u8], from: usize, byte: u8) -> usize
+    requires { ⌜ from ≤ length (now text) ⌝ }
+    ensures { λ r. ⌜ (from ≤ r) × (r ≤ length (now (text .entry))) ⌝ }
+{
     let mut i = from;
     while i < text.len() {
-        if text[i] == LINE_FEED {
+        if text[i] == byte {
             return i;
         }
         i += 1;
@@ -68,6 +81,14 @@ pub fn past_word(line: &[u8], word: &[u8]) -> usize {
 // A blank and a decimal number below 2 to the power 64.
 pub fn read_number(line: &[u8], at: usize) -> Number {
     digits(line, past_byte(line, at, b' '))
+}
+
+// The same where the number is there; else 0, and the place stays.
+pub fn read_number_if(there: bool, line: &[u8], at: usize) -> Number {
+    if there {
+        return read_number(line, at);
+    }
+    Number { value: 0, next: at }
 }
 
 // A blank and a decimal number of 32 bits, which may be negative.

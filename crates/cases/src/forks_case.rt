@@ -4,30 +4,12 @@ use crate::report;
 use dll::Tried;
 use refusal::Verdict;
 
-// Whether a line has this call, which it then answers.
-pub fn run(line: &[u8]) -> bool {
-    let at = casefile::past_word(line, b"forks");
-    if line.len() < at {
-        return false;
-    }
-    let mut rules = casefile::numbers();
-    let mut row = casefile::bytes();
+pub fn answer(n: usize, rules: &[i32], row: &[u8], d: usize) {
     let mut choice = casefile::bytes();
-    let n = casefile::read_number(line, at);
-    let first = casefile::read_numbers(line, n.next, &mut rules);
-    let second = casefile::read_bytes(line, first.next, &mut row);
-    let d = casefile::read_number(line, second.next);
-    if d.next != line.len() {
-        report::malformed();
-        return true;
-    }
-    let k = first.end;
-    let w = second.end;
-    answer(n.value, &rules[..k], &row[..w], d.value, &mut choice);
-    true
+    walk(n, rules, row, d, &mut choice);
 }
 
-fn answer(n: usize, rules: &[i32], row: &[u8], d: usize, choice: &mut [u8]) {
+fn walk(n: usize, rules: &[i32], row: &[u8], d: usize, choice: &mut [u8]) {
     if let Verdict::Refuse(r) = admission::check_wished(n, d, rules, row, choice.len()) {
         report::refused(r.number, r.place);
         return;

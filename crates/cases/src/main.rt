@@ -2,6 +2,8 @@
 // that starts with # is a label, and is written as it is. Any other line is a case: the name of the
 // call, then its values, as the library casefile reads them. What is no case is answered too, so
 // nothing is left out.
+mod call;
+mod case;
 mod check_case;
 mod forks_case;
 mod held;
@@ -47,46 +49,10 @@ fn lines(input: &[u8]) {
     }
 }
 
-// Each call has a module, which tells whether a line is a case of its own.
 fn line(line: &[u8]) {
     if casefile::past_byte(line, 0, b'#') <= line.len() {
         report::words(line);
         return;
     }
-    if check_case::run(line) {
-        return;
-    }
-    if read_rules_case::run(line) {
-        return;
-    }
-    if write_rules_case::run(line) {
-        return;
-    }
-    if read_wishes_case::run(line) {
-        return;
-    }
-    if write_wishes_case::run(line) {
-        return;
-    }
-    search(line);
-}
-
-// The searches, and rewriting.
-fn search(line: &[u8]) {
-    if search_case::run(line) {
-        return;
-    }
-    if plain_case::run(line) {
-        return;
-    }
-    if nearest_case::run(line) {
-        return;
-    }
-    if rewrite_case::run(line) {
-        return;
-    }
-    if forks_case::run(line) {
-        return;
-    }
-    report::malformed();
+    case::run(line, call::named(line));
 }

@@ -5,28 +5,7 @@ use crate::report;
 use refusal::Verdict;
 use searches::Searched;
 
-// Whether a line has this call, which it then answers.
-pub fn run(line: &[u8]) -> bool {
-    let at = casefile::past_word(line, b"plain");
-    if line.len() < at {
-        return false;
-    }
-    let mut rules = casefile::numbers();
-    let mut choice = casefile::bytes();
-    let n = casefile::read_number(line, at);
-    let first = casefile::read_numbers(line, n.next, &mut rules);
-    let second = casefile::read_bytes(line, first.next, &mut choice);
-    if second.next != line.len() {
-        report::malformed();
-        return true;
-    }
-    let k = first.end;
-    let c = second.end;
-    answer(n.value, &rules[..k], &mut choice[..c]);
-    true
-}
-
-fn answer(n: usize, rules: &[i32], choice: &mut [u8]) {
+pub fn answer(n: usize, rules: &[i32], choice: &mut [u8]) {
     match plain_search::search(n, rules, choice) {
         Searched::Refused(r) => {
             report::refused(r.number, r.place);

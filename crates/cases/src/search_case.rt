@@ -5,32 +5,7 @@ use crate::report;
 use checking::Checked;
 use searches::Searched;
 
-// Whether a line has this call, which it then answers.
-pub fn run(line: &[u8]) -> bool {
-    let at = casefile::past_word(line, b"search");
-    if line.len() < at {
-        return false;
-    }
-    let mut rules = casefile::numbers();
-    let mut row = casefile::bytes();
-    let mut choice = casefile::bytes();
-    let n = casefile::read_number(line, at);
-    let first = casefile::read_numbers(line, n.next, &mut rules);
-    let second = casefile::read_bytes(line, first.next, &mut row);
-    let d = casefile::read_number(line, second.next);
-    let third = casefile::read_bytes(line, d.next, &mut choice);
-    if third.next != line.len() {
-        report::malformed();
-        return true;
-    }
-    let k = first.end;
-    let w = second.end;
-    let c = third.end;
-    answer(n.value, &rules[..k], &row[..w], d.value, &mut choice[..c]);
-    true
-}
-
-fn answer(n: usize, rules: &[i32], row: &[u8], d: usize, choice: &mut [u8]) {
+pub fn answer(n: usize, rules: &[i32], row: &[u8], d: usize, choice: &mut [u8]) {
     match wish_search::search(n, rules, row, d, choice) {
         Searched::Refused(r) => {
             report::refused(r.number, r.place);

@@ -1,11 +1,11 @@
--- `cases::forks_case::answer` is safe: the walk is lent what was admitted.
+-- `cases::forks_case::walk` is safe: the walk is lent what was admitted.
 use mathlib.Core.Path.{sym, ap, _∙_}
 use lib.ListN.{length}
 use borrow.Author.Needs.{needs}
 use Rattle.refusal.specs.Reply.{refused}
 use Rattle.admission.specs.Startable.{startable-wished}
-use Rattle.cases.proofs.forks_case.answer.Statement.{statement}
-use Rattle.cases.proofs.forks_case.answer.Tie as tie
+use Rattle.cases.proofs.forks_case.walk.Statement.{statement}
+use Rattle.cases.proofs.forks_case.walk.Tie as tie
 
 check-wished-requires : tie.Need-check-wished-requires
 check-wished-requires c κs = search needs
@@ -37,8 +37,8 @@ same-length c = search needs
 returns-2 : tie.Need-returns-2
 returns-2 c = search needs
 
-pub answer-spec : {M : Type 1} → statement M
-answer-spec =
+pub walk-spec : {M : Type 1} → statement M
+walk-spec =
     tie.close
     (tie.spec
     check-wished-requires
