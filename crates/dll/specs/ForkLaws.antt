@@ -7,7 +7,7 @@ use native.Mathlib.Omega.{arith}
 use lib.Dec.{lit<}
 use lib.ListN.{set}
 use Rattle.literal.specs.Literal.{value}
-use Rattle.distance.specs.Distance.{cost}
+use Rattle.wish.specs.Wish.{cost}
 use Rattle.walk.specs.Assignment.{assign-fewer}
 use Rattle.walk.specs.Promises.{Branches}
 use Rattle.walk.specs.State.{unassigned, assign}

@@ -7,7 +7,7 @@ use lib.Dec.{eqb, ltb, leb}
 use lib.IntN.{ℤ}
 use Rattle.literal.specs.Literal.{variable}
 use Rattle.formula.specs.Formula.{any, closes}
-use Rattle.distance.specs.Distance.{weight}
+use Rattle.wish.specs.Wish.{isRowByte, weight}
 use Rattle.lent.specs.Limits.{maxClauses, maxLiterals, maxWishes}
 
 -- "No setting occurs twice in a rule": whether a literal may join the literals of a clause
@@ -44,10 +44,10 @@ abbrev pub badRule : ℕ → Scan → ℕ → List ℤ → Option ℕ
 badRule n s i [] = cond (unclosed (s .clause)) (some i) none
 badRule n s i (x ∷ list) = cond (stands n s x) (badRule n (after s x) (suc i) list) (some i)
 
--- the first bad index of a wish row from index i on, after m wishes
+-- the first bad index of a wish row from index i on, after wishes that weigh m
 abbrev pub badWish : ℕ → ℕ → List ℕ → Option ℕ
 badWish m i [] = none
-badWish m i (w ∷ row) = cond (leb w 2 && leb (m + weight w) maxWishes) (badWish (m + weight w) (suc i) row) (some i)
+badWish m i (w ∷ row) = cond (isRowByte w && leb (m + weight w) maxWishes) (badWish (m + weight w) (suc i) row) (some i)
 
 -- the first bad index of a choice from index i on
 abbrev pub badChoice : ℕ → List ℕ → Option ℕ

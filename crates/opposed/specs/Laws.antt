@@ -10,7 +10,8 @@ use lib.ListN.{length, drop, drop-of-length-le}
 use Rattle.literal.specs.Literal.{holds}
 use Rattle.formula.specs.Formula.{any, all, clauses, satisfied}
 use Rattle.walk.specs.State.{isUnassigned, unassignedIn}
-use Rattle.walk.specs.Branching.{isAgainst, assignedOrAgainst, isOpposed, shorter, fewest}
+use Rattle.wish.specs.Wish.{isAgainst}
+use Rattle.walk.specs.Branching.{assignedOrAgainst, isOpposed, shorter, fewest}
 use Rattle.walk.specs.BranchingLaws.{fewer, fewer-assoc, shorter-fewer, fewest-opposed, fewest-other}
 use Rattle.opposed.specs.Opposed.{opposes}
 

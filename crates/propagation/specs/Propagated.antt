@@ -11,7 +11,8 @@ use lib.ListN.{set}
 use borrow.Author.Tests.{eqb-true, lt-ltb, le-ltb}
 use Rattle.literal.specs.Literal.{variable, wanted, value}
 use Rattle.formula.specs.Formula.{any}
-use Rattle.distance.specs.Distance.{cost, disagreement}
+use Rattle.wish.specs.Wish.{cost}
+use Rattle.distance.specs.Distance.{disagreement}
 use Rattle.walk.specs.Extension.{wanted-bit}
 use Rattle.walk.specs.Propagation.{unitLiteral, propagate}
 use Rattle.walk.specs.PropagationLaws.{unit-unassigned, unit-within, propagate-done, propagate-round}

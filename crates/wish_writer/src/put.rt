@@ -41,11 +41,11 @@ fn put_wish(variable: Variable, wish: u8, out: &mut [u8], at: usize) -> usize
     requires { ⌜ (variable .0 < 100000) × (at + length (wishLines (wishList (variable .0) (wish ∷ []))) ≤ length (now out)) ⌝ }
     ensures { λ r. ⌜ (r ≡ at + length (wishLines (wishList (variable .0) (wish ∷ [])))) × (now (out .exit) ≡ sets (now (out .entry)) at (wishLines (wishList (variable .0) (wish ∷ [])))) ⌝ }
 {
-    if 2 <= wish {
+    if !wish::is_wish(wish) {
         return at;
     }
     let second = put_column(variable.0, out, at);
-    let end = put_column(wish as usize, out, second);
+    let end = put_column(wish::wished_value(wish) as usize, out, second);
     out[end] = b'\n';
     end + 1
 }

@@ -6,7 +6,7 @@ use Prim.Native.Nat.{ℕ}
 use native.Mathlib.Omega.{arith}
 use lib.ListN.{length}
 use lib.Seq.{sets}
-use Rattle.distance.specs.Distance.{wishes}
+use Rattle.wish.specs.Wish.{wishCount}
 use Rattle.lent.specs.Lent.{refusalOf}
 use Rattle.wish_file.specs.Format.{wishLines}
 use Rattle.wish_file.specs.Wishes.{wishList}
@@ -28,7 +28,7 @@ enum-known-wishes c = search needs
 -- past the scan: no cause, and the number of wishes
 sound : (c : tie.After-known-told2)
     → (refusalOf (lentToWrite (c .before .before .before .before .before .before .args .n) (c .before .before .before .before .before .before .args .row .now) (c .before .before .before .before .before .before .args .d) (length (c .before .before .before .before .before .before .args .file .now))) ≡ none)
-    × (c .before .wishes .given .0 .0 ≡ wishes (c .before .before .before .before .before .before .args .row .now))
+    × (c .before .wishes .given .0 .0 ≡ wishCount (c .before .before .before .before .before .before .args .row .now))
 sound c =
     let args = c .before .before .before .before .before .before .args in
     scan-sound (refusalOf (lentToWrite (args .n) (args .row .now) (args .d) (length (args .file .now)))) (args .row .now) (c .before .before .before .scan-wishes .result) (c .before .wishes .given .0 .0)

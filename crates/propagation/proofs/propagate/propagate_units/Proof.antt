@@ -8,7 +8,7 @@ use borrow.Author.Needs.{needs}
 use Rattle.literal.specs.Laws.{as-read}
 use Rattle.literal.specs.Literal.{variable, wanted, value}
 use Rattle.formula.specs.Formula.{clauses}
-use Rattle.distance.specs.Distance.{cost}
+use Rattle.wish.specs.Wish.{cost}
 use Rattle.walk.specs.State.{assign}
 use Rattle.propagation.specs.Propagated.{Propagating, propagating-start, over, conflict, settled, low, high, room, literal}
 use Rattle.propagation.specs.declared.unit.Unit.the-variants.{Literal}
