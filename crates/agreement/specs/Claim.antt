@@ -9,7 +9,8 @@ use lib.IntN.{ℤ}
 use lib.ListN.{take}
 use Rattle.literal.specs.Literal.{holds}
 use Rattle.formula.specs.Formula.{clauses, models}
-use Rattle.distance.specs.Distance.{wishes, disagreement}
+use Rattle.wish.specs.Wish.{totalWeight}
+use Rattle.distance.specs.Distance.{disagreement}
 use Rattle.choices.specs.Choices.{Choice, Model}
 use Rattle.refusal.specs.Reply.{Reply}
 use Rattle.limits.specs.Limits.{maxLimit}
@@ -67,16 +68,16 @@ module _ (n : ℕ) (rules : List ℤ) (row : List ℕ) where
   abbrev pub FindsNone : ℕ → Type 0
   FindsNone d = (b : Buffers) → Answered (secondRoute n rules row d b) → secondRoute n rules row d b ≡ found none
 
-  -- "Count d up from 0 to the number of wishes": k is the first d at which the second route finds
+  -- "Count d up from 0 to the number of wishes", which is what they weigh: k is the first d at which the second route finds
   pub record First (k : ℕ) : Type 0 where
-    pub limited : k ≤ wishes row
+    pub limited : k ≤ totalWeight row
     pub finds : Finds k
     pub before : (d : ℕ) → d < k → FindsNone d
 
   -- that first d "is the count that nearest returns. The second finds one at no such d exactly when nearest says "none"."
   pub record CountsUp (reply : Reply) : Type 0 where
     pub count : (k : ℕ) → (reply ≡ found (some k)) ↔ First k
-    pub nothing : (reply ≡ found none) ↔ ((d : ℕ) → d ≤ wishes row → FindsNone d)
+    pub nothing : (reply ≡ found none) ↔ ((d : ℕ) → d ≤ totalWeight row → FindsNone d)
 
   -- the claim
   pub record Agreement : Type 0 where

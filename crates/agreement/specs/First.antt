@@ -7,12 +7,14 @@ use native.Mathlib.Nat.{le-refl, lt-of-not-le}
 use native.Mathlib.Omega.{arith}
 use lib.IntN.{ℤ}
 use Rattle.formula.specs.Formula.{clauses}
-use Rattle.distance.specs.Distance.{wishes, disagreement, nearest}
+use Rattle.distance.specs.Distance.{disagreement, nearest}
 use Rattle.choices.specs.Choices.{Model, Nearest, nearest-some, nearest-none}
 use Rattle.refusal.specs.Reply.{Reply}
 use Rattle.limits.specs.Limits.{maxLimit}
-use Rattle.walk.specs.Nearest.{disagreement-wishes}
-use Rattle.totalizer.specs.Rows.{sound-wishes}
+use Rattle.wish.specs.Wish.{totalWeight}
+use Rattle.choices.specs.Choices as choices
+use Rattle.distance.specs.Laws.{disagreement-most}
+use Rattle.lent.specs.Laws.{sound-weight}
 use Rattle.searches.specs.Admitted.{Admitted}
 use Rattle.searches.specs.Searches.{found}
 use Rattle.agreement.specs.Claim.{Finds, FindsNone, First, CountsUp}
@@ -72,13 +74,13 @@ module _ (n : ℕ) (rules : List ℤ) (row : List ℕ) (ok : (d : ℕ) → d ≤
     none-beyond : FindsNone n rules row d → Reached n rules row d → ⊥
     none-beyond f = no-decided (Reached n rules row d) (secondRoute n rules row d lent) (second-decides d h lent unrefused) (f lent unrefused)
 
-  few : wishes row ≤ maxLimit
-  few = omega (arith, sound-wishes row (ok 0 (omega arith) .soundRow))
+  few : totalWeight row ≤ maxLimit
+  few = omega (arith, sound-weight row (ok 0 (omega arith) .soundRow))
 
   nearest-first : (k : ℕ) → Nearest n (clauses rules) row k → First n rules row k
   nearest-first k c =
       let (a, model, count) = c .attained in
-      let w : k ≤ wishes row = omega (arith, disagreement-wishes row a) in
+      let w : k ≤ totalWeight row = omega (arith, disagreement-most row a) in
       let h : k ≤ maxLimit = omega (arith, few) in
       record {
         limited = w;
@@ -95,14 +97,14 @@ module _ (n : ℕ) (rules : List ℤ) (row : List ℕ) (ok : (d : ℕ) → d ≤
       below : (a : List ℕ) → Model n (clauses rules) a → k ≤ disagreement row a
       below a m =
           let fewer : disagreement row a < k → ⊥ =
-          λ l. none-beyond (disagreement row a) (omega (arith, disagreement-wishes row a, few)) (f .before (disagreement row a) l) (a, m, le-refl (disagreement row a)) in
+          λ l. none-beyond (disagreement row a) (omega (arith, disagreement-most row a, few)) (f .before (disagreement row a) l) (a, m, le-refl (disagreement row a)) in
           omega (arith, lt-of-not-le fewer)
 
-  none-first : ((a : List ℕ) → Model n (clauses rules) a → ⊥) → (d : ℕ) → d ≤ wishes row → FindsNone n rules row d
+  none-first : ((a : List ℕ) → Model n (clauses rules) a → ⊥) → (d : ℕ) → d ≤ totalWeight row → FindsNone n rules row d
   none-first g d h = beyond d (omega (arith, few)) (λ r. g (r .0) (r .1))
 
-  first-none : ((d : ℕ) → d ≤ wishes row → FindsNone n rules row d) → (a : List ℕ) → Model n (clauses rules) a → ⊥
-  first-none g a m = none-beyond (wishes row) few (g (wishes row) (le-refl (wishes row))) (a, m, disagreement-wishes row a)
+  first-none : ((d : ℕ) → d ≤ totalWeight row → FindsNone n rules row d) → (a : List ℕ) → Model n (clauses rules) a → ⊥
+  first-none g a m = none-beyond (totalWeight row) few (g (totalWeight row) (le-refl (totalWeight row))) (a, m, disagreement-most row a)
 
   pub nearest-is-first : (reply : Reply) → reply ≡ found (nearest n rules row) → CountsUp n rules row reply
   nearest-is-first reply e =

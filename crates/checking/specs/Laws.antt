@@ -3,15 +3,18 @@ use mathlib.Core.Path.{_≡_, refl, sym, ap, ap₂, _∙_}
 use mathlib.Core.Bool.{true, false}
 use mathlib.Core.List.{List, [], _∷_, _++_}
 use mathlib.Core.Option.{Option, none, some}
-use Prim.Native.Nat.{ℕ, zero, suc}
+use Prim.Native.Nat.{ℕ, zero, suc, _≤_}
 use lib.IntN.{ℤ}
 use lib.ListN.{length}
 use Rattle.formula.specs.Formula.{clauses, literals, models}
+use Rattle.wish.specs.Wish.{totalWeight}
 use Rattle.distance.specs.Distance.{disagreement}
 use Rattle.refusal.specs.declared.Refusal.{Refusal}
-use Rattle.refusal.specs.Laws.{first-early, first-late, first-last}
+use Rattle.refusal.specs.Laws.{first-early, first-late, first-last, no-first, causeAt-none}
 use Rattle.refusal.specs.Reply.{Reply, first, cause, causeAt, refusing, answering, unless}
+use Rattle.lent.specs.Laws.{sound-weight}
 use Rattle.lent.specs.Lent.{refusalOf, outOfRange, wrongLength, oversized}
+use Rattle.limits.specs.Limits.{maxWishes}
 use Rattle.lent.specs.Scans.{unsound}
 use Rattle.rule_list.specs.Sound.{unread, badRule}
 use Rattle.lent.specs.Sound.{badWish, badChoice}
@@ -37,6 +40,16 @@ module _ (n : ℕ) (rules : List ℤ) (row choice : List ℕ) where
   -- the call has no output, so the last cause never applies
   in-two : refusalOf (lentToCheck n rules row choice) ≡ first (early ++ (late ++ (none ∷ [])))
   in-two = refl
+
+  -- the row's wishes weigh little where it is sound
+  pub light : unsound n 0 rules row ≡ none → totalWeight row ≤ maxWishes
+  light e =
+      let wish : Option Refusal = causeAt 13 (badWish 0 0 row) in
+      let rule : Option Refusal = causeAt 13 (badRule n unread 0 rules) in
+      let one = no-first (cause (outOfRange n 0) 14 0) (rule ∷ wish ∷ []) e in
+      let two = no-first rule (wish ∷ []) (one .1) in
+      let three = no-first wish [] (two .1) in
+      sound-weight row (causeAt-none 13 (badWish 0 0 row) (three .0))
 
   -- refused for the numbers, the rules or the row
   pub refused-early : (r : Refusal) → unsound n 0 rules row ≡ some r → refusing r ≡ checkReply n rules row choice

@@ -3,7 +3,10 @@ use lent::Problem;
 use refusal::Refusal;
 use refusal::Verdict;
 ghost use mathlib.Core.Path.{_≡_};
+ghost use Prim.Native.Nat.{_≤_};
+ghost use Rattle.wish.specs.Wish.{totalWeight};
 ghost use Rattle.refusal.specs.Reply.{refused, first};
+ghost use Rattle.limits.specs.Limits.{maxWishes};
 ghost use Rattle.checking.specs.Check.{checkReply, judged, replyOf};
 ghost use Rattle.checking.specs.Laws.{laterCauses};
 
@@ -48,6 +51,7 @@ fn check_choice(n: usize, row: &[u8], choice: &[u8], clauses: usize, literals: u
 }
 
 fn judge(rules: &[i32], row: &[u8], choice: &[u8]) -> Checked
+    requires { ⌜ totalWeight (now row) ≤ maxWishes ⌝ }
     ensures { λ r. ⌜ replyOf r ≡ judged (now (rules .entry)) (now (row .entry)) (now (choice .entry)) ⌝ }
 {
     let broken = distance::disagreement_of(row, choice);

@@ -3,25 +3,13 @@
 use mathlib.Core.Bool.{Bool, cond}
 use mathlib.Core.List.{List, [], _∷_, _++_, map}
 use mathlib.Core.Option.{Option, none, some}
-use Prim.Native.Nat.{ℕ, zero, suc, _+_, _-_, min}
-use lib.Dec.{eqb, ltb, leb}
+use Prim.Native.Nat.{ℕ, zero, suc, _+_, min}
+use lib.Dec.{leb}
 use lib.IntN.{ℤ}
+use Rattle.wish.specs.Wish.{cost}
 use Rattle.formula.specs.Formula.{clauses, models}
 
--- How much a byte of the wish row counts (not to be taken for the weight of a clause in the search): 1 for a wish, 0 where the variable is free
-abbrev pub weight : ℕ → ℕ
-weight w = cond (ltb w 2) 1 0
-
--- "Its broken wishes are the wished settings with the other value": what a value breaks of the wish at its variable
-abbrev pub cost : ℕ → ℕ → ℕ
-cost w b = cond (eqb b (1 - w)) (weight w) 0
-
--- the number of wishes of a row
-abbrev pub wishes : List ℕ → ℕ
-wishes [] = 0
-wishes (w ∷ row) = weight w + wishes row
-
--- the number of wishes that an assignment breaks (document 000: disagreement)
+-- the number of wishes that an assignment breaks (document 000: disagreement), each by what it weighs
 abbrev pub disagreement : List ℕ → List ℕ → ℕ
 disagreement [] a = 0
 disagreement (w ∷ row) [] = 0

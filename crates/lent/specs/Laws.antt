@@ -10,7 +10,7 @@ use lib.Dec.{eqb, ltb}
 use lib.ListN.{length, getD, drop, drop-of-length-le}
 use lib.Seq.{drop-cons}
 use borrow.Author.Tests.{lt-ltb, le-ltb, le-leb, lt-leb, eqb-false, ltb-false}
-use Rattle.distance.specs.Distance.{weight, wishes}
+use Rattle.wish.specs.Wish.{isRowByte, weight, totalWeight}
 use Rattle.refusal.specs.Laws.{neither}
 use Rattle.limits.specs.Limits.{maxVariables, maxWishes, maxLimit}
 use Rattle.lent.specs.Lent.{outOfRange}
@@ -26,27 +26,36 @@ choice-bad a i h b = rw (drop-cons a i 0 h, le-ltb (getD a i 0) 2 b)
 pub choice-end : (a : List ℕ) (i : ℕ) → length a ≤ i → badChoice i (drop i a) ≡ none
 choice-end a i h = rw (drop-of-length-le a h)
 
--- a wish row: a good byte, one that is no wish and not free, one wish too many, the end
-pub wish-good : (row : List ℕ) (m i more : ℕ) → i < length row → getD row i 0 ≤ 2 → more ≡ m + weight (getD row i 0) → more ≤ maxWishes
+-- a wish row: a good byte, one that may not stand in a row, wishes that weigh too much, the end
+pub wish-good : (row : List ℕ) (m i more : ℕ) → i < length row → isRowByte (getD row i 0) ≡ true → more ≡ m + weight (getD row i 0) → more ≤ maxWishes
     → badWish m i (drop i row) ≡ badWish more (i + 1) (drop (i + 1) row)
 wish-good row m i more h b e k =
-    rw (drop-cons row i 0 h, le-leb (getD row i 0) 2 b, ← e, le-leb more maxWishes k, add-one i)
+    rw (drop-cons row i 0 h, b, ← e, le-leb more maxWishes k, add-one i)
 
-pub wish-bad : (row : List ℕ) (m i : ℕ) → i < length row → 2 < getD row i 0 → badWish m i (drop i row) ≡ some i
-wish-bad row m i h b = rw (drop-cons row i 0 h, lt-leb (getD row i 0) 2 b)
+pub wish-bad : (row : List ℕ) (m i : ℕ) → i < length row → isRowByte (getD row i 0) ≡ false → badWish m i (drop i row) ≡ some i
+wish-bad row m i h b = rw (drop-cons row i 0 h, b)
 
-pub wish-many : (row : List ℕ) (m i more : ℕ) → i < length row → getD row i 0 ≤ 2 → more ≡ m + weight (getD row i 0) → maxWishes < more
+pub wish-many : (row : List ℕ) (m i more : ℕ) → i < length row → isRowByte (getD row i 0) ≡ true → more ≡ m + weight (getD row i 0) → maxWishes < more
     → badWish m i (drop i row) ≡ some i
-wish-many row m i more h b e k = rw (drop-cons row i 0 h, le-leb (getD row i 0) 2 b, ← e, lt-leb more maxWishes k)
+wish-many row m i more h b e k = rw (drop-cons row i 0 h, b, ← e, lt-leb more maxWishes k)
 
 pub wish-end : (row : List ℕ) (m i : ℕ) → length row ≤ i → badWish m i (drop i row) ≡ none
 wish-end row m i h = rw (drop-of-length-le row h)
 
-pub wishes-step : (row : List ℕ) (i : ℕ) → i < length row → wishes (drop i row) ≡ weight (getD row i 0) + wishes (drop (i + 1) row)
-wishes-step row i h = rw (drop-cons row i 0 h, add-one i)
+-- the wishes of a sound row weigh at most 64
+pub weight-from : (m i : ℕ) (row : List ℕ) → m ≤ maxWishes → badWish m i row ≡ none → m + totalWeight row ≤ maxWishes
+weight-from m i [] h e = omega arith
+weight-from m i (w ∷ row) h e = go (isRowByte w) (leb (m + weight w) maxWishes) refl e (weight-from (m + weight w) (suc i) row)
+  where
+    go : (s t : Bool) → leb (m + weight w) maxWishes ≡ t → cond (s && t) (badWish (m + weight w) (suc i) row) (some i) ≡ none
+        → (m + weight w ≤ maxWishes → badWish (m + weight w) (suc i) row ≡ none → m + weight w + totalWeight row ≤ maxWishes)
+        → m + (weight w + totalWeight row) ≤ maxWishes
+    go true true q f ih = omega (arith, ih (leb-true (m + weight w) maxWishes q) f)
+    go true false q f ih = absurd (Option·some-ne-none i f)
+    go false t q f ih = absurd (Option·some-ne-none i f)
 
-pub wishes-end : (row : List ℕ) (i : ℕ) → length row ≤ i → wishes (drop i row) ≡ 0
-wishes-end row i h = rw (drop-of-length-le row h)
+pub sound-weight : (row : List ℕ) → badWish 0 0 row ≡ none → totalWeight row ≤ maxWishes
+sound-weight row e = let h : 0 + totalWeight row ≤ maxWishes = weight-from 0 0 row (omega arith) e in omega arith
 
 -- the numbers of a call that is not refused with 14
 pub in-range : (n d : ℕ) → outOfRange n d ≡ false → (0 < n) × (n ≤ maxVariables) × (d ≤ maxLimit)

@@ -6,7 +6,7 @@ use Prim.Native.Nat.{ℕ}
 use lib.IntN.{ℤ}
 use lib.ListN.{length}
 use Rattle.formula.specs.Formula.{clauses, literals}
-use Rattle.distance.specs.Distance.{wishes}
+use Rattle.wish.specs.Wish.{totalWeight}
 use Rattle.refusal.specs.declared.Refusal.{Refusal}
 use Rattle.refusal.specs.Reply.{refusal, cause}
 use Rattle.lent.specs.declared.problem.Problem as P
@@ -20,7 +20,7 @@ pub row-unsound : (o : Option ℕ) (row : List ℕ) (i : ℕ) → rowScan o row 
 row-unsound none row i e = cc
 row-unsound (some j) row i e = cc
 
-pub row-sound : (o : Option ℕ) (row : List ℕ) (m : ℕ) → rowScan o row ≡ W.the-variants.Sound m → (o ≡ none) × (m ≡ wishes row)
+pub row-sound : (o : Option ℕ) (row : List ℕ) (m : ℕ) → rowScan o row ≡ W.the-variants.Sound m → (o ≡ none) × (m ≡ totalWeight row)
 row-sound none row m e = (refl, (cc))
 row-sound (some j) row m e = ((cc), (cc))
 
@@ -29,12 +29,12 @@ problem-refused none list row r e = cc
 problem-refused (some s) list row r e = cc
 
 pub problem-sound : (o : Option Refusal) (list : List ℤ) (row : List ℕ) (k m w : ℕ) → problem o list row ≡ P.the-variants.Sound k m w
-    → (o ≡ none) × (k ≡ length (clauses list)) × (m ≡ literals (clauses list)) × (w ≡ wishes row)
+    → (o ≡ none) × (k ≡ length (clauses list)) × (m ≡ literals (clauses list)) × (w ≡ totalWeight row)
 problem-sound none list row k m w e = (refl, (cc), (cc), (cc))
 problem-sound (some s) list row k m w e = ((cc), (cc), (cc), (cc))
 
 pub problem-of : (o : Option Refusal) (list : List ℤ) (row : List ℕ) (k m w : ℕ)
-    → o ≡ none → k ≡ length (clauses list) → m ≡ literals (clauses list) → w ≡ wishes row → P.the-variants.Sound k m w ≡ problem o list row
+    → o ≡ none → k ≡ length (clauses list) → m ≡ literals (clauses list) → w ≡ totalWeight row → P.the-variants.Sound k m w ≡ problem o list row
 problem-of o list row k m w e p q r = rw (e, p, q, r)
 
 -- the causes 14 and 13, in their order

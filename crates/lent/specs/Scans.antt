@@ -5,7 +5,7 @@ use Prim.Native.Nat.{ℕ}
 use lib.IntN.{ℤ}
 use lib.ListN.{length}
 use Rattle.formula.specs.Formula.{clauses, literals}
-use Rattle.distance.specs.Distance.{wishes}
+use Rattle.wish.specs.Wish.{totalWeight}
 use Rattle.refusal.specs.declared.Refusal.{Refusal}
 use Rattle.refusal.specs.Reply.{first, cause, causeAt}
 use Rattle.lent.specs.Lent.{outOfRange}
@@ -17,7 +17,7 @@ use Rattle.lent.specs.declared.row.RowScan as W
 use Rattle.lent.specs.declared.row.RowScan.{RowScan}
 
 abbrev pub rowScan : Option ℕ → List ℕ → RowScan
-rowScan none row = W.the-variants.Sound (wishes row)
+rowScan none row = W.the-variants.Sound (totalWeight row)
 rowScan (some i) row = W.the-variants.Unsound i
 
 -- the causes 14 and 13 of a call on rules and wishes, in their order
@@ -26,5 +26,5 @@ unsound n d rules row =
     first (cause (outOfRange n d) 14 0 ∷ causeAt 13 (badRule n unread 0 rules) ∷ causeAt 13 (badWish 0 0 row) ∷ [])
 
 abbrev pub problem : Option Refusal → List ℤ → List ℕ → Problem
-problem none rules row = P.the-variants.Sound (length (clauses rules)) (literals (clauses rules)) (wishes row)
+problem none rules row = P.the-variants.Sound (length (clauses rules)) (literals (clauses rules)) (totalWeight row)
 problem (some r) rules row = P.the-variants.Refused r

@@ -4,13 +4,13 @@ use mathlib.Core.List.{List, [], _∷_}
 use mathlib.Core.Option.{Option, none, some}
 use Prim.Native.Nat.{ℕ, suc, _+_}
 use lib.Dec.{ltb, leb}
-use Rattle.distance.specs.Distance.{weight}
+use Rattle.wish.specs.Wish.{isRowByte, weight}
 use Rattle.limits.specs.Limits.{maxWishes}
 
--- the first bad index of a wish row from index i on, after m wishes
+-- the first bad index of a wish row from index i on, after wishes that weigh m
 abbrev pub badWish : ℕ → ℕ → List ℕ → Option ℕ
 badWish m i [] = none
-badWish m i (w ∷ row) = cond (leb w 2 && leb (m + weight w) maxWishes) (badWish (m + weight w) (suc i) row) (some i)
+badWish m i (w ∷ row) = cond (isRowByte w && leb (m + weight w) maxWishes) (badWish (m + weight w) (suc i) row) (some i)
 
 -- the first bad index of a choice from index i on
 abbrev pub badChoice : ℕ → List ℕ → Option ℕ

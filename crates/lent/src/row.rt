@@ -4,7 +4,7 @@ ghost use mathlib.Core.Path.{_≡_};
 ghost use Rattle.lent.specs.Sound.{badWish};
 ghost use Rattle.lent.specs.Scans.{rowScan};
 
-// A row's first bad index, or how many wishes a sound row has.
+// A row's first bad index, or what the wishes of a sound row weigh.
 pub enum RowScan {
     Unsound(usize),
     Sound(usize),
@@ -14,19 +14,19 @@ pub enum RowScan {
 pub fn scan_row(row: &[u8]) -> RowScan
     ensures { λ r. ⌜ r ≡ rowScan (badWish 0 0 (now (row .entry))) (now (row .entry)) ⌝ }
 {
-    let mut wishes: usize = 0;
+    let mut weight: usize = 0;
     let mut i = 0;
     while i < row.len() {
         let wish = row[i];
-        if 2 < wish {
+        if !wish::is_row_byte(wish) {
             return RowScan::Unsound(i);
         }
-        let more = wishes + distance::weight_of(wish);
+        let more = weight + wish::weight_of(wish);
         if MAX_WISHES < more {
             return RowScan::Unsound(i);
         }
-        wishes = more;
+        weight = more;
         i += 1;
     }
-    RowScan::Sound(wishes)
+    RowScan::Sound(weight)
 }

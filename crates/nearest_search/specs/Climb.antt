@@ -6,7 +6,7 @@ use Prim.Native.Nat.{ℕ, suc, _+_, _-_, _≤_, _<_}
 use native.Mathlib.Numerals.{add-one}
 use native.Mathlib.Omega.{arith}
 use lib.IntN.{ℤ}
-use Rattle.distance.specs.Distance.{wishes}
+use Rattle.wish.specs.Wish.{totalWeight}
 use Rattle.walk.specs.Walk.{Answer, walk, firstAnswer, climb, nearestWalk}
 use Rattle.searches.specs.Searches.{brokenBy, choiceAfter}
 
@@ -25,9 +25,9 @@ left-alone none n before after e g = g
 left-alone (some x) n before after e g = absurd (Option·none-ne-some (x .broken) e)
 
 -- before the first walk
-pub climb-start : (n : ℕ) (f : List (List ℤ)) (row : List ℕ) (last : ℕ) → last ≡ wishes row → nearestWalk n f row ≡ climb n f row (last - 0) 0
+pub climb-start : (n : ℕ) (f : List (List ℤ)) (row : List ℕ) (last : ℕ) → last ≡ totalWeight row → nearestWalk n f row ≡ climb n f row (last - 0) 0
 climb-start n f row last e =
-    let all : wishes row ≡ last - 0 = omega arith in
+    let all : totalWeight row ≡ last - 0 = omega arith in
     ap (λ (k : ℕ). climb n f row k 0) all
 
 -- at the limit d, after walks that found nothing

@@ -7,7 +7,7 @@ ghost use mathlib.Core.Path.{_≡_};
 ghost use mathlib.Core.Option.{none};
 ghost use lib.ListN.{length};
 ghost use Rattle.formula.specs.Formula.{clauses};
-ghost use Rattle.distance.specs.Distance.{wishes};
+ghost use Rattle.wish.specs.Wish.{totalWeight};
 ghost use Rattle.admission.specs.Startable.{Startable};
 ghost use Rattle.searches.specs.Answers.{replyOf, NearestMeans, searchedOf};
 ghost use Rattle.searches.specs.Searches.{nearestReply, nearestChoice, brokenBy, choiceAfter};
@@ -44,12 +44,12 @@ fn climb(n: usize, rules: &[i32], row: &[u8], choice: &mut [u8]) -> Searched
 }
 
 fn count_wishes(row: &[u8]) -> usize
-    ensures { λ r. ⌜ r ≡ wishes (now (row .entry)) ⌝ }
+    ensures { λ r. ⌜ r ≡ totalWeight (now (row .entry)) ⌝ }
 {
     let mut count: usize = 0;
     let mut i = 0;
     while i < row.len() {
-        count += distance::weight_of(row[i]);
+        count += wish::weight_of(row[i]);
         i += 1;
     }
     count

@@ -1,8 +1,10 @@
 // Plain search: a choice that meets all rules, or none; up to the limits of a rule file.
 use refusal::Verdict;
 use searches::Searched;
+use wish::FREE;
 ghost use mathlib.Core.Path.{_≡_};
 ghost use lib.ListN.{length, replicate};
+ghost use Rattle.wish.specs.Wish.{freeByte};
 ghost use Rattle.searches.specs.Answers.{replyOf, PlainMeans};
 ghost use Rattle.searches.specs.Searches.{plainReply, plainChoice};
 
@@ -21,7 +23,7 @@ pub fn search(n: usize, rules: &[i32], choice: &mut [u8]) -> Searched
 
 // A wish row in which every variable is free.
 fn no_wishes() -> [u8; 640]
-    ensures { λ r. ⌜ r ≡ replicate 640 2 ⌝ }
+    ensures { λ r. ⌜ r ≡ replicate 640 freeByte ⌝ }
 {
-    [2; 640]
+    [FREE; 640]
 }

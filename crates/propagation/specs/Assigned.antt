@@ -4,7 +4,7 @@ use mathlib.Core.List.{List}
 use Prim.Native.Nat.{ℕ, suc, _+_, _-_, _≤_, _<_}
 use lib.ListN.{set}
 use Rattle.literal.specs.Literal.{value}
-use Rattle.distance.specs.Distance.{cost}
+use Rattle.wish.specs.Wish.{cost}
 use Rattle.walk.specs.Assignment.{assign-fewer}
 use Rattle.walk.specs.State.{unassigned, assign}
 use Rattle.tally.specs.declared.Tally.{Tally}

@@ -1,13 +1,14 @@
 -- A state of the search as the code keeps it: the assignment, the trail, and the running tally of assigned variables and broken wishes (document 01, step 1).
 use mathlib.Core.Path.{_≡_, refl, sym, ap, _∙_}
 use mathlib.Core.List.{List}
-use Prim.Native.Nat.{ℕ, _+_, _-_, _≤_, _<_}
+use Prim.Native.Nat.{ℕ, _+_, _-_, _*_, _≤_, _<_}
 use native.Mathlib.Omega.{arith}
 use lib.ListN.{length, getD, set, length-set}
 use Rattle.literal.specs.Literal.{value}
 use Rattle.literal.specs.Laws.{value-at}
-use Rattle.distance.specs.Distance.{cost, disagreement}
-use Rattle.distance.specs.Laws.{cost-most}
+use Rattle.wish.specs.Wish.{maxWeight, cost}
+use Rattle.wish.specs.Laws.{cost-most}
+use Rattle.distance.specs.Distance.{disagreement}
 use Rattle.walk.specs.State.{State, unassigned, assign}
 use Rattle.walk.specs.Assignment.{assign-set, assign-state, assign-fewer, assign-cost}
 use Rattle.propagation.specs.Trail.{undone, undone-assigned, undone-none, undone-twice}
@@ -17,7 +18,7 @@ pub record Searching (n : ℕ) (row a trail : List ℕ) (settled broken : ℕ) :
   pub long : length trail ≡ n
   pub counted : settled + unassigned a ≡ n
   pub breaks : broken ≡ disagreement row a
-  pub few : broken ≤ settled
+  pub few : broken ≤ maxWeight * settled
   pub kept : undone settled trail a ≡ a
 
 -- what was assigned before is undone alike: from one state to a later one, s variables being assigned in the first

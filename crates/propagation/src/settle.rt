@@ -2,9 +2,12 @@
 use literal::Variable;
 use tally::Tally;
 ghost use mathlib.Core.Path.{_≡_};
-ghost use Prim.Native.Nat.{_^_, _≤_, _<_};
-ghost use lib.ListN.{length};
+ghost use Prim.Native.Nat.{_^_, _≤_, _<_, _+_, _-_, _*_};
+ghost use lib.ListN.{length, set};
 ghost use Rattle.propagation.specs.Assigned.{AssignedTo};
+ghost use Rattle.literal.specs.Literal.{value};
+ghost use Rattle.wish.specs.Wish.{maxWeight, cost};
+ghost use Rattle.walk.specs.State.{assign};
 
 // Assigns a variable, at what its wish makes it cost, and gives the tally with it. What it asks of the
 // tally is that no count runs over.
@@ -22,6 +25,6 @@ pub fn assign_to(
 {
     let number = v.0;
     let at = number - 1;
-    let cost = distance::cost_of(literal::value_of(v, row), bit);
+    let cost = wish::cost_of(literal::value_of(v, row), bit);
     tally::assigned(tally, at, bit, cost, a, trail)
 }

@@ -7,12 +7,13 @@ use native.Mathlib.Omega.{arith}
 use lib.IntN.{ℤ}
 use lib.ListN.{length}
 use Rattle.formula.specs.Formula.{clauses, literals}
-use Rattle.distance.specs.Distance.{wishes}
+use Rattle.wish.specs.Wish.{totalWeight}
 use Rattle.refusal.specs.declared.Refusal.{Refusal}
 use Rattle.refusal.specs.declared.Verdict.{Verdict}
 use Rattle.refusal.specs.declared.Verdict.the-variants.{Pass, Refuse}
 use Rattle.refusal.specs.Laws.{no-first, causeAt-none}
 use Rattle.refusal.specs.Reply.{Reply, refused, first, cause, causeAt, refusing, answering, unless, filled}
+use Rattle.lent.specs.Laws.{sound-weight}
 use Rattle.lent.specs.Lent.{refusalOf, outOfRange}
 use Rattle.limits.specs.Limits.{maxWishVariables, maxWishes}
 use Rattle.lent.specs.declared.problem.Problem as P
@@ -24,7 +25,7 @@ use Rattle.lent.specs.Sound.{badWish}
 use Rattle.searches.specs.Admitted.{refused-unsound}
 use Rattle.admission.specs.Causes.{laterCauses, decided-late, later-none}
 use Rattle.totalizer.specs.Totalizer.{leaves, rewrittenVariables, rewritten}
-use Rattle.totalizer.specs.Rows.{leaves-length, sound-wishes}
+use Rattle.totalizer.specs.Rows.{leaves-length}
 use Rattle.rewriting.specs.Rewrite.{lentToRewrite, rewriteReply, rewriteOutput, replyOf, done}
 use Rattle.rewriting.specs.declared.Rewritten.{Rewritten}
 
@@ -40,7 +41,7 @@ pub record Scanned (n : ℕ) (rules : List ℤ) (row : List ℕ) (d k m w : ℕ)
   pub sound : unsound n d rules row ≡ none
   pub count : k ≡ length (clauses rules)
   pub size : m ≡ literals (clauses rules)
-  pub wished : w ≡ wishes row
+  pub wished : w ≡ totalWeight row
 
 pub scanned : (n : ℕ) (rules : List ℤ) (row : List ℕ) (d k m w : ℕ) (p : Problem) → p ≡ problem (unsound n d rules row) rules row → p ≡ P.the-variants.Sound k m w
     → Scanned n rules row d k m w
@@ -56,7 +57,7 @@ few-leaves {n} {rules} {row} {d} s =
     let one = no-first (cause (outOfRange n d) 14 0) (rule ∷ wish ∷ []) (s .sound) in
     let two = no-first rule (wish ∷ []) (one .1) in
     let three = no-first wish [] (two .1) in
-    omega (arith, leaves-length row, sound-wishes row (causeAt-none 13 (badWish 0 0 row) (three .0)))
+    omega (arith, leaves-length row, sound-weight row (causeAt-none 13 (badWish 0 0 row) (three .0)))
 
 pub few-wishes : {n : ℕ} {rules : List ℤ} {row : List ℕ} {d k m w : ℕ} → Scanned n rules row d k m w → w ≤ maxWishes
 few-wishes {row = row} s = omega (arith, few-leaves s, leaves-length row, s .wished)

@@ -1,25 +1,14 @@
 -- The leaves of a row, one byte after another, and the rewritten list that they give.
-use mathlib.Core.Path.{_≡_, refl, sym, ap, _∙_}
-use mathlib.Core.Bool.{Bool, true, false, cond}
+use mathlib.Core.Path.{_≡_, sym, ap, _∙_}
 use mathlib.Core.List.{List, [], _∷_, _++_, append-assoc, append-nil}
 use Prim.Native.Nat.{ℕ, suc, _+_, _≤_, _<_}
 use native.Mathlib.Numerals.{add-one}
 use native.Mathlib.Omega.{arith}
-use lib.Dec.{eqb}
-use lib.IntN.{ℤ, pos, negℤ}
+use lib.IntN.{ℤ}
 use lib.ListN.{length, getD, take, drop, replicate, length-append, length-replicate, length-take, take-append-drop}
 use lib.Seq.{take-suc}
-use Rattle.literal.specs.Literal.{literal}
-use Rattle.distance.specs.Distance.{weight}
-use Rattle.totalizer.specs.Totalizer.{breaking, leavesFrom, leaves}
-
--- the literal that breaks a wish, as it is made
-pub breaking-made : (v w : ℕ) → literal v (eqb w 0) ≡ breaking v w
-breaking-made v w = go (eqb w 0)
-  where
-    go : (b : Bool) → literal v b ≡ cond b (pos v) (negℤ (pos v))
-    go true = refl
-    go false = refl
+use Rattle.wish.specs.Wish.{weight, breaking}
+use Rattle.totalizer.specs.Totalizer.{leavesFrom, leaves}
 
 leaves-append : (v : ℕ) (a b : List ℕ) → leavesFrom v (a ++ b) ≡ leavesFrom v a ++ leavesFrom (v + length a) b
 leaves-append v [] b = ap (λ (k : ℕ). leavesFrom k b) (omega arith)

@@ -8,8 +8,8 @@ use native.Mathlib.Omega.{arith}
 use lib.IntN.{ℤ}
 use lib.ListN.{length, take, length-append}
 use Rattle.refusal.specs.Reply.{filled}
-use Rattle.distance.specs.Distance.{wishes}
 use Rattle.limits.specs.Limits.{maxVariables, maxWishes}
+use Rattle.wish.specs.Wish.{totalWeight}
 use Rattle.soundness.specs.Flat.{flat}
 use Rattle.emit.specs.Wrote.{Wrote, wrote-as, wrote-more, wrote-length, wrote-whole, wrote-front}
 use Rattle.totalizer.specs.Totalizer.{leaves, tree, added, atMost, rewrittenVariables, rewritten}
@@ -27,7 +27,7 @@ within n (x ∷ l) h w zero = omega (arith, w .1)
 within n (x ∷ l) h w (suc i) = within n l h (w .2) i
 
 -- the length of the rewritten list, from that of the rules and of what any so many leaves add
-pub counted : (n : ℕ) (rules : List ℤ) (row : List ℕ) (d m r : ℕ) → m ≡ wishes row
+pub counted : (n : ℕ) (rules : List ℤ) (row : List ℕ) (d m r : ℕ) → m ≡ totalWeight row
     → ((k : ℕ) (l : List ℤ) → length l ≡ m → r ≡ length (flat (atMost k l d))) → length rules + r ≡ length (rewritten n rules row d)
 counted n rules row d m r e f =
     omega (arith, f n (leaves row) (leaves-length row ∙ sym e), length-append rules (flat (atMost n (leaves row) d)))

@@ -5,7 +5,8 @@ ghost use Prim.Native.Nat.{_≤_};
 ghost use lib.ListN.{length};
 ghost use Rattle.limits.specs.Limits.{maxVariables, maxWishes};
 ghost use Rattle.emit.specs.Wrote.{Wrote};
-ghost use Rattle.totalizer.specs.Totalizer.{breaking, leaves};
+ghost use Rattle.wish.specs.Wish.{breaking};
+ghost use Rattle.totalizer.specs.Totalizer.{leaves};
 
 // A list for all leaves that a row can have.
 pub fn no_leaves() -> [i32; 64]
@@ -19,7 +20,7 @@ pub fn breaking_of(v: Variable, wish: u8) -> i32
     requires { ⌜ v .0 ≤ maxVariables ⌝ }
     ensures { λ r. ⌜ r ≡ breaking (v .0) wish ⌝ }
 {
-    literal::literal_of(v, wish == 0)
+    literal::literal_of(v, wish::unwished_value(wish) == 1)
 }
 
 // Writes the leaves of a row, by rising variable, and gives their number.
@@ -32,7 +33,7 @@ pub fn put_leaves(row: &[u8], out: &mut [i32]) -> usize
     while i < row.len() {
         let wish = row[i];
         let leaf = breaking_of(Variable(i + 1), wish);
-        at = emit::put_times(leaf, distance::weight_of(wish), out, at);
+        at = emit::put_times(leaf, wish::weight_of(wish), out, at);
         i += 1;
     }
     at

@@ -7,7 +7,7 @@ use native.Mathlib.Omega.{arith}
 use lib.ListN.{length, replicate}
 use borrow.Author.Tests.{le-ltb}
 use Rattle.distance.specs.Distance.{disagreement}
-use Rattle.distance.specs.Laws.{cost-kept}
+use Rattle.wish.specs.Laws.{cost-unassigned}
 use Rattle.walk.specs.Correctness.{start-state, start-unassigned}
 use Rattle.walk.specs.State.{unassigned}
 use Rattle.walk.specs.Walk.{Outcome}
@@ -29,7 +29,7 @@ root-says o s trail a trail′ a′ (Nothing g) w = (w .0, w .1)
 nothing-broken : (row : List ℕ) (n : ℕ) → disagreement row (replicate n 2) ≡ 0
 nothing-broken [] n = refl
 nothing-broken (w ∷ row) zero = refl
-nothing-broken (w ∷ row) (suc n) = ap₂ _+_ (cost-kept w 2 (λ e. omega arith)) (nothing-broken row n)
+nothing-broken (w ∷ row) (suc n) = ap₂ _+_ (cost-unassigned w) (nothing-broken row n)
 
 nothing-undone : (trail : List ℕ) (n : ℕ) → length trail ≡ n → undone 0 trail (replicate n 2) ≡ replicate n 2
 nothing-undone [] zero e = refl

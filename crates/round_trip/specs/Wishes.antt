@@ -6,7 +6,7 @@ use Prim.Native.Nat.{ℕ, _≤_}
 use lib.ListN.{length, take, drop}
 use lib.Seq.{take-append-seam}
 use borrow.Author.Tests.{le-ltb}
-use Rattle.distance.specs.Distance.{wishes}
+use Rattle.wish.specs.Wish.{wishCount}
 use Rattle.refusal.specs.Laws.{cause-none, causeAt-none, no-first}
 use Rattle.refusal.specs.Reply.{cause, causeAt, answering}
 use Rattle.lent.specs.Laws.{in-range}
@@ -30,9 +30,9 @@ module _ (n : ℕ) (row : List ℕ) (d : ℕ) (file : List ℕ) (taken : refusal
   fits = writable n row d (length file) taken
 
   -- what the writer wrote reads as what it was given
-  pub read-back : reading part ≡ gives n (wishes row) d row
+  pub read-back : reading part ≡ gives n (wishCount row) d row
   read-back =
-      let later = laterCauses n (length row) (wishes row) (length file) in
+      let later = laterCauses n (length row) (wishCount row) (length file) in
       let numbers = no-first (cause (outOfRange n d) 14 0) (causeAt 13 (badWish 0 0 row) ∷ later) (sym (by-wishes n row d (length file)) ∙ taken) in
       let sound = no-first (causeAt 13 (badWish 0 0 row)) later (numbers .1) in
       let range = in-range n d (cause-none (outOfRange n d) 14 0 (numbers .0)) in
@@ -40,7 +40,7 @@ module _ (n : ℕ) (row : List ℕ) (d : ℕ) (file : List ℕ) (taken : refusal
 
   -- so the reader answers with these numbers, and leaves that row, where it was lent the room
   module _ (out : List ℕ) (room : n ≤ length out) where
-    pub reply-back : readReply part (length out) ≡ answering 1 n (wishes row) d
+    pub reply-back : readReply part (length out) ≡ answering 1 n (wishCount row) d
     reply-back = rw (read-back, le-ltb (length out) n room)
 
     pub output-back : readOutput part out ≡ row ++ drop n out

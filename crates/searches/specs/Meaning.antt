@@ -8,6 +8,7 @@ use native.Mathlib.Omega.{arith}
 use lib.IntN.{ℤ}
 use lib.ListN.{replicate}
 use Rattle.formula.specs.Formula.{clauses}
+use Rattle.wish.specs.Wish.{freeByte}
 use Rattle.distance.specs.Distance.{disagreement, nearest}
 use Rattle.choices.specs.Choices.{Model, nearest-none}
 use Rattle.rule_list.specs.Sound.{unread, badRule}
@@ -42,7 +43,7 @@ module _ (n : ℕ) (rules : List ℤ) (sound : badRule n unread 0 rules ≡ none
 -- plain search
 pub plain-found : (n : ℕ) (rules : List ℤ) → badRule n unread 0 rules ≡ none → (x : Answer) → plainWalk n (clauses rules) .answer ≡ some x → (x .broken ≡ 0) × Model n (clauses rules) (x .choice)
 plain-found n rules sound x e =
-    let w : ModelWithin n (clauses rules) (replicate n 2) 0 x = walk-sound n (clauses rules) (sound-fits n rules sound) (replicate n 2) 0 x e in
+    let w : ModelWithin n (clauses rules) (replicate n freeByte) 0 x = walk-sound n (clauses rules) (sound-fits n rules sound) (replicate n freeByte) 0 x e in
     (omega (arith, w .limited), w .model)
 
 pub plain-nothing : (n : ℕ) (rules : List ℤ) → badRule n unread 0 rules ≡ none → (plainWalk n (clauses rules) .answer ≡ none) ↔ ((a : List ℕ) → Model n (clauses rules) a → ⊥)

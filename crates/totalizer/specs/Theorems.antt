@@ -10,17 +10,19 @@ use lib.IntN.{ℤ}
 use lib.ListN.{length, take, length-append}
 use Rattle.literal.specs.Literal.{holds}
 use Rattle.formula.specs.Formula.{any, all, clauses, literals, models}
-use Rattle.distance.specs.Distance.{wishes, disagreement}
+use Rattle.distance.specs.Distance.{disagreement}
 use Rattle.limits.specs.Limits.{maxVariables, maxClauses, maxLiterals, maxWishVariables, maxWishClauses, maxWishLiterals}
 use Rattle.rule_list.specs.Sound.{unread, badRule}
 use Rattle.lent.specs.Sound.{badWish}
+use Rattle.wish.specs.Wish.{totalWeight}
+use Rattle.lent.specs.Laws.{sound-weight}
 use Rattle.soundness.specs.Flat.{joining, wellFormed}
 use Rattle.soundness.specs.Laws.{and-both, all-append, literals-append, wellFormed-more}
 use Rattle.soundness.specs.Soundness.{sound, flat-sound, behind}
 use Rattle.choices.specs.Choices.{Choice}
 use Rattle.totalizer.specs.Totalizer.{Tree, on, leaves, tree, added, totalizer, atMost, rewrittenVariables, rewritten, completion, Over, AllCount}
 use Rattle.totalizer.specs.Meaning.{on-opposite, totalizer-right, right-totalizer}
-use Rattle.totalizer.specs.Rows.{leaves-length, sound-wishes}
+use Rattle.totalizer.specs.Rows.{leaves-length}
 use Rattle.totalizer.specs.Choice.{choice-take}
 use Rattle.totalizer.specs.Counters.{segment-right}
 use Rattle.totalizer.specs.Completion.{completion-segment, completion-choice, completion-take}
@@ -71,17 +73,17 @@ within-found n list row d a ok long c m near =
     completions n list row d a (completion row a) ok long (completion-choice n row a c) (completion-take n row a c) .1 (m, near, refl)
 
 -- "64 wishes add 384 settings and 4,800 rules; 3 add 5 and 16; 1 and 0 add none before the limit rule."
-pub adds-64 : (n : ℕ) (row : List ℕ) → wishes row ≡ 64 → (rewrittenVariables n row ≡ n + 384) × (length (totalizer n (tree (leaves row))) ≡ 4800)
+pub adds-64 : (n : ℕ) (row : List ℕ) → totalWeight row ≡ 64 → (rewrittenVariables n row ≡ n + 384) × (length (totalizer n (tree (leaves row))) ≡ 4800)
 adds-64 n row h =
     let m : length (leaves row) ≡ 64 = leaves-length row ∙ h in
     (ap (λ (k : ℕ). n + k) (added-64 (leaves row) m), clauses-64 n (leaves row) m)
 
-pub adds-3 : (n : ℕ) (row : List ℕ) → wishes row ≡ 3 → (rewrittenVariables n row ≡ n + 5) × (length (totalizer n (tree (leaves row))) ≡ 16)
+pub adds-3 : (n : ℕ) (row : List ℕ) → totalWeight row ≡ 3 → (rewrittenVariables n row ≡ n + 5) × (length (totalizer n (tree (leaves row))) ≡ 16)
 adds-3 n row h =
     let m : length (leaves row) ≡ 3 = leaves-length row ∙ h in
     (ap (λ (k : ℕ). n + k) (added-3 (leaves row) m), clauses-3 n (leaves row) m)
 
-pub adds-none : (n : ℕ) (row : List ℕ) → wishes row ≤ 1 → (rewrittenVariables n row ≡ n) × (length (totalizer n (tree (leaves row))) ≡ 0)
+pub adds-none : (n : ℕ) (row : List ℕ) → totalWeight row ≤ 1 → (rewrittenVariables n row ≡ n) × (length (totalizer n (tree (leaves row))) ≡ 0)
 adds-none n row h =
     let m : length (leaves row) ≤ 1 = omega (arith, leaves-length row) in
     (omega (arith, added-1 (leaves row) m), clauses-1 n (leaves row) m)
@@ -89,14 +91,14 @@ adds-none n row h =
 -- What is admitted to rewriting stays within the limits of the file, whatever the row and d.
 pub rewritten-variables : (n : ℕ) (row : List ℕ) → n ≤ maxWishVariables → badWish 0 0 row ≡ none → rewrittenVariables n row ≤ maxVariables
 rewritten-variables n row h w =
-    let m : length (leaves row) ≤ 64 = omega (arith, leaves-length row, sound-wishes row w) in
+    let m : length (leaves row) ≤ 64 = omega (arith, leaves-length row, sound-weight row w) in
     omega (arith, added-most (leaves row) m)
 
 pub rewritten-sizes : (n : ℕ) (list : List ℤ) (row : List ℕ) (d : ℕ) → badRule n unread 0 list ≡ none → length row ≡ n → badWish 0 0 row ≡ none
     → length (clauses list) ≤ maxWishClauses → literals (clauses list) ≤ maxWishLiterals
     → (length (clauses (rewritten n list row d)) ≤ maxClauses) × (literals (clauses (rewritten n list row d)) ≤ maxLiterals)
 rewritten-sizes n list row d ok long w few small =
-    let m : length (leaves row) ≤ 64 = omega (arith, leaves-length row, sound-wishes row w) in
+    let m : length (leaves row) ≤ 64 = omega (arith, leaves-length row, sound-weight row w) in
     let (f, s) = atMost-most n (leaves row) d m in (
       omega (arith, ap length (rewritten-clauses n list row d ok long), length-append (clauses list) (atMost n (leaves row) d), f),
       omega (arith, ap literals (rewritten-clauses n list row d ok long), literals-append (clauses list) (atMost n (leaves row) d), s),

@@ -7,14 +7,10 @@ use lib.Dec.{eqb, ltb}
 use lib.IntN.{ℤ, pos, negsuc, negℤ}
 use lib.ListN.{length, take, drop, replicate}
 use Rattle.literal.specs.Literal.{variable, holds}
-use Rattle.distance.specs.Distance.{weight}
+use Rattle.wish.specs.Wish.{weight, breaking}
 use Rattle.soundness.specs.Flat.{flat}
 
--- "a leaf is the entry that breaks its wish": v for a wish of variable v to be off, -v for one to be on
-abbrev pub breaking : ℕ → ℕ → ℤ
-breaking v w = cond (eqb w 0) (pos v) (negℤ (pos v))
-
--- "Leaves are the wishes by rising setting", here from variable v on. A wish has as many leaves as it weighs.
+-- "Leaves are the wishes by rising setting; a leaf is the entry that breaks its wish", here from variable v on. A wish has as many leaves as it weighs.
 abbrev pub leavesFrom : ℕ → List ℕ → List ℤ
 leavesFrom v [] = []
 leavesFrom v (w ∷ row) = replicate (weight w) (breaking v w) ++ leavesFrom (suc v) row

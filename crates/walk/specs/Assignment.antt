@@ -13,11 +13,12 @@ use lib.Seq.{set-out, getD-set-same, getD-set-other}
 use borrow.Author.Tests.{eqb-true, eqb-false, ltb-true, ltb-false, ne-eqb}
 use Rattle.literal.specs.Literal.{variable, wanted, value, holds}
 use Rattle.literal.specs.Laws.{getD-inside}
-use Rattle.distance.specs.Distance.{cost, disagreement}
-use Rattle.distance.specs.Laws.{cost-free}
+use Rattle.wish.specs.Wish.{cost}
+use Rattle.wish.specs.Laws.{free-cost, cost-unassigned}
+use Rattle.distance.specs.Distance.{disagreement}
 use Rattle.choices.specs.Choices.{Choice}
 use Rattle.walk.specs.State.{State, isUnset, unassigned, assign, satisfy, isUnassigned}
-use Rattle.walk.specs.Extension.{Extends, wanted-bit, cost-unassigned}
+use Rattle.walk.specs.Extension.{Extends, wanted-bit}
 
 -- as a store into the list of bytes
 pub assign-set : (a : List ℕ) (v b : ℕ) → 0 < v → assign a v b ≡ set a (v - 1) b
@@ -77,7 +78,7 @@ assign-fewer {n} {a} h (suc j) b l u e k = store-fewer a j b (omega (arith, h .s
 
 -- a running tally of broken wishes goes up by what the value costs
 store-cost : (row a : List ℕ) (j b : ℕ) → j < length a → getD a j 2 ≡ 2 → disagreement row (set a j b) ≡ disagreement row a + cost (getD row j 2) b
-store-cost [] a j b h e = omega (arith, cost-free 2 b (omega arith))
+store-cost [] a j b h e = omega (arith, free-cost b)
 store-cost (w ∷ row) [] j b h e = absurd (not-suc-le-zero h)
 store-cost (w ∷ row) (x ∷ a) zero b h e = let q : cost w x ≡ 0 = ap (cost w) e ∙ cost-unassigned w in omega arith
 store-cost (w ∷ row) (x ∷ a) (suc j) b h e = omega (arith, store-cost row a j b (le-of-suc-le-suc h) e)

@@ -8,16 +8,8 @@ use lib.IntN.{ℤ}
 use lib.ListN.{length}
 use Rattle.literal.specs.Literal.{variable, wanted, value}
 use Rattle.formula.specs.Formula.{any, all}
-use Rattle.distance.specs.Distance.{cost}
+use Rattle.wish.specs.Wish.{isAgainst}
 use Rattle.walk.specs.State.{isUnset, isUnassigned, unassignedIn, isOpen}
-
--- a value breaks a wish if it costs something there
-abbrev pub breaks : ℕ → ℕ → Bool
-breaks w b = ltb 0 (cost w b)
-
--- a literal goes against a wish if making it hold breaks the wish of its variable
-abbrev pub isAgainst : List ℕ → ℤ → Bool
-isAgainst row x = breaks (value row (variable x)) (wanted x)
 
 -- an open clause "whose unsettled entries all go against wishes" (document 000: falsified by the reference assignment)
 abbrev pub assignedOrAgainst : List ℕ → List ℕ → ℤ → Bool

@@ -13,7 +13,8 @@ use Rattle.literal.specs.Literal.{variable, value}
 use Rattle.formula.specs.Formula.{any, all, satisfied, models}
 use Rattle.choices.specs.Lists.{any-at, any-member, any-false, all-at, all-false}
 use Rattle.walk.specs.State.{State, isUnset, isUnassigned, unassignedIn, isOpen, isFalsified, fits}
-use Rattle.walk.specs.Branching.{isAgainst, assignedOrAgainst, isOf, offers, isOpposed, shorter, shorterOf, shortest, fewest, isSource, mentions, isCandidate, score, better, best, branchingVariable}
+use Rattle.wish.specs.Wish.{isAgainst}
+use Rattle.walk.specs.Branching.{assignedOrAgainst, isOf, offers, isOpposed, shorter, shorterOf, shortest, fewest, isSource, mentions, isCandidate, score, better, best, branchingVariable}
 use Rattle.walk.specs.Walk.{complete}
 use Rattle.walk.specs.Promises.{Branches}
 use Rattle.walk.specs.Extension.{satisfied-kept}

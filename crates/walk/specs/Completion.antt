@@ -8,13 +8,13 @@ use native.Mathlib.Omega.{arith}
 use lib.Dec.{ltb, lit<}
 use lib.ListN.{length, getD, List·getD-eq-default}
 use borrow.Author.Tests.{eqb-true, eqb-false, ltb-true, ltb-false, ne-eqb}
-use Rattle.distance.specs.Distance.{cost, disagreement}
-use Rattle.distance.specs.Laws.{cost-free}
+use Rattle.wish.specs.Wish.{wishedValue, cost}
+use Rattle.wish.specs.Laws.{wished-bit, cost-unassigned, cost-wished}
+use Rattle.distance.specs.Distance.{disagreement}
 use Rattle.choices.specs.Choices.{Choice}
 use Rattle.walk.specs.State.{State, isUnset}
-use Rattle.walk.specs.Branching.{breaks}
-use Rattle.walk.specs.Walk.{wishedValue, completeByte, complete}
-use Rattle.walk.specs.Extension.{Extends, cost-unassigned}
+use Rattle.walk.specs.Walk.{completeByte, complete}
+use Rattle.walk.specs.Extension.{Extends}
 
 -- the bytes of the completion
 pub complete-length : (row a : List ℕ) → length (complete row a) ≡ length a
@@ -31,13 +31,6 @@ complete-at (w ∷ row) (b ∷ a) (suc i) d h = complete-at row a i d (le-of-suc
 
 pub complete-past : (row a : List ℕ) (i d : ℕ) → length a ≤ i → getD (complete row a) i d ≡ d
 complete-past row a i d h = List·getD-eq-default (complete row a) d (omega (arith, complete-length row a))
-
-wished-bit : (w : ℕ) → wishedValue w < 2
-wished-bit w = go (breaks w 0)
-  where
-    go : (t : Bool) → cond t 1 0 < 2
-    go true = lit< tt
-    go false = lit< tt
 
 byte-bit : (w b : ℕ) → b ≤ 2 → completeByte w b < 2
 byte-bit w b h = go (isUnset b) refl
@@ -63,17 +56,11 @@ complete-extends row a = record { keeps = λ i q. at i q (ltb i (length a)) refl
     at i q true e = complete-at row a i 2 (ltb-true i (length a) e) ∙ byte-kept (getD row i 2) (getD a i 2) q
     at i q false e = absurd (q (List·getD-eq-default a 2 (ltb-false i (length a) e)))
 
--- a wish costs nothing at the wished value, and a free variable nothing at all
-wished-cost : (w : ℕ) → cost w (wishedValue w) ≡ 0
-wished-cost zero = refl
-wished-cost (suc zero) = refl
-wished-cost (suc (suc w)) = cost-free (suc (suc w)) (wishedValue (suc (suc w))) (omega arith)
-
 byte-cost : (w b : ℕ) → cost w (completeByte w b) ≡ cost w b
 byte-cost w b = go (isUnset b) refl
   where
     go : (t : Bool) → isUnset b ≡ t → cost w (cond t (wishedValue w) b) ≡ cost w b
-    go true e = wished-cost w ∙ sym (cost-unassigned w) ∙ ap (cost w) (sym (eqb-true b 2 e))
+    go true e = cost-wished w ∙ sym (cost-unassigned w) ∙ ap (cost w) (sym (eqb-true b 2 e))
     go false e = refl
 
 -- the completion breaks the wishes that the state breaks

@@ -10,8 +10,10 @@ use lib.ListN.{getD}
 use borrow.Author.Tests.{not-true, eqb-true, eqb-false, ne-eqb}
 use Rattle.literal.specs.Literal.{variable, wanted, value, holds}
 use Rattle.formula.specs.Formula.{satisfied}
-use Rattle.distance.specs.Distance.{cost, disagreement}
-use Rattle.distance.specs.Laws.{cost-kept, disagreement-nothing}
+use Rattle.wish.specs.Wish.{cost}
+use Rattle.wish.specs.Laws.{cost-unassigned}
+use Rattle.distance.specs.Distance.{disagreement}
+use Rattle.distance.specs.Laws.{disagreement-nothing}
 use Rattle.choices.specs.Lists.{any-at, any-member, any-false}
 use Rattle.walk.specs.Counting.{count-member, count-zero}
 use Rattle.walk.specs.State.{isUnset, isUnassigned, unassignedIn, isOpen, isFalsified}
@@ -93,10 +95,6 @@ pub falsified-kept : {b a : List ℕ} → Extends b a → (c : List ℤ) → isF
 falsified-kept {b} {a} h c q =
     let e : unassignedIn b c ≡ 0 = count-zero (isUnassigned b) c (λ x m. assigned-kept h x (unassigned-none a c (falsified-full a c q) x m)) in
     ap₂ (λ (s : Bool) (k : ℕ). not s && eqb k 0) (falsified-never h c q) e
-
--- an unassigned variable breaks no wish
-pub cost-unassigned : (w : ℕ) → cost w 2 ≡ 0
-cost-unassigned w = cost-kept w 2 (λ e. omega arith)
 
 cost-grows : (w x y : ℕ) → ((x ≡ 2 → ⊥) → y ≡ x) → cost w x ≤ cost w y
 cost-grows w x y h = go (isUnset x) refl

@@ -1,40 +1,19 @@
 -- Counting the limit up: the first walk that finds something finds the nearest count.
-use mathlib.Core.Path.{_≡_, refl, subst}
-use mathlib.Core.Bool.{Bool, true, false, cond}
-use mathlib.Core.List.{List, [], _∷_}
+use mathlib.Core.Path.{_≡_, subst}
+use mathlib.Core.Bool.{true}
+use mathlib.Core.List.{List}
 use mathlib.Core.Option.{Option, none, some}
-use Prim.Native.Nat.{ℕ, zero, suc, _+_, _-_, _≤_, _<_, zero-le}
-use native.Mathlib.Nat.{le-refl}
+use Prim.Native.Nat.{ℕ, zero, suc, _+_, _≤_, _<_, zero-le}
 use native.Mathlib.Omega.{arith}
-use lib.Dec.{eqb}
 use lib.IntN.{ℤ}
 use lib.ListN.{replicate}
-use Rattle.distance.specs.Distance.{weight, cost, wishes, disagreement}
-use Rattle.distance.specs.Laws.{cost-free}
+use Rattle.wish.specs.Wish.{totalWeight}
+use Rattle.distance.specs.Distance.{disagreement}
 use Rattle.choices.specs.Choices.{Model}
 use Rattle.walk.specs.State.{unassigned, fits}
 use Rattle.walk.specs.Walk.{Answer, walk, firstAnswer, climb, nearestWalk}
 use Rattle.walk.specs.Promises.{ModelWithin, Closest}
 use Rattle.walk.specs.Correctness.{start-state, start-extends, Right, walk-right}
-
--- no choice breaks more wishes than there are
-cost-weight : (w b : ℕ) → cost w b ≤ weight w
-cost-weight w b = go (eqb b (1 - w))
-  where
-    go : (t : Bool) → cond t (weight w) 0 ≤ weight w
-    go true = le-refl (weight w)
-    go false = zero-le
-
-pub disagreement-wishes : (row a : List ℕ) → disagreement row a ≤ wishes row
-disagreement-wishes [] a = zero-le
-disagreement-wishes (w ∷ row) [] = zero-le
-disagreement-wishes (w ∷ row) (b ∷ a) = omega (arith, cost-weight w b, disagreement-wishes row a)
-
--- a row without wishes has none to break
-pub disagreement-free : (n : ℕ) (a : List ℕ) → disagreement (replicate n 2) a ≡ 0
-disagreement-free zero a = refl
-disagreement-free (suc n) [] = refl
-disagreement-free (suc n) (b ∷ a) = omega (arith, cost-free 2 b (omega arith), disagreement-free n a)
 
 -- what the answer of the walks up to limit m says
 abbrev pub RightUpTo : ℕ → List (List ℤ) → List ℕ → ℕ → Option Answer → Type 0
@@ -64,5 +43,5 @@ module _ (n : ℕ) (f : List (List ℤ)) (fit : fits n f ≡ true) (row : List �
       go none p ih = ih p
       go (some x) p ih = p
 
-  pub nearest-right : RightUpTo n f row (wishes row) (nearestWalk n f row)
-  nearest-right = climb-right (wishes row) 0 (wishes row) (omega arith) (λ a m. zero-le)
+  pub nearest-right : RightUpTo n f row (totalWeight row) (nearestWalk n f row)
+  nearest-right = climb-right (totalWeight row) 0 (totalWeight row) (omega arith) (λ a m. zero-le)

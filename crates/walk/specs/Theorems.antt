@@ -9,7 +9,9 @@ use native.Mathlib.Omega.{arith}
 use lib.IntN.{ℤ}
 use lib.ListN.{replicate}
 use Rattle.formula.specs.Formula.{clauses}
-use Rattle.distance.specs.Distance.{wishes, disagreement, within, nearest}
+use Rattle.wish.specs.Wish.{freeByte, totalWeight}
+use Rattle.distance.specs.Distance.{disagreement, within, nearest}
+use Rattle.distance.specs.Laws.{disagreement-most, disagreement-free}
 use Rattle.choices.specs.Choices.{Model, within-iff, within-none, nearest-none, nearest-some}
 use Rattle.walk.specs.State.{State, unassigned, fits}
 use Rattle.walk.specs.Branching.{branchingVariable}
@@ -18,7 +20,7 @@ use Rattle.walk.specs.Promises.{ModelWithin, Closest, Undecided, Branche
 use Rattle.walk.specs.WalkLaws.{walk-enough}
 use Rattle.walk.specs.Induction.{branching}
 use Rattle.walk.specs.Correctness.{start-state, start-unassigned, start-extends, Right}
-use Rattle.walk.specs.Nearest.{RightUpTo, disagreement-wishes, disagreement-free, start-right, nearest-right}
+use Rattle.walk.specs.Nearest.{RightUpTo, start-right, nearest-right}
 
 -- Soundness: what the walk finds is a choice that meets all rules, with the count that it breaks, and that is at most d.
 pub walk-sound : (n : ℕ) (f : List (List ℤ)) → fits n f ≡ true → (row : List ℕ) (d : ℕ) (x : Answer) → walk n f row d .answer ≡ some x → ModelWithin n f row d x
@@ -58,23 +60,23 @@ walk-depth n f fit row d k h =
 
 -- Plain search finds a model, or nothing exactly when there is none.
 pub plain-sound : (n : ℕ) (f : List (List ℤ)) → fits n f ≡ true → (x : Answer) → plainWalk n f .answer ≡ some x → Model n f (x .choice)
-plain-sound n f fit x e = walk-sound n f fit (replicate n 2) 0 x e .model
+plain-sound n f fit x e = walk-sound n f fit (replicate n freeByte) 0 x e .model
 
 pub plain-none : (n : ℕ) (f : List (List ℤ)) → fits n f ≡ true → (plainWalk n f .answer ≡ none) ↔ ((a : List ℕ) → Model n f a → ⊥)
 plain-none n f fit =
-    (λ e a m. omega (arith, walk-none n f fit (replicate n 2) 0 .0 e a m, disagreement-free n a), λ g. walk-none n f fit (replicate n 2) 0 .1 (λ a m. absurd (g a m)))
+    (λ e a m. omega (arith, walk-none n f fit (replicate n freeByte) 0 .0 e a m, disagreement-free n a), λ g. walk-none n f fit (replicate n freeByte) 0 .1 (λ a m. absurd (g a m)))
 
 -- Nearest finds a choice that meets all rules, with the count that it breaks, and no such choice breaks fewer.
 pub nearest-sound : (n : ℕ) (f : List (List ℤ)) → fits n f ≡ true → (row : List ℕ) (x : Answer) → nearestWalk n f row ≡ some x → Closest n f row x
-nearest-sound n f fit row x e = subst (RightUpTo n f row (wishes row)) e (nearest-right n f fit row)
+nearest-sound n f fit row x e = subst (RightUpTo n f row (totalWeight row)) e (nearest-right n f fit row)
 
 -- Its count is the nearest count: none exactly when the rules can't be met.
 pub nearest-count : (n : ℕ) (list : List ℤ) → fits n (clauses list) ≡ true → (row : List ℕ)
     → Option·map (λ (x : Answer). x .broken) (nearestWalk n (clauses list) row) ≡ nearest n list row
 nearest-count n list fit row = go (nearestWalk n (clauses list) row) (nearest-right n (clauses list) fit row)
   where
-    go : (o : Option Answer) → RightUpTo n (clauses list) row (wishes row) o → Option·map (λ (x : Answer). x .broken) o ≡ nearest n list row
-    go none p = sym (nearest-none n list row .1 (λ a m. omega (arith, p a m, disagreement-wishes row a)))
+    go : (o : Option Answer) → RightUpTo n (clauses list) row (totalWeight row) o → Option·map (λ (x : Answer). x .broken) o ≡ nearest n list row
+    go none p = sym (nearest-none n list row .1 (λ a m. omega (arith, p a m, disagreement-most row a)))
     go (some x) p =
         let r : Closest n (clauses list) row x = p in
         sym (nearest-some n list row (x .broken) .1 (record { attained = (x .choice, r .model, r .counted); below = r .below }))

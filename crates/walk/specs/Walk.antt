@@ -8,10 +8,11 @@ use lib.IntN.{ℤ}
 use lib.ListN.{replicate}
 use Rattle.literal.specs.Literal.{value}
 use Rattle.formula.specs.Formula.{any, models}
-use Rattle.distance.specs.Distance.{disagreement, wishes}
+use Rattle.wish.specs.Wish.{freeByte, wishedValue, unwishedValue, totalWeight}
+use Rattle.distance.specs.Distance.{disagreement}
 use Rattle.walk.specs.State.{isUnset, unassigned, assign, isFalsified}
 use Rattle.walk.specs.Propagation.{propagate}
-use Rattle.walk.specs.Branching.{breaks, isOpposed, fewest, branchingVariable}
+use Rattle.walk.specs.Branching.{isOpposed, fewest, branchingVariable}
 
 -- a choice that was found, and the number of wishes that it breaks
 pub record Answer : Type 0 where
@@ -31,15 +32,12 @@ abbrev pub isDeadEnd : List (List ℤ) → List ℕ → ℕ → List ℕ → Boo
 isDeadEnd f row d a = any (isFalsified a) f || ltb d (disagreement row a)
 
 -- Step 2: "Complete: unsettled settings take their wish, unwished ones off. If all rules are met, that is the answer."
-abbrev pub wishedValue : ℕ → ℕ
-wishedValue w = cond (breaks w 0) 1 0
-
 abbrev pub completeByte : ℕ → ℕ → ℕ
 completeByte w b = cond (isUnset b) (wishedValue w) b
 
 abbrev pub complete : List ℕ → List ℕ → List ℕ
 complete row [] = []
-complete [] (b ∷ a) = completeByte 2 b ∷ complete [] a
+complete [] (b ∷ a) = completeByte freeByte b ∷ complete [] a
 complete (w ∷ row) (b ∷ a) = completeByte w b ∷ complete row a
 
 abbrev pub completed : List ℕ → List ℕ → Outcome
@@ -50,9 +48,6 @@ abbrev pub isExhausted : List (List ℤ) → List ℕ → ℕ → List ℕ → B
 isExhausted f row d a = eqb (disagreement row a) d && any (isOpposed row a) f
 
 -- Step 5: "Fork: against the wish first if step 4's first kind of rule existed, else on first; then the other value."
-abbrev pub unwishedValue : ℕ → ℕ
-unwishedValue w = cond (breaks w 1) 1 0
-
 abbrev pub firstValue : List ℕ → Option ℕ → ℕ → ℕ
 firstValue row none v = 1
 firstValue row (some size) v = unwishedValue (value row v)
@@ -105,7 +100,7 @@ walk n f row d = walkFrom f row d (replicate n 2)
 
 -- "Plain search is this with no wishes and d = 0"
 abbrev pub plainWalk : ℕ → List (List ℤ) → Outcome
-plainWalk n f = walk n f (replicate n 2) 0
+plainWalk n f = walk n f (replicate n freeByte) 0
 
 -- the first answer of the walks with the limits d, d + 1, .., d + k
 abbrev pub climb : ℕ → List (List ℤ) → List ℕ → ℕ → ℕ → Option Answer
@@ -114,4 +109,4 @@ climb n f row (suc k) d = firstAnswer (walk n f row d .answer) (climb n f row k 
 
 -- "Nearest gives the least number of broken wishes with a choice [..]; it takes no limit."
 abbrev pub nearestWalk : ℕ → List (List ℤ) → List ℕ → Option Answer
-nearestWalk n f row = climb n f row (wishes row) 0
+nearestWalk n f row = climb n f row (totalWeight row) 0

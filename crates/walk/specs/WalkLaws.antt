@@ -4,7 +4,7 @@ use mathlib.Core.Bool.{Bool, true, false, cond, _||_, true≢false, and-eq-true-
 use mathlib.Core.List.{List, List·Memᴰ}
 use mathlib.Core.Option.{Option, none, some}
 use Prim.Native.Nat.{ℕ, zero, suc, _-_, _≤_, _<_}
-use native.Mathlib.Nat.{not-suc-le-zero, le-of-suc-le-suc}
+use native.Mathlib.Nat.{not-suc-le-zero}
 use native.Mathlib.Omega.{arith}
 use lib.Dec.{eqb, ltb, lit<}
 use lib.IntN.{ℤ}
@@ -12,14 +12,16 @@ use lib.ListN.{length}
 use borrow.Author.Tests.{eqb-true, ltb-true, ltb-false, lt-ltb}
 use Rattle.literal.specs.Literal.{variable, wanted, value}
 use Rattle.formula.specs.Formula.{any, satisfied, models}
-use Rattle.distance.specs.Distance.{cost, disagreement}
+use Rattle.wish.specs.Wish.{unwishedValue, cost}
+use Rattle.wish.specs.Laws.{unwished-bit, cost-unwished}
+use Rattle.distance.specs.Distance.{disagreement}
 use Rattle.choices.specs.Lists.{any-at, any-member, all-at}
 use Rattle.walk.specs.State.{State, unassigned, assign, satisfy, unassignedIn, isFalsified, fits}
 use Rattle.walk.specs.Propagation.{propagate}
-use Rattle.walk.specs.Branching.{breaks, isOpposed, fewest, isSource, isCandidate, score, branchingVariable}
-use Rattle.walk.specs.Walk.{Outcome, deadEnd, isDeadEnd, complete, completed, isExhausted, unwishedValue, firstValue, eitherOf, forkOn, decide, walkBy, walkFrom}
+use Rattle.walk.specs.Branching.{isOpposed, fewest, isSource, isCandidate, score, branchingVariable}
+use Rattle.walk.specs.Walk.{Outcome, deadEnd, isDeadEnd, complete, completed, isExhausted, firstValue, eitherOf, forkOn, decide, walkBy, walkFrom}
 use Rattle.walk.specs.Promises.{Branches}
-use Rattle.walk.specs.Extension.{Extends, wanted-bit, satisfied-by-unassigned, falsified-kept, falsified-never, disagreement-grows}
+use Rattle.walk.specs.Extension.{Extends, satisfied-by-unassigned, falsified-kept, falsified-never, disagreement-grows}
 use Rattle.walk.specs.Assignment.{assign-state, assign-fewer, assign-cost, extends-satisfy}
 use Rattle.walk.specs.Fits.{fits-at}
 use Rattle.walk.specs.PropagationLaws.{propagate-extends, propagate-state, propagate-fewer}
@@ -103,25 +105,15 @@ module _ (f : List (List ℤ)) (row : List ℕ) (d : ℕ) (try : List ℕ → Ou
 -- the first value is off or on
 pub first-bit : (row : List ℕ) (o : Option ℕ) (v : ℕ) → firstValue row o v < 2
 first-bit row none v = lit< tt
-first-bit row (some k) v = go (breaks (value row v) 1)
-  where
-    go : (t : Bool) → cond t 1 0 < 2
-    go true = lit< tt
-    go false = lit< tt
+first-bit row (some k) v = unwished-bit (value row v)
 
 -- "against the wish first if step 4's first kind of rule existed": the first value breaks the wish of the branching variable
-unwished-breaks : (w b : ℕ) → b < 2 → 0 < cost w b → 0 < cost w (unwishedValue w)
-unwished-breaks w b l h = go (breaks w 1) refl b l h
-  where
-    go : (t : Bool) → breaks w 1 ≡ t → (b : ℕ) → b < 2 → 0 < cost w b → 0 < cost w (cond t 1 0)
-    go true e b l h = ltb-true 0 (cost w 1) e
-    go false e zero l h = h
-    go false e (suc zero) l h = omega (arith, ltb-false 0 (cost w 1) e)
-    go false e (suc (suc b)) l h = absurd (not-suc-le-zero (le-of-suc-le-suc (le-of-suc-le-suc l)))
+unwished-breaks : (w b : ℕ) → 0 < cost w b → 0 < cost w (unwishedValue w)
+unwished-breaks w b h = subst (λ (x : ℕ). 0 < cost w x) (cost-unwished w b h) h
 
 pub first-against : (row a : List ℕ) (f : List (List ℤ)) {k v : ℕ} → fewest row a f ≡ some k → branchingVariable row a f ≡ some v
     → 0 < cost (value row v) (firstValue row (fewest row a f) v)
-first-against row a f {k} {v} e b = rw e (unwished-breaks (value row v) (wanted (r .literal)) (wanted-bit (r .literal)) (subst (λ (u : ℕ). 0 < cost (value row u) (wanted (r .literal))) (r .named) dear))
+first-against row a f {k} {v} e b = rw e (unwished-breaks (value row v) (wanted (r .literal)) (subst (λ (u : ℕ). 0 < cost (value row u) (wanted (r .literal))) (r .named) dear))
   where
     r : Candidate row a f v
     r = candidate-from row a f v (best-found (isCandidate row a f) (score a f) (length a) b .passes)

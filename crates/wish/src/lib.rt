@@ -1,13 +1,70 @@
-// What a byte of the wish row asks of a value.
+// What a byte of the wish row means. Only this crate looks at such a byte; the others ask it.
 ghost use mathlib.Core.Path.{_≡_};
-ghost use Rattle.walk.specs.Branching.{breaks, isAgainst};
-ghost use Rattle.walk.specs.Walk.{wishedValue, unwishedValue};
+ghost use Prim.Native.Nat.{_<_};
+ghost use Rattle.wish.specs.Wish.{isRowByte, isWish, wishFor, wishedValue, unwishedValue, weight, cost, breaks, isAgainst};
+
+// The byte of a free variable.
+pub const FREE: u8 = 2;
+
+// Whether a byte may stand in a row.
+pub fn is_row_byte(wish: u8) -> bool
+    ensures { λ r. ⌜ r ≡ isRowByte wish ⌝ }
+{
+    wish <= FREE
+}
+
+// Whether a byte of a row is a wish, and its variable not free.
+pub fn is_wish(wish: u8) -> bool
+    ensures { λ r. ⌜ r ≡ isWish wish ⌝ }
+{
+    wish < FREE
+}
+
+// The byte of a wish that asks a value.
+pub fn wish_for(value: u8) -> u8
+    requires { ⌜ value < 2 ⌝ }
+    ensures { λ r. ⌜ r ≡ wishFor value ⌝ }
+{
+    value
+}
+
+// The wished value, off where there is no wish.
+pub fn wished_value(wish: u8) -> u8
+    ensures { λ r. ⌜ r ≡ wishedValue wish ⌝ }
+{
+    if is_wish(wish) { wish } else { 0 }
+}
+
+// The value against the wish, off where there is no wish.
+pub fn unwished_value(wish: u8) -> u8
+    ensures { λ r. ⌜ r ≡ unwishedValue wish ⌝ }
+{
+    if is_wish(wish) { 1 - wish } else { 0 }
+}
+
+// How much a byte counts: 1 for a wish, 0 for a free variable.
+pub fn weight_of(wish: u8) -> usize
+    ensures { λ r. ⌜ r ≡ weight wish ⌝ }
+{
+    if is_wish(wish) { 1 } else { 0 }
+}
+
+// What a value breaks of the wish at its variable: its weight where it is the other value, 0 elsewhere.
+pub fn cost_of(wish: u8, value: u8) -> usize
+    ensures { λ r. ⌜ r ≡ cost wish value ⌝ }
+{
+    if value == unwished_value(wish) {
+        weight_of(wish)
+    } else {
+        0
+    }
+}
 
 // Whether a value breaks a wish.
 pub fn breaks_wish(wish: u8, value: u8) -> bool
     ensures { λ r. ⌜ r ≡ breaks wish value ⌝ }
 {
-    0 < distance::cost_of(wish, value)
+    0 < cost_of(wish, value)
 }
 
 // Whether a literal goes against the wish of its variable.
@@ -18,18 +75,4 @@ pub fn is_against(x: i32, row: &[u8]) -> bool
         literal::value_of(literal::variable_of(x), row),
         literal::wanted_by(x),
     )
-}
-
-// The wished value, off where there is no wish.
-pub fn wished_value(wish: u8) -> u8
-    ensures { λ r. ⌜ r ≡ wishedValue wish ⌝ }
-{
-    if breaks_wish(wish, 0) { 1 } else { 0 }
-}
-
-// The value against the wish, off where there is no wish.
-pub fn unwished_value(wish: u8) -> u8
-    ensures { λ r. ⌜ r ≡ unwishedValue wish ⌝ }
-{
-    if breaks_wish(wish, 1) { 1 } else { 0 }
 }

@@ -5,7 +5,7 @@ use mathlib.Core.Option.{Option, none, some, Option·getD}
 use Prim.Native.Nat.{ℕ, zero, suc, _+_, _*_}
 use lib.Dec.{eqb, ltb, leb}
 use lib.ListN.{getD, drop}
-use Rattle.distance.specs.Distance.{wishes}
+use Rattle.wish.specs.Wish.{wishCount}
 use Rattle.refusal.specs.declared.Refusal.{Refusal}
 use Rattle.refusal.specs.Reply.{refusal, first, cause}
 use Rattle.limits.specs.Limits.{maxWishVariables, maxWishes, maxLimit}
@@ -33,7 +33,7 @@ wishLines (w ∷ ws) = line (fields w) ++ wishLines ws
 
 -- the file of n variables, a wish row and a limit
 abbrev pub written : ℕ → List ℕ → ℕ → List ℕ
-written n row d = line (n ∷ wishes row ∷ d ∷ []) ++ wishLines (wishList 1 row)
+written n row d = line (n ∷ wishCount row ∷ d ∷ []) ++ wishLines (wishList 1 row)
 
 -- "The size is 16 + 11 times m bytes."
 abbrev pub fileSize : ℕ → ℕ

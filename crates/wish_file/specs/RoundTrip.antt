@@ -3,23 +3,25 @@ use mathlib.Core.Path.{_≡_, refl, sym, ap, ap₂, _∙_}
 use mathlib.Core.Bool.{Bool, true, false, cond, _||_}
 use mathlib.Core.List.{List, [], _∷_, _++_}
 use mathlib.Core.Option.{Option, none, some, Option·getD, Option·some-ne-none}
-use Prim.Native.Nat.{ℕ, zero, suc, _+_, _*_, _≤_, _<_, zero-le}
+use Prim.Native.Nat.{ℕ, zero, suc, _+_, _*_, _≤_, _<_}
 use native.Mathlib.Omega.{arith}
 use lib.Dec.{eqb, ltb, leb}
 use lib.ListN.{length, getD, take, drop, length-append, take-append-drop}
 use lib.Seq.{drop-at}
 use borrow.Author.Tests.{ne-eqb, le-ltb, lt-leb, eqb-false, ltb-false, leb-false}
-use Rattle.distance.specs.Distance.{wishes}
-use Rattle.distance.specs.Laws.{weight-most}
+use Rattle.wish.specs.Wish.{wishCount}
+use Rattle.wish.specs.RowLaws.{count-most, count-weight}
+use Rattle.wish.specs.UnitWeights.{weight-count}
 use Rattle.refusal.specs.declared.Refusal.{Refusal}
 use Rattle.refusal.specs.Laws.{first-last, cause-none, no-first, neither}
 use Rattle.refusal.specs.Reply.{refusal, first, cause}
 use Rattle.limits.specs.Limits.{maxWishVariables, maxWishes, maxLimit}
+use Rattle.lent.specs.Laws.{sound-weight}
 use Rattle.lent.specs.Sound.{badWish}
 use Rattle.wish_file.specs.Format.{headerColumns, wishColumns, fields, wishOf, wishLines, written, fileSize, outside, misfit, badLine, wishAt, badLines, wishesIn, refuses, gives, readLines, readHeader, reading}
 use Rattle.wish_file.specs.Layout.{line, lineSize, lineNumbers}
 use Rattle.wish_file.specs.LayoutLaws.{Fit, Begins, line-length, line-read, line-written}
-use Rattle.wish_file.specs.WishLaws.{Bytes, sound-parts, sound-whole, list-length, list-rising, row-list, list-row, row-length, row-bytes}
+use Rattle.wish_file.specs.WishLaws.{Bytes, sound-whole, list-length, list-rising, row-list, list-row, row-length, row-bytes, sound-bytes}
 use Rattle.wish_file.specs.Wishes.{Wish, wishList, rowOf, Rising}
 
 -- a wish fits where its variable rises to n at most, and its mark is 0 or 1
@@ -69,10 +71,6 @@ lines-length [] n last h r = refl
 lines-length (w ∷ ws) n last h r =
     omega (arith, length-append (line (fields w)) (wishLines ws), line-length (fields w) (fields-fit n last w ws h r), lines-length ws n (w .variable) h (r .3))
 
-pub wishes-most : (row : List ℕ) → wishes row ≤ length row
-wishes-most [] = zero-le
-wishes-most (w ∷ row) = omega (arith, weight-most w, wishes-most row)
-
 inside : (n m d : ℕ) → 1 ≤ n → n ≤ maxWishVariables → m ≤ n → m ≤ maxWishes → d ≤ maxLimit → outside n m d ≡ false
 inside n m d h k l i j =
     rw (ne-eqb n 0 (omega arith), le-ltb maxWishVariables n k, le-ltb n m l, le-ltb maxWishes m i, le-ltb maxLimit d j)
@@ -81,26 +79,26 @@ inside n m d h k l i j =
 pub sixteen-eleven : (m : ℕ) → fileSize m ≡ 16 + 11 * m
 sixteen-eleven m = refl
 
-pub written-length : (n : ℕ) (row : List ℕ) (d : ℕ) → n ≤ maxWishVariables → length row ≡ n → d ≤ maxLimit → length (written n row d) ≡ fileSize (wishes row)
+pub written-length : (n : ℕ) (row : List ℕ) (d : ℕ) → n ≤ maxWishVariables → length row ≡ n → d ≤ maxLimit → length (written n row d) ≡ fileSize (wishCount row)
 written-length n row d k l i =
     omega (
       arith,
-      length-append (line (n ∷ wishes row ∷ d ∷ [])) (wishLines (wishList 1 row)),
-      line-length (n ∷ wishes row ∷ d ∷ []) (omega arith, (omega (arith, wishes-most row), (omega arith, tt))),
+      length-append (line (n ∷ wishCount row ∷ d ∷ [])) (wishLines (wishList 1 row)),
+      line-length (n ∷ wishCount row ∷ d ∷ []) (omega arith, (omega (arith, count-most row), (omega arith, tt))),
       lines-length (wishList 1 row) n 0 (omega arith) (list-rising row 1 n 0 (omega arith) (omega arith)),
       list-length 1 row,
     )
 
 -- sound values, written and read, are these values again
 pub read-written : (n : ℕ) (row : List ℕ) (d : ℕ) → 1 ≤ n → n ≤ maxWishVariables → length row ≡ n → badWish 0 0 row ≡ none → d ≤ maxLimit
-    → reading (written n row d) ≡ gives n (wishes row) d row
+    → reading (written n row d) ≡ gives n (wishCount row) d row
 read-written n row d h k l e i =
     ap₂ readHeader (drop-at (line vs) (wishLines ws) (lineSize headerColumns) (line-length vs fit)) (line-read vs (wishLines ws) fit)
-    ∙ rw (inside n m d h k (omega (arith, wishes-most row)) (omega (arith, sound .1)) i)
+    ∙ rw (inside n m d h k (omega (arith, count-most row)) (omega (arith, sound-weight row e, count-weight row)) i)
     (ap (readLines n m d (wishLines ws)) passed ∙ ap (gives n m d) same)
   where
     m : ℕ
-    m = wishes row
+    m = wishCount row
 
     vs : List ℕ
     vs = n ∷ m ∷ d ∷ []
@@ -109,10 +107,7 @@ read-written n row d h k l e i =
     ws = wishList 1 row
 
     fit : Fit vs
-    fit = (omega arith, (omega (arith, wishes-most row), (omega arith, tt)))
-
-    sound : Bytes row × (0 + wishes row ≤ maxWishes)
-    sound = sound-parts row 0 0 (omega arith) e
+    fit = (omega arith, (omega (arith, count-most row), (omega arith, tt)))
 
     rising : Rising n 0 ws
     rising = list-rising row 1 n 0 (omega arith) (omega arith)
@@ -127,7 +122,7 @@ read-written n row d h k l e i =
         ap (λ (j : ℕ). rowOf n (wishesIn j (wishLines ws))) (sym (list-length 1 row))
         ∙ ap (rowOf n) (wishes-read ws n 0 (omega arith) rising)
         ∙ ap (λ (j : ℕ). rowOf j ws) (sym l)
-        ∙ row-list row (sound .0)
+        ∙ row-list row (sound-bytes row 0 0 e)
 
 -- a list of k numbers is written out
 two : (vs : List ℕ) → length vs ≡ 2 → getD vs 0 0 ∷ getD vs 1 0 ∷ [] ≡ vs
@@ -178,7 +173,7 @@ pub record Accepted (file : List ℕ) (n m d : ℕ) (row : List ℕ) : Type 0 wh
   pub most : n ≤ maxWishVariables
   pub size : length row ≡ n
   pub sound : badWish 0 0 row ≡ none
-  pub count : m ≡ wishes row
+  pub count : m ≡ wishCount row
   pub limit : d ≤ maxLimit
   pub same : file ≡ written n row d
 
@@ -202,7 +197,7 @@ good-file file n m d head range s tail e =
       least = in-range .0;
       most = in-range .1;
       size = row-length n ws;
-      sound = sound-whole row 0 0 (row-bytes n ws (lines .0)) (omega (arith, count, in-range .2));
+      sound = sound-whole row 0 0 (row-bytes n ws (lines .0)) (omega (arith, weight-count row, count, in-range .2));
       count = count;
       limit = in-range .3;
       same = same;
@@ -220,7 +215,7 @@ good-file file n m d head range s tail e =
     lines : Rising n 0 ws × (wishLines ws ≡ s)
     lines = lines-written m n 0 (lineSize headerColumns) s e
 
-    count : m ≡ wishes row
+    count : m ≡ wishCount row
     count = sym (wishes-count m s) ∙ ap length (sym (list-row n ws (lines .0))) ∙ list-length 1 row
 
     same : file ≡ written n row d

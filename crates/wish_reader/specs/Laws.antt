@@ -17,7 +17,8 @@ use Rattle.limits.specs.Limits.{maxWishVariables, maxWishes, maxLimit}
 use Rattle.wish_file.specs.Format.{headerColumns, wishColumns, wishOf, outside, misfit, badLine, wishAt, badLines, wishesIn, Reading, refuses, gives, readLines, readHeader, reading}
 use Rattle.wish_file.specs.Layout.{columnWidth, lineSize, lineNumbers}
 use Rattle.wish_file.specs.RoundTrip.{accepted-parts, accepted, lines-written}
-use Rattle.wish_file.specs.Wishes.{Wish, marked, rowOf, Rising}
+use Rattle.wish_file.specs.Wishes.{Wish, marked, rowOf, Rising, byteOf}
+use Rattle.wish.specs.Wish.{freeByte, wishFor}
 use Rattle.wish_lines.specs.Laws.{line-numbers, line-long, line-none, line-field}
 use Rattle.wish_lines.specs.Lines.{present, isLine, field}
 use Rattle.wish_reader.specs.Read.{readReply, readOutput, fileScan}
@@ -194,9 +195,9 @@ module _ (size m : ℕ) (s : List ℕ) (h : 0 < m) (rising : Rising size 0 (wish
   pub marks-after : Rising size 0 after
   marks-after = rising-lower after size (wishAt s .variable) (parts .3)
 
-  pub marks-step : (row : List ℕ) → marked row (wishesIn m s) ≡ marked (set row (field s - 1) (field (drop columnWidth s))) after
+  pub marks-step : (row : List ℕ) → marked row (wishesIn m s) ≡ marked (set row (field s - 1) (wishFor (field (drop columnWidth s)))) after
   marks-step row =
-      ap (marked row) split ∙ ap (λ (w : Wish). marked (set row (w .variable - 1) (w .mark)) after) (wish-fields s marks-line)
+      ap (marked row) split ∙ ap (λ (w : Wish). marked (set row (w .variable - 1) (byteOf w)) after) (wish-fields s marks-line)
 
 -- the same at a place of a file, with the numbers x and y that were read there
 module _ (file : List ℕ) (size m at x y : ℕ) (h : 0 < m) (rising : Rising size 0 (wishesIn m (drop at file))) (first-field : x ≡ field (drop at file)) (second-field : y ≡ field (drop (at + columnWidth) file)) where
@@ -211,25 +212,25 @@ module _ (file : List ℕ) (size m at x y : ℕ) (h : 0 < m) (rising : Rising si
   pub mark-after : Rising size 0 (wishesIn (m - 1) (drop (at + lineSize wishColumns) file))
   mark-after = subst (λ (s : List ℕ). Rising size 0 (wishesIn (m - 1) s)) (drop-drop (lineSize wishColumns) at file) (marks-after size m (drop at file) h rising)
 
-  pub mark-step : (row : List ℕ) → marked row (wishesIn m (drop at file)) ≡ marked (set row (x - 1) y) (wishesIn (m - 1) (drop (at + lineSize wishColumns) file))
+  pub mark-step : (row : List ℕ) → marked row (wishesIn m (drop at file)) ≡ marked (set row (x - 1) (wishFor y)) (wishesIn (m - 1) (drop (at + lineSize wishColumns) file))
   mark-step row =
       marks-step size m (drop at file) h rising row
-      ∙ ap₂ (λ (v b : ℕ). marked (set row (v - 1) b) (wishesIn (m - 1) (drop (lineSize wishColumns) (drop at file)))) (sym first-field) (sym second)
-      ∙ ap (λ (s : List ℕ). marked (set row (x - 1) y) (wishesIn (m - 1) s)) (drop-drop (lineSize wishColumns) at file)
+      ∙ ap₂ (λ (v b : ℕ). marked (set row (v - 1) (wishFor b)) (wishesIn (m - 1) (drop (lineSize wishColumns) (drop at file)))) (sym first-field) (sym second)
+      ∙ ap (λ (s : List ℕ). marked (set row (x - 1) (wishFor y)) (wishesIn (m - 1) s)) (drop-drop (lineSize wishColumns) at file)
 
 -- marks inside the first part of a list
 marked-append : (ws : List Wish) (p q : List ℕ) (last : ℕ) → Rising (length p) last ws → marked (p ++ q) ws ≡ marked p ws ++ q
 marked-append [] p q last r = refl
 marked-append (w ∷ ws) p q last r =
-    ap (λ (t : List ℕ). marked t ws) (set-append-left p q (w .variable - 1) (w .mark) (omega (arith, r .0, r .1)))
-    ∙ marked-append ws (set p (w .variable - 1) (w .mark)) q (w .variable)
-    (subst (λ (k : ℕ). Rising k (w .variable) ws) (sym (length-set p (w .variable - 1) (w .mark))) (r .3))
+    ap (λ (t : List ℕ). marked t ws) (set-append-left p q (w .variable - 1) (byteOf w) (omega (arith, r .0, r .1)))
+    ∙ marked-append ws (set p (w .variable - 1) (byteOf w)) q (w .variable)
+    (subst (λ (k : ℕ). Rising k (w .variable) ws) (sym (length-set p (w .variable - 1) (byteOf w))) (r .3))
 
 -- n bytes filled from the first on
-pub filled-free : (n : ℕ) (out : List ℕ) → n ≤ length out → sets out 0 (replicate n 2) ≡ replicate n 2 ++ drop n out
+pub filled-free : (n : ℕ) (out : List ℕ) → n ≤ length out → sets out 0 (replicate n freeByte) ≡ replicate n freeByte ++ drop n out
 filled-free n out h =
-    let size : 0 + length (replicate {A = ℕ} n 2) ≡ n = zero-add (length (replicate {A = ℕ} n 2)) ∙ length-replicate n 2 in
-    sets-eq (replicate n 2) out 0 (omega (arith, size)) ∙ ap (λ (k : ℕ). replicate n 2 ++ drop k out) size
+    let size : 0 + length (replicate {A = ℕ} n freeByte) ≡ n = zero-add (length (replicate {A = ℕ} n freeByte)) ∙ length-replicate n freeByte in
+    sets-eq (replicate n freeByte) out 0 (omega (arith, size)) ∙ ap (λ (k : ℕ). replicate n freeByte ++ drop k out) size
 
 -- what an answer of the scan tells of the file
 pub scan-refused : (file : List ℕ) (q : FileScan) (r : Refusal) → q ≡ fileScan (reading file) → q ≡ Refused r → reading file ≡ refuses r
@@ -267,7 +268,7 @@ module _ (file out : List ℕ) where
 
     module _ (h : n ≤ length out) where
       abbrev free : List ℕ
-      free = replicate n 2 ++ drop n out
+      free = replicate n freeByte ++ drop n out
 
       pub rising-room : Rising (length out) 0 ws
       rising-room = rising-wider ws n (length out) 0 h rising-row
@@ -275,13 +276,13 @@ module _ (file out : List ℕ) where
       pub row-read : (result : List ℕ) → result ≡ marked free ws → Answers (answering 1 n m d) result
       row-read result f = (rw (e, le-ltb (length out) n h), rw (e, le-ltb (length out) n h) (f ∙ whole))
         where
-          inside : Rising (length (replicate {A = ℕ} n 2)) 0 ws
-          inside = subst (λ (k : ℕ). Rising k 0 ws) (sym (length-replicate n 2)) rising-row
+          inside : Rising (length (replicate {A = ℕ} n freeByte)) 0 ws
+          inside = subst (λ (k : ℕ). Rising k 0 ws) (sym (length-replicate n freeByte)) rising-row
 
           size : n ≡ length row
           size = sym (accepted file n m d row e .size)
 
           whole : marked free ws ≡ row ++ drop (length row) out
           whole =
-              marked-append ws (replicate n 2) (drop n out) 0 inside
+              marked-append ws (replicate n freeByte) (drop n out) 0 inside
               ∙ ap₂ (λ (a : List ℕ) (k : ℕ). a ++ drop k out) (sym (accepted-parts file n m d row e .gave)) size

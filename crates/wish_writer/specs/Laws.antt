@@ -8,7 +8,9 @@ use native.Mathlib.Omega.{arith}
 use lib.Dec.{eqb, ltb}
 use lib.ListN.{length, drop, length-append}
 use borrow.Author.Tests.{lt-ltb, le-ltb, ltb-false, eqb-true, not-false}
-use Rattle.distance.specs.Distance.{wishes}
+use Rattle.wish.specs.Wish.{isWish, wishedValue, wishCount}
+use Rattle.wish.specs.Laws.{wished-bit}
+use Rattle.wish.specs.RowLaws.{count-most}
 use Rattle.refusal.specs.declared.Refusal.{Refusal}
 use Rattle.refusal.specs.Laws.{cause-none, no-first, enough-room}
 use Rattle.refusal.specs.Reply.{Reply, refusal, first, cause, causeAt, tooShort, refusing, answering}
@@ -16,11 +18,14 @@ use Rattle.lent.specs.Laws.{in-range}
 use Rattle.lent.specs.Lent.{refusalOf, outOfRange, oversized}
 use Rattle.limits.specs.Limits.{maxWishVariables, maxWishClauses, maxWishLiterals, maxLimit}
 use Rattle.lent.specs.Sound.{badWish}
-use Rattle.wish_file.specs.Format.{written, fileSize, wishLines}
-use Rattle.wish_file.specs.Layout.{line}
-use Rattle.wish_file.specs.LayoutLaws.{line-length}
-use Rattle.wish_file.specs.RoundTrip.{wishes-most, written-length}
-use Rattle.wish_file.specs.Wishes.{wishList}
+use Rattle.wish_file.specs.Format.{written, fileSize, wishLines, fields}
+use Rattle.wish_file.specs.Layout.{line, columnWidth}
+use Rattle.text.specs.Text.{column}
+use Rattle.wish_file.specs.LayoutLaws.{line-length, column-length}
+use Rattle.wish_file.specs.RoundTrip.{written-length}
+use Rattle.wish_file.specs.Wishes.{wishList, wishAs}
+use Rattle.decimal.specs.Decimal.{decimal}
+use Rattle.text.specs.Wrote.{sets-append}
 use Rattle.wish_writer.specs.Write.{lentToWrite, writeReply, writeOutput, wishScan}
 use Rattle.wish_writer.specs.declared.WishScan.{WishScan}
 use Rattle.wish_writer.specs.declared.WishScan.the-variants.{Refused, Sound}
@@ -37,14 +42,14 @@ few false f = refl
 
 -- The file's length is told by the number of wishes, where no cause comes before that of the room.
 pub by-wishes : (n : ℕ) (row : List ℕ) (d room : ℕ)
-    → refusalOf (lentToWrite n row d room) ≡ first (cause (outOfRange n d) 14 0 ∷ causeAt 13 (badWish 0 0 row) ∷ laterCauses n (length row) (wishes row) room)
+    → refusalOf (lentToWrite n row d room) ≡ first (cause (outOfRange n d) 14 0 ∷ causeAt 13 (badWish 0 0 row) ∷ laterCauses n (length row) (wishCount row) room)
 by-wishes n row d room = go (outOfRange n d) refl (causeAt 13 (badWish 0 0 row)) (not (eqb (length row) n)) refl (oversized n 0 0) refl
   where
     causes : Bool → Option Refusal → Bool → Bool → ℕ → List (Option Refusal)
     causes a o b t needed = cause a 14 0 ∷ o ∷ cause b 11 0 ∷ cause t 12 0 ∷ tooShort needed room ∷ []
 
     go : (a : Bool) → outOfRange n d ≡ a → (o : Option Refusal) (b : Bool) → not (eqb (length row) n) ≡ b → (t : Bool) → oversized n 0 0 ≡ t
-        → first (causes a o b t (length (written n row d))) ≡ first (causes a o b t (fileSize (wishes row)))
+        → first (causes a o b t (length (written n row d))) ≡ first (causes a o b t (fileSize (wishCount row)))
     go true e o b f t g = refl
     go false e (some r) b f t g = refl
     go false e none true f t g = refl
@@ -83,7 +88,7 @@ module _ (n : ℕ) (row : List ℕ) (d room : ℕ) where
     pub by-row : (i : ℕ) → badWish 0 0 row ≡ some i → Refused (refusal 13 i) ≡ wishScan cause-of row
     by-row i e = rw (range, e)
 
-    module _ (sound : badWish 0 0 row ≡ none) (m : ℕ) (count : m ≡ wishes row) where
+    module _ (sound : badWish 0 0 row ≡ none) (m : ℕ) (count : m ≡ wishCount row) where
       whole : cause-of ≡ first (laterCauses n (length row) m room)
       whole = by-wishes n row d room ∙ rw (range, sound, count)
 
@@ -98,7 +103,7 @@ pub scan-refused : (o : Option Refusal) (row : List ℕ) (s : WishScan) (r : Ref
 scan-refused none row s r e f = cc
 scan-refused (some q) row s r e f = cc
 
-pub scan-sound : (o : Option Refusal) (row : List ℕ) (s : WishScan) (m : ℕ) → s ≡ wishScan o row → s ≡ Sound m → (o ≡ none) × (m ≡ wishes row)
+pub scan-sound : (o : Option Refusal) (row : List ℕ) (s : WishScan) (m : ℕ) → s ≡ wishScan o row → s ≡ Sound m → (o ≡ none) × (m ≡ wishCount row)
 scan-sound none row s m e f = (refl, (cc))
 scan-sound (some q) row s m e f = ((cc), (cc))
 
@@ -107,24 +112,24 @@ pub record Writable (n : ℕ) (row : List ℕ) (d room : ℕ) : Type 0 where
   pub most : n ≤ maxWishVariables
   pub size : length row ≡ n
   pub limit : d ≤ maxLimit
-  pub space : fileSize (wishes row) ≤ room
+  pub space : fileSize (wishCount row) ≤ room
 
 pub writable : (n : ℕ) (row : List ℕ) (d room : ℕ) → refusalOf (lentToWrite n row d room) ≡ none → Writable n row d room
 writable n row d room e =
-    let range = no-first (cause (outOfRange n d) 14 0) (causeAt 13 (badWish 0 0 row) ∷ laterCauses n (length row) (wishes row) room) (sym (by-wishes n row d room) ∙ e) in
-    let sound = no-first (causeAt 13 (badWish 0 0 row)) (laterCauses n (length row) (wishes row) room) (range .1) in
-    let same = no-first (cause (not (eqb (length row) n)) 11 0) (cause (oversized n 0 0) 12 0 ∷ tooShort (fileSize (wishes row)) room ∷ []) (sound .1) in
-    let small = no-first (cause (oversized n 0 0) 12 0) (tooShort (fileSize (wishes row)) room ∷ []) (same .1) in
-    let last = no-first (tooShort (fileSize (wishes row)) room) [] (small .1) in
+    let range = no-first (cause (outOfRange n d) 14 0) (causeAt 13 (badWish 0 0 row) ∷ laterCauses n (length row) (wishCount row) room) (sym (by-wishes n row d room) ∙ e) in
+    let sound = no-first (causeAt 13 (badWish 0 0 row)) (laterCauses n (length row) (wishCount row) room) (range .1) in
+    let same = no-first (cause (not (eqb (length row) n)) 11 0) (cause (oversized n 0 0) 12 0 ∷ tooShort (fileSize (wishCount row)) room ∷ []) (sound .1) in
+    let small = no-first (cause (oversized n 0 0) 12 0) (tooShort (fileSize (wishCount row)) room ∷ []) (same .1) in
+    let last = no-first (tooShort (fileSize (wishCount row)) room) [] (small .1) in
     record {
       most = ltb-false maxWishVariables n (few (ltb maxWishVariables n) (cause-none (oversized n 0 0) 12 0 (small .0)));
       size = eqb-true (length row) n (not-false (eqb (length row) n) (cause-none (not (eqb (length row) n)) 11 0 (same .0)));
       limit = in-range n d (cause-none (outOfRange n d) 14 0 (range .0)) .2;
-      space = enough-room (fileSize (wishes row)) room (last .0);
+      space = enough-room (fileSize (wishCount row)) room (last .0);
     }
 
 -- the file in its two parts, and with what stays behind it
-module _ (n : ℕ) (row : List ℕ) (d room : ℕ) (w : Writable n row d room) (m : ℕ) (count : m ≡ wishes row) where
+module _ (n : ℕ) (row : List ℕ) (d room : ℕ) (w : Writable n row d room) (m : ℕ) (count : m ≡ wishCount row) where
   abbrev head : List ℕ
   head = line (n ∷ m ∷ d ∷ [])
 
@@ -132,7 +137,7 @@ module _ (n : ℕ) (row : List ℕ) (d room : ℕ) (w : Writable n row d room) (
   tail = wishLines (wishList 1 row)
 
   pub numbers-fit : (n < 100000) × (m < 100000) × (d < 100000)
-  numbers-fit = (omega (arith, w .most), omega (arith, wishes-most row, w .size, w .most), omega (arith, w .limit))
+  numbers-fit = (omega (arith, w .most), omega (arith, count-most row, w .size, w .most), omega (arith, w .limit))
 
   pub parts : head ++ tail ≡ written n row d
   parts = ap (λ (k : ℕ). line (n ∷ k ∷ d ∷ []) ++ tail) count

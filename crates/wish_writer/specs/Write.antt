@@ -3,7 +3,7 @@ use mathlib.Core.List.{List, []}
 use mathlib.Core.Option.{Option, none, some}
 use Prim.Native.Nat.{ℕ}
 use lib.ListN.{length}
-use Rattle.distance.specs.Distance.{wishes}
+use Rattle.wish.specs.Wish.{wishCount}
 use Rattle.refusal.specs.declared.Refusal.{Refusal}
 use Rattle.refusal.specs.Reply.{Reply, refusing, answering, unless, filled}
 use Rattle.lent.specs.Lent.{Lent, refusalOf}
@@ -33,5 +33,5 @@ replyOf (Written length) = answering 1 length 0 0
 
 -- what is found before anything is written: the first cause to refuse, or the number of wishes
 abbrev pub wishScan : Option Refusal → List ℕ → WishScan
-wishScan none row = S.the-variants.Sound (wishes row)
+wishScan none row = S.the-variants.Sound (wishCount row)
 wishScan (some r) row = S.the-variants.Refused r

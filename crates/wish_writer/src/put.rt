@@ -25,11 +25,11 @@ fn put_wish(variable: Variable, wish: u8, out: &mut [u8], at: usize) -> usize
     requires { ⌜ at + length (wishLines (wishList (variable .0) (wish ∷ []))) ≤ length (now out) ⌝ }
     ensures { λ r. ⌜ Wrote (wishLines (wishList (variable .0) (wish ∷ []))) (now (out .entry)) at (now (out .exit)) r ⌝ }
 {
-    if 2 <= wish {
+    if !wish::is_wish(wish) {
         return at;
     }
     let second = text::put_column(variable.0, COLUMN_WIDTH, out, at);
-    let end = text::put_column(wish as usize, COLUMN_WIDTH, out, second);
+    let end = text::put_column(wish::wished_value(wish) as usize, COLUMN_WIDTH, out, second);
     text::put_byte(b'\n', out, end)
 }
 

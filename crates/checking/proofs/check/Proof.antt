@@ -4,11 +4,11 @@ use mathlib.Core.Option.{none}
 use lib.ListN.{length}
 use borrow.Author.Needs.{needs}
 use Rattle.formula.specs.Formula.{clauses, literals}
-use Rattle.distance.specs.Distance.{wishes}
+use Rattle.wish.specs.Wish.{totalWeight}
 use Rattle.refusal.specs.Reply.{refused}
 use Rattle.lent.specs.ScanLaws.{problem-refused, problem-sound}
 use Rattle.lent.specs.Scans.{unsound}
-use Rattle.checking.specs.Laws.{refused-early, refused-late, answered}
+use Rattle.checking.specs.Laws.{light, refused-early, refused-late, answered}
 use Rattle.checking.proofs.check.Statement.{statement}
 use Rattle.checking.proofs.check.Tie as tie
 
@@ -30,9 +30,6 @@ enum-known-r-2 c = search needs
 enum-told : tie.Need-enum-told
 enum-told c = search needs
 
-judge-requires : tie.Need-judge-requires
-judge-requires c κs = search needs
-
 returns : tie.Need-returns
 returns c = refused-early (c .before .before .before .before .before .before .args .n) (c .before .before .before .before .before .before .args .rules .now) (c .before .before .before .before .before .before .args .row .now) (c .before .before .before .before .before .before .args .choice .now) (c .before .r .given .0 .0)
     (problem-refused (unsound (c .before .before .before .before .before .before .args .n) 0 (c .before .before .before .before .before .before .args .rules .now) (c .before .before .before .before .before .before .args .row .now)) (c .before .before .before .before .before .before .args .rules .now) (c .before .before .before .before .before .before .args .row .now) (c .before .r .given .0 .0) (sym (c .before .before .before .scan-problem .ensures) ∙ c .before .r .given .1))
@@ -42,10 +39,16 @@ sound : (c : tie.After-known-told2)
     → (unsound (c .before .before .before .before .before .before .args .n) 0 (c .before .before .before .before .before .before .args .rules .now) (c .before .before .before .before .before .before .args .row .now) ≡ none)
     × (c .before .clauses .given .0 .0 ≡ length (clauses (c .before .before .before .before .before .before .args .rules .now)))
     × (c .before .clauses .given .0 .1 .0 ≡ literals (clauses (c .before .before .before .before .before .before .args .rules .now)))
-    × (c .before .clauses .given .0 .1 .1 .0 ≡ wishes (c .before .before .before .before .before .before .args .row .now))
+    × (c .before .clauses .given .0 .1 .1 .0 ≡ totalWeight (c .before .before .before .before .before .before .args .row .now))
 sound c =
     problem-sound (unsound (c .before .before .before .before .before .before .args .n) 0 (c .before .before .before .before .before .before .args .rules .now) (c .before .before .before .before .before .before .args .row .now)) (c .before .before .before .before .before .before .args .rules .now) (c .before .before .before .before .before .before .args .row .now) (c .before .clauses .given .0 .0) (c .before .clauses .given .0 .1 .0) (c .before .clauses .given .0 .1 .1 .0)
     (sym (c .before .before .before .scan-problem .ensures) ∙ c .before .clauses .given .1)
+
+judge-requires : tie.Need-judge-requires
+judge-requires c κs =
+    let known = c .before .before .before in
+    let args = known .before .before .before .before .before .before .args in
+    light (args .n) (args .rules .now) (args .row .now) (args .choice .now) (sound known .0)
 
 returns-2 : tie.Need-returns-2
 returns-2 c = refused-late (c .before .before .before .before .before .before .before .before .before .before .args .n) (c .before .before .before .before .before .before .before .before .before .before .args .rules .now) (c .before .before .before .before .before .before .before .before .before .before .args .row .now) (c .before .before .before .before .before .before .before .before .before .before .args .choice .now) (sound (c .before .before .before .before) .0) (c .before .before .before .before .before .clauses .given .0 .0) (c .before .before .before .before .before .clauses .given .0 .1 .0) (sound (c .before .before .before .before) .1) (sound (c .before .before .before .before) .2) (c .before .r2 .given .0 .0) (sym (c .before .before .before .check-choice .ensures) ∙ ap refused (c .before .r2 .given .1))

@@ -2,16 +2,16 @@
 use mathlib.Core.Path.{_≡_}
 use Prim.Native.Nat.{_+_, _-_, _≤_}
 use native.Mathlib.Omega.{arith}
-use lib.ListN.{length, getD, drop}
+use lib.ListN.{length, drop}
 use borrow.Author.Needs.{needs}
 use borrow.Author.Tests.{ltb-true, ltb-false}
 use Rattle.distance.specs.Distance.{disagreement}
-use Rattle.distance.specs.Laws.{cost-most, disagreement-step, disagreement-past, disagreement-past-row}
+use Rattle.distance.specs.Laws.{disagreement-most, disagreement-step, disagreement-past, disagreement-past-row}
 use Rattle.distance.proofs.disagreement_of.Statement.{statement}
 use Rattle.distance.proofs.disagreement_of.Tie as tie
 
 abbrev Inv-loop : tie.InvT-loop
-Inv-loop row assignment broken₀ i₀ broken i = (broken ≤ i) × (i ≤ length row) × (disagreement row assignment ≡ broken + disagreement (drop i row) (drop i assignment))
+Inv-loop row assignment broken₀ i₀ broken i = (i ≤ length row) × (disagreement row assignment ≡ broken + disagreement (drop i row) (drop i assignment))
 
 abbrev μ-loop : tie.MeasureT-loop
 μ-loop row assignment broken₀ i₀ broken i = length row - i
@@ -30,9 +30,15 @@ cost-of-requires c κs = search needs
 
 add-broken : tie.Need-add-broken Inv-loop μ-loop
 add-broken c =
-    let args = c .before .before .before .before .before .before .before .before .args in
-    let i = c .before .before .before .before .before .loop .i in
-    omega (arith, cost-most (getD (args .row .now) i 0) (getD (args .assignment .now) i 0), c .cost-of .ensures)
+    let inside = c .before .before .before .before in
+    let at = inside .before .loop in
+    let args = inside .before .before .before .before .args in
+    omega (
+      arith,
+      c .cost-of .ensures,
+      disagreement-most (args .row .now) (args .assignment .now),
+      disagreement-step (args .row .now) (args .assignment .now) (at .i) (inside .loop-test .taken) (ltb-true (at .i) (length (args .assignment .now)) (c .before .before .before .if1 .taken)),
+    )
 
 add-i : tie.Need-add-i Inv-loop μ-loop
 add-i c = search needs
@@ -42,13 +48,13 @@ loop-less c = search needs
 
 loop-again : tie.Need-loop-again Inv-loop μ-loop
 loop-again c =
-    let args = c .before .before .before .before .before .before .before .before .args in
-    let i = c .before .before .before .before .before .loop .i in
+    let inside = c .before .before .before .before in
+    let at = inside .before .loop in
+    let args = inside .before .before .before .before .args in
     omega (
       arith,
-      cost-most (getD (args .row .now) i 0) (getD (args .assignment .now) i 0),
       c .cost-of .ensures,
-      disagreement-step (args .row .now) (args .assignment .now) i (c .before .before .before .before .loop-test .taken) (ltb-true i (length (args .assignment .now)) (c .before .before .before .if1 .taken)),
+      disagreement-step (args .row .now) (args .assignment .now) (at .i) (inside .loop-test .taken) (ltb-true (at .i) (length (args .assignment .now)) (c .before .before .before .if1 .taken)),
     )
 
 returns : tie.Need-returns Inv-loop μ-loop

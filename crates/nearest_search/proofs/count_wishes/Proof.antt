@@ -4,14 +4,14 @@ use Prim.Native.Nat.{_+_, _-_, _≤_}
 use native.Mathlib.Omega.{arith}
 use lib.ListN.{length, getD, drop}
 use borrow.Author.Needs.{needs}
-use Rattle.distance.specs.Distance.{wishes}
-use Rattle.distance.specs.Laws.{weight-most}
-use Rattle.lent.specs.Laws.{wishes-step, wishes-end}
+use Rattle.wish.specs.Wish.{totalWeight}
+use Rattle.wish.specs.Laws.{weight-most}
+use Rattle.wish.specs.RowLaws.{weight-step, weight-end}
 use Rattle.nearest_search.proofs.count_wishes.Statement.{statement}
 use Rattle.nearest_search.proofs.count_wishes.Tie as tie
 
 abbrev Inv-loop : tie.InvT-loop
-Inv-loop row count₀ i₀ count i = (i ≤ length row) × (count ≤ i) × (count + wishes (drop i row) ≡ wishes row)
+Inv-loop row count₀ i₀ count i = (i ≤ length row) × (count ≤ i) × (count + totalWeight (drop i row) ≡ totalWeight row)
 
 abbrev μ-loop : tie.MeasureT-loop
 μ-loop row count₀ i₀ count i = length row - i
@@ -40,11 +40,11 @@ loop-again c =
     let at = c .before .before .before .loop in (
       omega (arith, c .before .before .loop-test .taken),
       omega (arith, weight-most (getD row (at .i) 0), c .weight-of .ensures, at .inv .1),
-      omega (arith, wishes-step row (at .i) (c .before .before .loop-test .taken), c .weight-of .ensures, at .inv .2),
+      omega (arith, weight-step row (at .i) (c .before .before .loop-test .taken), c .weight-of .ensures, at .inv .2),
     )
 
 returns : tie.Need-returns Inv-loop μ-loop
-returns c = omega (arith, wishes-end (c .before .before .before .args .row .now) (c .before .loop .i) (c .loop-test .left), c .before .loop .inv .2)
+returns c = omega (arith, weight-end (c .before .before .before .args .row .now) (c .before .loop .i) (c .loop-test .left), c .before .loop .inv .2)
 
 pub count-wishes-spec : {M : Type 1} → statement M
 count-wishes-spec =

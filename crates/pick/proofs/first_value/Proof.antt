@@ -2,7 +2,8 @@
 use mathlib.Core.Path.{sym, ap, _∙_}
 use Rattle.opposed.specs.declared.fewest.Fewest.{Fewest}
 use Rattle.opposed.specs.Opposed.{sizeOf}
-use Rattle.walk.specs.Walk.{unwishedValue, firstValue}
+use Rattle.wish.specs.Wish.{unwishedValue}
+use Rattle.walk.specs.Walk.{firstValue}
 use borrow.Author.Needs.{needs}
 use Rattle.pick.proofs.first_value.Statement.{statement}
 use Rattle.pick.proofs.first_value.Tie as tie

@@ -7,6 +7,7 @@ use native.Mathlib.Omega.{arith}
 use lib.ListN.{length, take, replicate, length-replicate}
 use borrow.Author.Needs.{needs}
 use Rattle.formula.specs.Formula.{clauses}
+use Rattle.wish.specs.Wish.{freeByte}
 use Rattle.refusal.specs.Reply.{refused}
 use Rattle.lent.specs.Lent.{refusalOf}
 use Rattle.walk.specs.Walk.{walk, plainWalk}
@@ -32,8 +33,8 @@ module _ (c : tie.After-enum-told) where
   started = startable-plain (c .before .before .before .before .args .n) (c .before .before .before .before .args .rules .now) (length (c .before .before .before .before .args .choice .now)) passed
 
 -- the row that is lent on is all free
-free : (c : tie.After-no-wishes) → take (c .before .before .before .before .before .args .n) (c .no-wishes .result) ≡ replicate (c .before .before .before .before .before .args .n) 2
-free c = ap (take (c .before .before .before .before .before .args .n)) (c .no-wishes .ensures) ∙ take-replicate (c .before .before .before .before .before .args .n) 640 2 (started (c .before) .few)
+free : (c : tie.After-no-wishes) → take (c .before .before .before .before .before .args .n) (c .no-wishes .result) ≡ replicate (c .before .before .before .before .before .args .n) freeByte
+free c = ap (take (c .before .before .before .before .before .args .n)) (c .no-wishes .ensures) ∙ take-replicate (c .before .before .before .before .before .args .n) 640 freeByte (started (c .before) .few)
 
 check-plain-requires : tie.Need-check-plain-requires
 check-plain-requires c κs = search needs
@@ -56,7 +57,7 @@ no-wishes-requires : tie.Need-no-wishes-requires
 no-wishes-requires c κs = search needs
 
 array-share-prefix-row : tie.Need-array-share-prefix-row
-array-share-prefix-row c = omega (arith, ap length (c .no-wishes .ensures), length-replicate {A = ℕ} 640 2, started (c .before) .few)
+array-share-prefix-row c = omega (arith, ap length (c .no-wishes .ensures), length-replicate {A = ℕ} 640 freeByte, started (c .before) .few)
 
 slice-aggregate-walk-into : tie.Need-slice-aggregate-walk-into
 slice-aggregate-walk-into c = sym (ap length (free (c .before)) ∙ length-replicate (c .before .before .before .before .before .before .args .n) 2)

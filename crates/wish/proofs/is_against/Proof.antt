@@ -3,7 +3,7 @@ use mathlib.Core.Path.{ap, ap₂, _∙_}
 use mir.Syntax.{w32}
 use mir.ValLaws.{toZ-ofZ}
 use Rattle.literal.specs.Literal.{variable, wanted, value}
-use Rattle.walk.specs.Branching.{breaks}
+use Rattle.wish.specs.Wish.{breaks}
 use borrow.Author.Needs.{needs}
 use Rattle.wish.proofs.is_against.Statement.{statement}
 use Rattle.wish.proofs.is_against.Tie as tie

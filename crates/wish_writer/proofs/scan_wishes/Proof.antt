@@ -2,12 +2,14 @@
 use mathlib.Core.Path.{_≡_, sym, ap, _∙_}
 use mathlib.Core.Option.{none}
 use native.Mathlib.Omega.{arith}
-use Rattle.distance.specs.Distance.{wishes}
+use Rattle.wish.specs.Wish.{wishCount}
+use Rattle.wish.specs.RowLaws.{count-weight}
+use Rattle.wish.specs.UnitWeights.{weight-count}
 use Rattle.refusal.specs.Reply.{refused, cause}
 use Rattle.lent.specs.Lent.{outOfRange}
 use Rattle.lent.specs.ScanLaws.{row-unsound, row-sound}
 use Rattle.lent.specs.Sound.{badWish}
-use Rattle.wish_file.specs.WishLaws.{sound-parts}
+use Rattle.lent.specs.Laws.{sound-weight}
 use Rattle.wish_writer.specs.Laws.{by-range, by-row, by-later, by-nothing}
 use borrow.Author.Needs.{needs}
 use Rattle.wish_writer.proofs.scan_wishes.Statement.{statement}
@@ -41,15 +43,16 @@ enum-known-wishes : tie.Need-enum-known-wishes
 enum-known-wishes c = search needs
 
 -- past the scan of the row: it is sound, with so many wishes
-sound : (c : tie.After-known-told3) → (badWish 0 0 (c .before .before .before .before .before .before .before .before .args .row .now) ≡ none) × (c .before .wishes .given .0 .0 ≡ wishes (c .before .before .before .before .before .before .before .before .args .row .now))
+sound : (c : tie.After-known-told3) → (badWish 0 0 (c .before .before .before .before .before .before .before .before .args .row .now) ≡ none) × (c .before .wishes .given .0 .0 ≡ wishCount (c .before .before .before .before .before .before .before .before .args .row .now))
 sound c =
     let row = c .before .before .before .before .before .before .before .before .args .row .now in
-    row-sound (badWish 0 0 row) row (c .before .wishes .given .0 .0) (sym (c .before .before .before .scan-row .ensures) ∙ c .before .wishes .given .1)
+    let (good, weighed) = row-sound (badWish 0 0 row) row (c .before .wishes .given .0 .0) (sym (c .before .before .before .scan-row .ensures) ∙ c .before .wishes .given .1) in
+    (good, weighed ∙ weight-count row)
 
 check-sizes-requires : tie.Need-check-sizes-requires
 check-sizes-requires c κs =
     let row = c .before .before .before .before .before .before .before .before .args .row .now in
-    omega (arith, sound c .1, sound-parts row 0 0 (omega arith) (sound c .0) .1)
+    omega (arith, sound c .1, count-weight row, sound-weight row (sound c .0))
 
 enum-known-r-2 : tie.Need-enum-known-r-2
 enum-known-r-2 c = search needs

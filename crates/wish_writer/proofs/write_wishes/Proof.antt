@@ -3,7 +3,8 @@ use mathlib.Core.Path.{_≡_}
 use mathlib.Core.Option.{none}
 use native.Mathlib.Omega.{arith}
 use lib.ListN.{length}
-use Rattle.distance.specs.Distance.{wishes}
+use lib.Seq.{sets}
+use Rattle.wish.specs.Wish.{wishCount}
 use Rattle.lent.specs.Lent.{refusalOf}
 use Rattle.text.specs.Wrote.{Wrote, wrote-more, wrote-as, wrote-whole}
 use Rattle.wish_file.specs.Format.{written}
@@ -25,7 +26,7 @@ enum-known-wishes c = search needs
 -- past the scan: no cause, and the number of wishes
 sound : (c : tie.After-known-told2)
     → (refusalOf (lentToWrite (c .before .before .before .before .before .before .args .n) (c .before .before .before .before .before .before .args .row .now) (c .before .before .before .before .before .before .args .d) (length (c .before .before .before .before .before .before .args .file .now))) ≡ none)
-    × (c .before .wishes .given .0 .0 ≡ wishes (c .before .before .before .before .before .before .args .row .now))
+    × (c .before .wishes .given .0 .0 ≡ wishCount (c .before .before .before .before .before .before .args .row .now))
 sound c =
     let args = c .before .before .before .before .before .before .args in
     scan-sound (refusalOf (lentToWrite (args .n) (args .row .now) (args .d) (length (args .file .now)))) (args .row .now) (c .before .before .before .scan-wishes .result) (c .before .wishes .given .0 .0)

@@ -2,7 +2,7 @@
 use mathlib.Core.Path.{sym, ap, _∙_}
 use mathlib.Core.Bool.{Bool, cond}
 use borrow.Author.Tests.{eq-eqb, ne-eqb}
-use Rattle.walk.specs.Walk.{wishedValue}
+use Rattle.wish.specs.Wish.{wishedValue}
 use borrow.Author.Needs.{needs}
 use Rattle.completion.proofs.byte.complete_byte.Statement.{statement}
 use Rattle.completion.proofs.byte.complete_byte.Tie as tie

@@ -3,7 +3,7 @@ use mathlib.Core.Path.{sym, ap, _∙_}
 use mir.Syntax.{w32}
 use mir.ValLaws.{toZ-ofZ}
 use Rattle.literal.specs.Literal.{holds}
-use Rattle.walk.specs.Branching.{isAgainst}
+use Rattle.wish.specs.Wish.{isAgainst}
 use Rattle.walk.specs.State.{isUnassigned}
 use Rattle.opposed.specs.Laws.{opposes-held, opposes-unassigned, opposes-assigned}
 use borrow.Author.Needs.{needs}

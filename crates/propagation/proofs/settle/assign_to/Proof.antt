@@ -3,8 +3,8 @@ use mathlib.Core.Path.{_≡_, sym, ap, _∙_}
 use Prim.Native.Nat.{ℕ, _+_}
 use native.Mathlib.Omega.{arith}
 use Rattle.literal.specs.Literal.{value}
-use Rattle.distance.specs.Distance.{cost}
-use Rattle.distance.specs.Laws.{cost-most}
+use Rattle.wish.specs.Wish.{cost}
+use Rattle.wish.specs.Laws.{cost-most}
 use Rattle.walk.specs.Assignment.{assign-set}
 use borrow.Author.Needs.{needs}
 use Rattle.propagation.proofs.settle.assign_to.Statement.{statement}

@@ -1,8 +1,8 @@
--- `wish_reader::fill::mark_row` meets its contract. The loop's invariant: with the marks of the lines to come, the row is what it is to be, and their wishes rise.
+-- `wish_reader::fill::mark_row` meets its contract. The loop's invariant: with the wishes of the lines to come, the row is what it is to be, and their wishes rise.
 use mathlib.Core.Path.{_≡_, sym, ap, _∙_}
 use Prim.Native.Nat.{ℕ, _+_, _-_, _≤_, _<_}
 use native.Mathlib.Omega.{arith}
-use lib.ListN.{length, drop, length-set}
+use lib.ListN.{length, drop, length-set, set}
 use borrow.Author.Needs.{needs}
 use Rattle.wish_file.specs.Format.{wishesIn}
 use Rattle.wish_file.specs.Wishes.{marked, Rising}
@@ -41,17 +41,20 @@ fits c =
     let loop = c .before .before .before .loop in
     mark-fits (c .before .before .before .before .before .before .args .file .now) (length (c .before .before .before .before .before .before .args .row .now)) (loop .left) (loop .at) (c .before .field-at .result) (c .field-at2 .result) (c .before .before .loop-test .taken) (loop .inv .1) (c .before .field-at .ensures) (c .field-at2 .ensures)
 
-cast-row : tie.Need-cast-row Inv-loop μ-loop
-cast-row c = omega (arith, fits c)
+cast-wish-for : tie.Need-cast-wish-for Inv-loop μ-loop
+cast-wish-for c = omega (arith, fits c)
+
+wish-for-requires : tie.Need-wish-for-requires Inv-loop μ-loop
+wish-for-requires c κs = omega (arith, fits c)
 
 sub-row : tie.Need-sub-row Inv-loop μ-loop
-sub-row c = omega (arith, fits c)
+sub-row c = omega (arith, fits (c .before))
 
 slice-write-row : tie.Need-slice-write-row Inv-loop μ-loop
-slice-write-row c = omega (arith, fits c)
+slice-write-row c = omega (arith, fits (c .before))
 
 add-at : tie.Need-add-at Inv-loop μ-loop
-add-at c = omega (arith, long (c .before .before))
+add-at c = omega (arith, long (c .before .before .before))
 
 sub-left : tie.Need-sub-left Inv-loop μ-loop
 sub-left c = search needs
@@ -61,15 +64,19 @@ loop-less c = search needs
 
 loop-again : tie.Need-loop-again Inv-loop μ-loop
 loop-again c =
-    let file = c .before .before .before .before .before .before .args .file .now in
-    let size = length (c .before .before .before .before .before .before .args .row .now) in
-    let loop = c .before .before .before .loop in
-    let x = c .before .field-at .result in
-    let y = c .field-at2 .result in
-    let h = c .before .before .loop-test .taken in (
-      length-set (loop .row) (x - 1) y ∙ loop .inv .0,
-      mark-after file size (loop .left) (loop .at) x y h (loop .inv .1) (c .before .field-at .ensures) (c .field-at2 .ensures),
-      loop .inv .2 ∙ mark-step file size (loop .left) (loop .at) x y h (loop .inv .1) (c .before .field-at .ensures) (c .field-at2 .ensures) (loop .row),
+    let read = c .before in
+    let start = read .before .before .before .before .before .before in
+    let file = start .args .file .now in
+    let size = length (start .args .row .now) in
+    let loop = read .before .before .before .loop in
+    let x = read .before .field-at .result in
+    let y = read .field-at2 .result in
+    let h = read .before .before .loop-test .taken in (
+      length-set (loop .row) (x - 1) (c .wish-for .result) ∙ loop .inv .0,
+      mark-after file size (loop .left) (loop .at) x y h (loop .inv .1) (read .before .field-at .ensures) (read .field-at2 .ensures),
+      loop .inv .2
+          ∙ mark-step file size (loop .left) (loop .at) x y h (loop .inv .1) (read .before .field-at .ensures) (read .field-at2 .ensures) (loop .row)
+          ∙ ap (λ (b : ℕ). marked (set (loop .row) (x - 1) b) (wishesIn (loop .left - 1) (drop (loop .at + 11) file))) (sym (c .wish-for .ensures)),
     )
 
 same-length : tie.Need-same-length Inv-loop μ-loop
@@ -92,7 +99,8 @@ mark-row-spec =
     field-at-requires
     add-field-at
     field-at-requires-2
-    cast-row
+    cast-wish-for
+    wish-for-requires
     sub-row
     slice-write-row
     add-at

@@ -1,18 +1,39 @@
 -- `wish_writer::put::put_wish` meets its contract: a free variable has no line; the line of a wish has two columns and a line feed.
-use mathlib.Core.Path.{sym, ap}
-use mathlib.Core.List.{[], _∷_}
+use mathlib.Core.Path.{sym, ap, _≡_, _∙_}
+use mathlib.Core.List.{[], _∷_, List}
 use native.Mathlib.Omega.{arith}
-use lib.ListN.{length}
+use lib.ListN.{length, set, length-set}
 use borrow.Author.Needs.{needs}
 use Rattle.text.specs.Wrote.{wrote-none, wrote-more, wrote-as}
 use Rattle.wish_writer.specs.Writing.{line-parts, line-free, line-wish}
+use mathlib.Core.Bool.{true}
+use Prim.Native.Nat.{ℕ}
+use lib.Seq.{sets}
+use Rattle.wish.specs.Wish.{isWish, wishedValue}
+use Rattle.wish.specs.Laws.{wished-bit}
+use Rattle.wish_file.specs.Format.{wishLines}
+use Rattle.wish_file.specs.Layout.{line}
+use Rattle.wish_file.specs.Wishes.{wishList}
+use borrow.Author.Tests.{not-true, not-false}
 use Rattle.wish_writer.proofs.put.put_wish.Statement.{statement}
 use Rattle.wish_writer.proofs.put.put_wish.Tie as tie
+
+is-wish-requires : tie.Need-is-wish-requires
+is-wish-requires c κs = search needs
 
 returns : tie.Need-returns
 returns c =
     let args = c .before .before .args in
     wrote-as (sym (line-free (args .variable .0) (args .wish) (c .if1 .taken))) (wrote-none (args .out .now) (args .at))
+
+-- past the test: the byte is a wish, and its line has 11 bytes
+wished : (c : tie.After-put-column-arg) → isWish (c .before .before .before .before .args .wish) ≡ true
+wished c = sym (c .before .before .is-wish .ensures) ∙ not-false _ (c .before .if1 .left)
+
+long : (c : tie.After-put-column-arg) → length (wishLines (wishList (c .before .before .before .before .args .variable .0) (c .before .before .before .before .args .wish ∷ []))) ≡ 11
+long c =
+    let start = c .before .before .before .before in
+    wish-length (start .args .variable .0) (start .args .wish) (start .pre .0) (wished c)
 
 put-column-requires : tie.Need-put-column-requires
 put-column-requires c κs =
@@ -72,8 +93,11 @@ pub put-wish-spec : {M : Type 1} → statement M
 put-wish-spec =
     tie.close
     (tie.spec
+    is-wish-requires
     returns
     put-column-requires
+    wished-value-requires
+    cast-put-column
     put-column-requires-2
     put-byte-requires
     same-length

@@ -1,0 +1,125 @@
+-- The laws of a byte of the wish row. Proofs elsewhere go by these, and not by the numbers that stand for a wish.
+use mathlib.Core.Path.{_≡_, refl, sym, ap, _∙_}
+use mathlib.Core.Bool.{Bool, true, false, cond}
+use Prim.Native.Nat.{ℕ, zero, suc, _-_, _≤_, _<_, zero-le}
+use native.Mathlib.Nat.{le-refl, not-suc-le-zero, le-of-suc-le-suc}
+use native.Mathlib.Omega.{arith}
+use lib.Dec.{eqb, lit<}
+use borrow.Author.Tests.{lt-ltb, le-leb, ltb-true, ltb-false, leb-true, eq-eqb, ne-eqb, eqb-true}
+use Rattle.literal.specs.Literal.{variable, wanted, literal}
+use Rattle.wish.specs.Wish.{isRowByte, freeByte, isWish, wishFor, wishedValue, unwishedValue, weight, maxWeight, cost, breaking}
+
+-- the byte of a free variable, and the only one that is no wish
+pub free-byte : isRowByte freeByte ≡ true
+free-byte = refl
+
+pub free-no-wish : isWish freeByte ≡ false
+free-no-wish = refl
+
+pub no-wish-free : (w : ℕ) → isRowByte w ≡ true → isWish w ≡ false → w ≡ freeByte
+no-wish-free w h e = omega (arith, leb-true w 2 h, ltb-false w 2 e)
+
+-- the byte of a wish asks its value, and is known by it
+pub for-byte : (b : ℕ) → b < 2 → isRowByte (wishFor b) ≡ true
+for-byte b h = le-leb b 2 (omega arith)
+
+pub for-wish : (b : ℕ) → b < 2 → isWish (wishFor b) ≡ true
+for-wish b h = lt-ltb b 2 h
+
+pub for-wished : (b : ℕ) → b < 2 → wishedValue (wishFor b) ≡ b
+for-wished b h = rw (lt-ltb b 2 h)
+
+pub wished-for : (w : ℕ) → isWish w ≡ true → wishFor (wishedValue w) ≡ w
+wished-for w e = rw e
+
+-- both values are off or on
+pub wished-bit : (w : ℕ) → wishedValue w < 2
+wished-bit w = go (isWish w) refl
+  where
+    go : (t : Bool) → isWish w ≡ t → cond t w 0 < 2
+    go true e = ltb-true w 2 e
+    go false e = lit< tt
+
+pub unwished-bit : (w : ℕ) → unwishedValue w < 2
+unwished-bit w = go (isWish w)
+  where
+    go : (t : Bool) → cond t (1 - w) 0 < 2
+    go true = omega arith
+    go false = lit< tt
+
+-- a wish weighs something, a free variable nothing
+pub weight-wish : (w : ℕ) → isWish w ≡ true → 0 < weight w
+weight-wish w e = rw e (lit< tt)
+
+pub weight-free : (w : ℕ) → isWish w ≡ false → weight w ≡ 0
+weight-free w e = rw e
+
+pub weight-most : (w : ℕ) → weight w ≤ maxWeight
+weight-most w = go (isWish w)
+  where
+    go : (t : Bool) → cond t 1 0 ≤ maxWeight
+    go true = le-refl 1
+    go false = zero-le
+
+-- the value against a wish costs the wish's weight, and nothing else costs anything
+pub cost-broken : (w b : ℕ) → b ≡ unwishedValue w → cost w b ≡ weight w
+cost-broken w b e = rw (eq-eqb b (unwishedValue w) e)
+
+pub cost-kept : (w b : ℕ) → (b ≡ unwishedValue w → ⊥) → cost w b ≡ 0
+cost-kept w b e = rw (ne-eqb b (unwishedValue w) e)
+
+pub cost-weight : (w b : ℕ) → cost w b ≤ weight w
+cost-weight w b = go (eqb b (unwishedValue w))
+  where
+    go : (t : Bool) → cond t (weight w) 0 ≤ weight w
+    go true = le-refl (weight w)
+    go false = zero-le
+
+pub cost-most : (w b : ℕ) → cost w b ≤ maxWeight
+cost-most w b = omega (arith, cost-weight w b, weight-most w)
+
+pub cost-free : (w b : ℕ) → isWish w ≡ false → cost w b ≡ 0
+cost-free w b e = omega (arith, cost-weight w b, weight-free w e)
+
+-- a free variable, by its byte
+pub free-cost : (b : ℕ) → cost freeByte b ≡ 0
+free-cost b = cost-free freeByte b free-no-wish
+
+-- an unassigned variable breaks no wish
+pub cost-unassigned : (w : ℕ) → cost w 2 ≡ 0
+cost-unassigned w = cost-kept w 2 (λ e. omega (arith, unwished-bit w))
+
+-- the wished value costs nothing
+pub cost-wished : (w : ℕ) → cost w (wishedValue w) ≡ 0
+cost-wished w = go (isWish w) refl
+  where
+    go : (t : Bool) → isWish w ≡ t → cost w (wishedValue w) ≡ 0
+    go true e = cost-kept w (wishedValue w) (λ q. apart w e (sym (ap (λ (s : Bool). cond s w 0) e) ∙ q ∙ ap (λ (s : Bool). cond s (1 - w) 0) e))
+      where
+        apart : (w : ℕ) → isWish w ≡ true → w ≡ 1 - w → ⊥
+        apart w e q = omega (arith, ltb-true w 2 e)
+    go false e = cost-free w (wishedValue w) e
+
+-- what costs something is the value against the wish
+pub cost-unwished : (w b : ℕ) → 0 < cost w b → b ≡ unwishedValue w
+cost-unwished w b h = go (eqb b (unwishedValue w)) refl h
+  where
+    go : (t : Bool) → eqb b (unwishedValue w) ≡ t → 0 < cond t (weight w) 0 → b ≡ unwishedValue w
+    go true e h = eqb-true b (unwishedValue w) e
+    go false e h = absurd (not-suc-le-zero h)
+
+-- the literal that breaks a wish has the wish's variable, and wants the value against the wish
+pub breaking-variable : (k w : ℕ) → variable (breaking (suc k) w) ≡ suc k
+breaking-variable k w = go (eqb (unwishedValue w) 1)
+  where
+    go : (t : Bool) → variable (literal (suc k) t) ≡ suc k
+    go true = refl
+    go false = refl
+
+pub breaking-wanted : (k w : ℕ) → wanted (breaking (suc k) w) ≡ unwishedValue w
+breaking-wanted k w = go (unwishedValue w) (unwished-bit w)
+  where
+    go : (b : ℕ) → b < 2 → wanted (literal (suc k) (eqb b 1)) ≡ b
+    go zero h = refl
+    go (suc zero) h = refl
+    go (suc (suc b)) h = absurd (not-suc-le-zero (le-of-suc-le-suc (le-of-suc-le-suc h)))

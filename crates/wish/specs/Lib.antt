@@ -1,0 +1,4 @@
+pub mod Laws
+pub mod RowLaws
+pub mod UnitWeights
+pub mod Wish
