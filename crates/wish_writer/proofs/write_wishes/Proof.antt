@@ -5,7 +5,7 @@ use native.Mathlib.Omega.{arith}
 use lib.ListN.{length}
 use Rattle.distance.specs.Distance.{wishes}
 use Rattle.lent.specs.Lent.{refusalOf}
-use Rattle.text.specs.Wrote.{Wrote, wrote-more, wrote-as, wrote-whole}
+use Rattle.writing.specs.Wrote.{Wrote, wrote-more, wrote-as, wrote-whole}
 use Rattle.wish_file.specs.Format.{written}
 use Rattle.wish_writer.specs.Laws.{scan-refused, scan-sound, Writable, writable, parts, head-length, whole-length, fits-room, refused-for, answered}
 use Rattle.wish_writer.specs.Write.{lentToWrite}

@@ -4,7 +4,7 @@ use mathlib.Core.List.{[], _∷_}
 use native.Mathlib.Omega.{arith}
 use lib.ListN.{length}
 use borrow.Author.Needs.{needs}
-use Rattle.text.specs.Wrote.{wrote-none, wrote-more, wrote-as}
+use Rattle.writing.specs.Wrote.{wrote-none, wrote-more, wrote-as}
 use Rattle.wish_writer.specs.Writing.{line-parts, line-free, line-wish}
 use Rattle.wish_writer.proofs.put.put_wish.Statement.{statement}
 use Rattle.wish_writer.proofs.put.put_wish.Tie as tie
