@@ -11,7 +11,7 @@ use lib.IntN.{ℤ, pos, negℤ}
 use lib.ListN.{length, length-append}
 use borrow.Author.Tests.{lt-ltb, le-ltb, eq-eqb, ne-eqb, eqb-true, eqb-false}
 use Rattle.literal.specs.Literal.{variable}
-use Rattle.emit.specs.Wrote.{Wrote, wrote-as, wrote-more, wrote-length}
+use Rattle.writing.specs.Wrote.{Wrote, wrote-as, wrote-more, wrote-length}
 use Rattle.soundness.specs.Flat.{flat}
 use Rattle.soundness.specs.Laws.{flat-append}
 use Rattle.totalizer.specs.Totalizer.{lower, upper, up, down, below}

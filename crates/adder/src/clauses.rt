@@ -5,7 +5,7 @@ use crate::outputs::put_upper;
 use literal::Variable;
 ghost use Prim.Native.Nat.{_+_, _<_, _≤_};
 ghost use lib.ListN.{length};
-ghost use Rattle.emit.specs.Wrote.{Wrote};
+ghost use Rattle.writing.specs.Wrote.{Wrote};
 ghost use Rattle.soundness.specs.Flat.{flat};
 ghost use Rattle.adder.specs.Adder.{Small, upClauses, downClauses, row, clauses};
 

@@ -4,7 +4,7 @@ ghost use mathlib.Core.Path.{_≡_};
 ghost use Prim.Native.Nat.{_+_, _<_, _≤_};
 ghost use lib.ListN.{length};
 ghost use Rattle.limits.specs.Limits.{maxVariables};
-ghost use Rattle.emit.specs.Wrote.{Wrote};
+ghost use Rattle.writing.specs.Wrote.{Wrote};
 ghost use Rattle.totalizer.specs.Totalizer.{lower, upper};
 ghost use Rattle.adder.specs.Adder.{outputs, reach};
 

@@ -13,7 +13,7 @@ use borrow.Author.Tests.{lt-ltb, le-ltb}
 use Rattle.limits.specs.Limits.{maxVariables, maxWishes}
 use Rattle.soundness.specs.Flat.{flat}
 use Rattle.soundness.specs.Laws.{length-flat, flat-append}
-use Rattle.emit.specs.Wrote.{Wrote, wrote-as}
+use Rattle.writing.specs.Wrote.{Wrote, wrote-as}
 use Rattle.totalizer.specs.Totalizer.{tree, size, added, output, totalizer, limit, atMost}
 use Rattle.totalizer.specs.Trees.{tree-size}
 use Rattle.totalizer.specs.Sizes.{totalizer-length, totalizer-literals}

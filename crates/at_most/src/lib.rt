@@ -7,7 +7,7 @@ ghost use lib.IntN.{ℤ};
 ghost use lib.ListN.{length};
 ghost use Rattle.limits.specs.Limits.{maxVariables, maxWishes};
 ghost use Rattle.soundness.specs.Flat.{flat};
-ghost use Rattle.emit.specs.Wrote.{Wrote};
+ghost use Rattle.writing.specs.Wrote.{Wrote};
 ghost use Rattle.totalizer.specs.Totalizer.{tree, added, atMost};
 ghost use Rattle.adder.specs.Adder.{outputs, reach};
 ghost use Rattle.groups.specs.Groups.{LeavesFit};

@@ -7,7 +7,7 @@ use lib.ListN.{getD}
 use Rattle.literal.specs.Literal.{variable}
 use Rattle.limits.specs.Limits.{maxVariables}
 use Rattle.soundness.specs.Flat.{flat}
-use Rattle.emit.specs.Wrote.{Wrote}
+use Rattle.writing.specs.Wrote.{Wrote}
 use Rattle.totalizer.specs.Totalizer.{tree, added, output, totalizer}
 use Rattle.adder.specs.declared.clauses.Adder.{Adder}
 use Rattle.adder.specs.declared.outputs.Outputs.the-variants.{Counters}

@@ -12,7 +12,7 @@ use borrow.Author.Tests.{ltb-true, ltb-false}
 use Rattle.literal.specs.Literal.{variable}
 use Rattle.limits.specs.Limits.{maxVariables, maxWishes}
 use Rattle.soundness.specs.Flat.{flat}
-use Rattle.emit.specs.Wrote.{Wrote, wrote-none, wrote-as}
+use Rattle.writing.specs.Wrote.{Wrote, wrote-none, wrote-as}
 use Rattle.totalizer.specs.Totalizer.{Tree, leaf, node, tree, size, added, output, adder, totalizer}
 use Rattle.totalizer.specs.Trees.{tree-split, tree-size}
 use Rattle.totalizer.specs.Sizes.{added-most}

@@ -2,7 +2,7 @@
 use literal::Variable;
 ghost use Prim.Native.Nat.{_+_, _<_, _≤_};
 ghost use lib.ListN.{length};
-ghost use Rattle.text.specs.Wrote.{Wrote};
+ghost use Rattle.writing.specs.Wrote.{Wrote};
 ghost use Rattle.nearest_text.specs.Printed.{lineBreak, entry, values};
 
 // How many values stand on a line.

@@ -7,7 +7,7 @@ use lib.ListN.{length, length-append}
 use borrow.Author.Tests.{lt-ltb, le-ltb}
 use Rattle.refusal.specs.Reply.{refusal}
 use Rattle.decimal.specs.Decimal.{decimal}
-use Rattle.text.specs.Wrote.{Wrote, wrote-none, wrote-whole}
+use Rattle.writing.specs.Wrote.{Wrote, wrote-none, wrote-whole}
 use Rattle.report.specs.Report.{refusalLine, fitted}
 
 -- a text that does not fit, and one that does

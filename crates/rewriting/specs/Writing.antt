@@ -11,7 +11,7 @@ use Rattle.refusal.specs.Reply.{filled}
 use Rattle.limits.specs.Limits.{maxVariables, maxWishes}
 use Rattle.wish.specs.Wish.{totalWeight}
 use Rattle.soundness.specs.Flat.{flat}
-use Rattle.emit.specs.Wrote.{Wrote, wrote-as, wrote-more, wrote-length, wrote-whole, wrote-front}
+use Rattle.writing.specs.Wrote.{Wrote, wrote-as, wrote-more, wrote-length, wrote-whole, wrote-front}
 use Rattle.totalizer.specs.Totalizer.{leaves, tree, added, atMost, rewrittenVariables, rewritten}
 use Rattle.totalizer.specs.Trees as trees
 use Rattle.totalizer.specs.Rows.{leaves-length, leaves-within}

@@ -37,9 +37,7 @@ signed-most (negsuc k) h = numeral-most 9 (negsuc k) (omega arith)
 
 -- a column is as wide as it is to be, or as its number
 pub column-size : (width v : ℕ) → length (column width v) ≡ (width - length (decimal v)) + length (decimal v)
-column-size width v =
-    length-append (replicate (width - length (decimal v)) 32) (decimal v)
-    ∙ ap (λ (k : ℕ). k + length (decimal v)) (length-replicate {A = ℕ} (width - length (decimal v)) 32)
+column-size width v = simp (length-append, length-replicate) (omega arith)
 
 pub column-length : (width v : ℕ) → length (decimal v) ≤ width → length (column width v) ≡ width
 column-length width v h = omega (arith, column-size width v)

@@ -4,7 +4,7 @@ use crate::number;
 ghost use Prim.Native.Nat.{_+_, _≤_};
 ghost use lib.ListN.{length};
 ghost use Rattle.text.specs.Text.{column};
-ghost use Rattle.text.specs.Wrote.{Wrote};
+ghost use Rattle.writing.specs.Wrote.{Wrote};
 
 // Puts a number right-justified in a column, which a number with more digits overruns.
 pub fn put_column(v: usize, width: usize, out: &mut [u8], from: usize) -> usize

@@ -25,7 +25,7 @@ use Rattle.wish_file.specs.LayoutLaws.{line-length, column-length}
 use Rattle.wish_file.specs.RoundTrip.{written-length}
 use Rattle.wish_file.specs.Wishes.{wishList, wishAs}
 use Rattle.decimal.specs.Decimal.{decimal}
-use Rattle.text.specs.Wrote.{sets-append}
+use Rattle.writing.specs.Wrote.{sets-append}
 use Rattle.wish_writer.specs.Write.{lentToWrite, writeReply, writeOutput, wishScan}
 use Rattle.wish_writer.specs.declared.WishScan.{WishScan}
 use Rattle.wish_writer.specs.declared.WishScan.the-variants.{Refused, Sound}

@@ -4,7 +4,7 @@ use wish_file::COLUMN_WIDTH;
 ghost use mathlib.Core.List.{[], _∷_};
 ghost use Prim.Native.Nat.{_+_, _≤_};
 ghost use lib.ListN.{length};
-ghost use Rattle.text.specs.Wrote.{Wrote};
+ghost use Rattle.writing.specs.Wrote.{Wrote};
 ghost use Rattle.wish_file.specs.Format.{wishLines};
 ghost use Rattle.wish_file.specs.Layout.{line};
 ghost use Rattle.wish_file.specs.Wishes.{wishList};

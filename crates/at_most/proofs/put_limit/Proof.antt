@@ -9,7 +9,7 @@ use mir.Syntax.{w32}
 use mir.Val.{toZ, ofZ}
 use Rattle.literal.specs.Literal.{variable}
 use Rattle.literal.specs.Laws.{as-read}
-use Rattle.emit.specs.Wrote.{wrote-none, wrote-as}
+use Rattle.writing.specs.Wrote.{wrote-none, wrote-as}
 use Rattle.adder.specs.Adder.{outputs}
 use Rattle.adder.specs.Laws.{variable-outputs, reach-less}
 use Rattle.at_most.specs.Limit.{limiting-none, limiting-one}

@@ -8,7 +8,7 @@ use lib.ListN.{length, getD, take, length-take}
 use lib.Seq.{take-all}
 use borrow.Author.Needs.{needs}
 use Rattle.literal.specs.Laws.{as-read}
-use Rattle.emit.specs.Wrote.{Wrote, wrote-as, wrote-length, wrote-next}
+use Rattle.writing.specs.Wrote.{Wrote, wrote-as, wrote-length, wrote-next}
 use Rattle.emit.proofs.put_all.Statement.{statement}
 use Rattle.emit.proofs.put_all.Tie as tie
 
@@ -45,7 +45,7 @@ loop-again c =
     let list = c .before .before .before .before .before .before .args .list .now in
     let read = as-read (getD list (loop .i) (pos 0)) (c .before .before .before .put-arg .given) in (
       search needs,
-      wrote-next list (loop .i) (search needs) (loop .inv .1) (wrote-as (ap (λ (z : ℤ). z ∷ []) read) (c .before .put .ensures)),
+      wrote-next list (loop .i) (pos 0) (search needs) (loop .inv .1) (wrote-as (ap (λ (z : ℤ). z ∷ []) read) (c .before .put .ensures)),
     )
 
 same-length : tie.Need-same-length Inv-loop μ-loop

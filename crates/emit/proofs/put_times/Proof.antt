@@ -8,7 +8,7 @@ use mir.Syntax.{w32}
 use mir.Val.{toZ, ofZ}
 use mir.ValLaws.{toZ-ofZ}
 use borrow.Author.Needs.{needs}
-use Rattle.emit.specs.Wrote.{Wrote, wrote-as, wrote-length, wrote-copy}
+use Rattle.writing.specs.Wrote.{Wrote, wrote-as, wrote-length, wrote-copy}
 use Rattle.emit.proofs.put_times.Statement.{statement}
 use Rattle.emit.proofs.put_times.Tie as tie
 

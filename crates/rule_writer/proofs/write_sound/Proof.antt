@@ -2,7 +2,7 @@
 use mathlib.Core.List.{List}
 use Prim.Native.Nat.{ℕ, _+_}
 use native.Mathlib.Omega.{arith}
-use Rattle.text.specs.Wrote.{wrote-more, wrote-as, wrote-whole}
+use Rattle.writing.specs.Wrote.{wrote-more, wrote-as, wrote-whole}
 use Rattle.dimacs.specs.Written.{written}
 use Rattle.rule_writer.specs.Laws.{no-room, room}
 use Rattle.rule_writer.specs.Writing.{written-parts, written-length}

@@ -6,7 +6,7 @@ use lib.ListN.{length}
 use lib.Seq.{sets}
 use Rattle.wish.specs.Wish.{wishCount}
 use Rattle.lent.specs.Lent.{refusalOf}
-use Rattle.text.specs.Wrote.{Wrote, wrote-more, wrote-as, wrote-whole}
+use Rattle.writing.specs.Wrote.{Wrote, wrote-more, wrote-as, wrote-whole}
 use Rattle.wish_file.specs.Format.{written}
 use Rattle.wish_writer.specs.Laws.{scan-refused, scan-sound, Writable, writable, parts, head-length, whole-length, fits-room, refused-for, answered}
 use Rattle.wish_writer.specs.Write.{lentToWrite}

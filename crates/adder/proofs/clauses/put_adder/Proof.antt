@@ -3,7 +3,7 @@ use mathlib.Core.Path.{_≡_, ap}
 use Prim.Native.Nat.{ℕ, suc, _-_, _≤_}
 use native.Mathlib.Omega.{arith}
 use borrow.Author.Needs.{needs}
-use Rattle.emit.specs.Wrote.{Wrote, wrote-as, wrote-length}
+use Rattle.writing.specs.Wrote.{Wrote, wrote-as, wrote-length}
 use Rattle.soundness.specs.Flat.{flat}
 use Rattle.totalizer.specs.Totalizer.{below}
 use Rattle.adder.specs.Adder.{row}

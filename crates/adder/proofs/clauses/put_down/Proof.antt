@@ -5,7 +5,7 @@ use native.Mathlib.Omega.{arith}
 use lib.IntN.{pos, negℤ}
 use borrow.Author.Needs.{needs}
 use Rattle.literal.specs.Laws.{as-read}
-use Rattle.emit.specs.Wrote.{wrote-none, wrote-as}
+use Rattle.writing.specs.Wrote.{wrote-none, wrote-as}
 use Rattle.soundness.specs.Flat.{flat}
 use Rattle.totalizer.specs.Totalizer.{upper}
 use Rattle.adder.specs.declared.outputs.Outputs.the-variants.{Counters}

@@ -5,7 +5,7 @@ use native.Mathlib.Nat.{le-trans}
 use lib.IntN.{pos}
 use borrow.Author.Needs.{needs}
 use Rattle.literal.specs.Laws.{as-read}
-use Rattle.emit.specs.Wrote.{wrote-none, wrote-as}
+use Rattle.writing.specs.Wrote.{wrote-none, wrote-as}
 use Rattle.soundness.specs.Flat.{flat}
 use Rattle.totalizer.specs.Totalizer.{lower}
 use Rattle.adder.specs.declared.outputs.Outputs.the-variants.{Counters}

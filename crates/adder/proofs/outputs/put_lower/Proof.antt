@@ -9,7 +9,7 @@ use mir.Val.{toZ, ofZ}
 use Rattle.literal.specs.Laws.{as-read}
 use borrow.Author.Needs.{needs}
 use Rattle.literal.specs.Literal.{variable}
-use Rattle.emit.specs.Wrote.{wrote-none, wrote-as}
+use Rattle.writing.specs.Wrote.{wrote-none, wrote-as}
 use Rattle.adder.specs.Adder.{outputs}
 use Rattle.adder.specs.Laws.{variable-outputs, lower-none, lower-one}
 use Rattle.adder.proofs.outputs.put_lower.Statement.{statement}

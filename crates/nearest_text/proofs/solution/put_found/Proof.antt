@@ -3,7 +3,7 @@ use mathlib.Core.Option.{some}
 use Prim.Native.Nat.{_≤_}
 use native.Mathlib.Omega.{arith}
 use lib.ListN.{length, take}
-use Rattle.text.specs.Wrote.{wrote-front}
+use Rattle.writing.specs.Wrote.{wrote-front}
 use Rattle.report.specs.Laws.{renamed}
 use Rattle.problem_files.specs.Told.{cut}
 use Rattle.nearest_text.specs.Laws.{solution-most}

@@ -1,7 +1,7 @@
 -- `nearest_text::solution::put_lines` meets its contract: five texts, one after the other.
 use native.Mathlib.Omega.{arith}
 use borrow.Author.Needs.{needs}
-use Rattle.text.specs.Wrote.{wrote-more}
+use Rattle.writing.specs.Wrote.{wrote-more}
 use Rattle.nearest_text.specs.Laws.{solution-length}
 use Rattle.nearest_text.proofs.solution.put_lines.Statement.{statement}
 use Rattle.nearest_text.proofs.solution.put_lines.Tie as tie

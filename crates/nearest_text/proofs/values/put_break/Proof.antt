@@ -3,7 +3,7 @@ use mathlib.Core.Path.{sym, ap}
 use native.Mathlib.Omega.{arith}
 use lib.ListN.{length}
 use borrow.Author.Needs.{needs}
-use Rattle.text.specs.Wrote.{wrote-none, wrote-as}
+use Rattle.writing.specs.Wrote.{wrote-none, wrote-as}
 use Rattle.nearest_text.specs.Laws.{break-first, break-inside, break-new}
 use Rattle.nearest_text.proofs.values.put_break.Statement.{statement}
 use Rattle.nearest_text.proofs.values.put_break.Tie as tie

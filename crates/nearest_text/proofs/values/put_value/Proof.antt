@@ -12,7 +12,7 @@ use borrow.Author.Needs.{needs}
 use Rattle.literal.specs.Laws.{as-read}
 use Rattle.literal.specs.Literal.{literal}
 use Rattle.text.specs.Text.{numeral}
-use Rattle.text.specs.Wrote.{wrote-more, wrote-as}
+use Rattle.writing.specs.Wrote.{wrote-more, wrote-as}
 use Rattle.nearest_text.specs.Printed.{lineBreak, signedNumber}
 use Rattle.nearest_text.proofs.values.put_value.Statement.{statement}
 use Rattle.nearest_text.proofs.values.put_value.Tie as tie

@@ -5,7 +5,7 @@ use native.Mathlib.Omega.{arith}
 use lib.ListN.{length, getD, drop, length-append}
 use lib.Seq.{sets}
 use borrow.Author.Needs.{needs}
-use Rattle.text.specs.Wrote.{wrote-before}
+use Rattle.writing.specs.Wrote.{wrote-before}
 use Rattle.nearest_text.specs.Laws.{values-split, values-past}
 use Rattle.nearest_text.specs.Printed.{entry, values}
 use Rattle.nearest_text.proofs.values.put_values.Statement.{statement}

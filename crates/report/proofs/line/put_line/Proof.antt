@@ -1,7 +1,7 @@
 -- `report::line::put_line` meets its contract: no room, or four texts, one after the other.
 use native.Mathlib.Omega.{arith}
 use Rattle.refusal.specs.Reply.{refusal}
-use Rattle.text.specs.Wrote.{wrote-more}
+use Rattle.writing.specs.Wrote.{wrote-more}
 use Rattle.report.specs.Laws.{unfitted, fitted-whole, line-length}
 use Rattle.report.specs.Report.{refusalLine}
 use borrow.Author.Needs.{needs}

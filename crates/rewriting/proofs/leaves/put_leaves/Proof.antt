@@ -7,7 +7,7 @@ use lib.ListN.{length, take, replicate}
 use lib.Seq.{take-all}
 use borrow.Author.Needs.{needs}
 use Rattle.literal.specs.Laws.{as-read}
-use Rattle.emit.specs.Wrote.{Wrote, wrote-as, wrote-more, wrote-length}
+use Rattle.writing.specs.Wrote.{Wrote, wrote-as, wrote-more, wrote-length}
 use Rattle.totalizer.specs.Totalizer.{leaves}
 use Rattle.rewriting.specs.Leaves.{leaves-next, leaves-room}
 use Rattle.rewriting.proofs.leaves.put_leaves.Statement.{statement}

@@ -7,7 +7,7 @@ use lib.ListN.{length, getD, drop}
 use borrow.Author.Needs.{needs}
 use lib.Seq.{sets}
 use Rattle.literal.specs.Laws.{as-read}
-use Rattle.text.specs.Wrote.{Wrote, wrote-as, wrote-before}
+use Rattle.writing.specs.Wrote.{Wrote, wrote-as, wrote-before}
 use Rattle.dimacs.specs.Written.{body}
 use Rattle.rule_writer.specs.Writing.{element, body-split, body-length-step, body-past}
 use Rattle.rule_writer.proofs.put.put_body.Statement.{statement}

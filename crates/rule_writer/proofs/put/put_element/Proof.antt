@@ -9,7 +9,7 @@ use mir.Syntax.{w32}
 use mir.ValLaws.{toZ-ofZ}
 use borrow.Author.Needs.{needs}
 use Rattle.text.specs.Text.{numeral}
-use Rattle.text.specs.Wrote.{wrote-more, wrote-as}
+use Rattle.writing.specs.Wrote.{wrote-more, wrote-as}
 use Rattle.dimacs.specs.Written.{separator}
 use Rattle.rule_writer.specs.Writing.{element-size}
 use Rattle.rule_writer.proofs.put.put_element.Statement.{statement}

@@ -1,7 +1,7 @@
 -- `rule_writer::put::put_header` meets its contract: five texts, one after the other.
 use native.Mathlib.Omega.{arith}
 use borrow.Author.Needs.{needs}
-use Rattle.text.specs.Wrote.{wrote-more}
+use Rattle.writing.specs.Wrote.{wrote-more}
 use Rattle.dimacs.specs.RoundTrip.{header-length}
 use Rattle.rule_writer.proofs.put.put_header.Statement.{statement}
 use Rattle.rule_writer.proofs.put.put_header.Tie as tie

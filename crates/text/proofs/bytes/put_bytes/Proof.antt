@@ -4,7 +4,7 @@ use native.Mathlib.Omega.{arith}
 use lib.ListN.{length, take, length-take}
 use lib.Seq.{take-all}
 use borrow.Author.Needs.{needs}
-use Rattle.text.specs.Wrote.{Wrote, wrote-as, wrote-length, wrote-next}
+use Rattle.writing.specs.Wrote.{Wrote, wrote-as, wrote-length, wrote-next}
 use Rattle.text.proofs.bytes.put_bytes.Statement.{statement}
 use Rattle.text.proofs.bytes.put_bytes.Tie as tie
 

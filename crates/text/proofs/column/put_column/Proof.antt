@@ -1,13 +1,13 @@
 -- `text::column::put_column` meets its contract. The loop's invariant: so many spaces are put, and no more than belong before the digits.
 use mathlib.Core.Path.{_≡_, ap, _∙_}
-use mathlib.Core.List.{List, _++_}
+use mathlib.Core.List.{_++_}
 use Prim.Native.Nat.{ℕ, _-_, _≤_}
 use native.Mathlib.Omega.{arith}
 use lib.ListN.{length, replicate, length-replicate}
 use borrow.Author.Needs.{needs}
 use Rattle.decimal.specs.Decimal.{decimal}
 use Rattle.text.specs.Laws.{column-size}
-use Rattle.text.specs.Wrote.{Wrote, wrote-more, wrote-as, wrote-length, wrote-copy}
+use Rattle.writing.specs.Wrote.{Wrote, wrote-more, wrote-as, wrote-length, wrote-copy}
 use Rattle.text.proofs.column.put_column.Statement.{statement}
 use Rattle.text.proofs.column.put_column.Tie as tie
 
@@ -57,7 +57,7 @@ returns c =
     let loop = c .before .before .before .before .before .loop in
     let args = c .before .before .before .before .before .before .before .before .args in
     let all : loop .spaces ≡ args .width - length (decimal (args .v)) = omega (arith, loop .inv .0, c .before .before .before .before .loop-test .left, c .before .before .before .before .before .before .number-length .ensures .0) in
-    wrote-as (ap (λ (k : ℕ). replicate k 32 ++ decimal (args .v)) all) (wrote-more (loop .inv .1) (c .before .before .put-number .ensures))
+    wrote-as {w = replicate (loop .spaces) 32 ++ decimal (args .v)} (ap (λ (k : ℕ). replicate k 32 ++ decimal (args .v)) all) (wrote-more (loop .inv .1) (c .before .before .put-number .ensures))
 
 pub put-column-spec : {M : Type 1} → statement M
 put-column-spec =

@@ -10,7 +10,7 @@ use borrow.Author.Needs.{needs}
 use Rattle.decimal.specs.Decimal.{decimal}
 use Rattle.text.specs.Laws.{numeral-off, numeral-on}
 use Rattle.text.specs.Text.{numeral}
-use Rattle.text.specs.Wrote.{wrote-more, wrote-as}
+use Rattle.writing.specs.Wrote.{wrote-more, wrote-as}
 use Rattle.text.proofs.signed.put_signed.Statement.{statement}
 use Rattle.text.proofs.signed.put_signed.Tie as tie
 

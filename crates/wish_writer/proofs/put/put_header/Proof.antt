@@ -2,7 +2,7 @@
 use mathlib.Core.List.{[], _∷_}
 use native.Mathlib.Omega.{arith}
 use borrow.Author.Needs.{needs}
-use Rattle.text.specs.Wrote.{wrote-more}
+use Rattle.writing.specs.Wrote.{wrote-more}
 use Rattle.wish_writer.specs.Writing.{line-parts}
 use Rattle.wish_writer.proofs.put.put_header.Statement.{statement}
 use Rattle.wish_writer.proofs.put.put_header.Tie as tie

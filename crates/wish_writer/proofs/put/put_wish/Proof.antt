@@ -4,7 +4,7 @@ use mathlib.Core.List.{[], _∷_, List}
 use native.Mathlib.Omega.{arith}
 use lib.ListN.{length, set, length-set}
 use borrow.Author.Needs.{needs}
-use Rattle.text.specs.Wrote.{wrote-none, wrote-more, wrote-as}
+use Rattle.writing.specs.Wrote.{wrote-none, wrote-more, wrote-as}
 use Rattle.wish_writer.specs.Writing.{line-parts, line-free, line-wish}
 use mathlib.Core.Bool.{true}
 use Prim.Native.Nat.{ℕ}

@@ -6,7 +6,7 @@ use native.Mathlib.Omega.{arith}
 use lib.ListN.{length, drop}
 use borrow.Author.Needs.{needs}
 use lib.Seq.{sets}
-use Rattle.text.specs.Wrote.{wrote-before}
+use Rattle.writing.specs.Wrote.{wrote-before}
 use Rattle.wish_file.specs.Format.{wishLines}
 use Rattle.wish_file.specs.Wishes.{wishList}
 use Rattle.wish_writer.specs.Writing.{rest, lines-split, lines-length, lines-past}
