@@ -32,11 +32,14 @@ fn fault_of(n: usize, count: usize, clauses: usize, literals: usize, x: i32) -> 
     if literal::closes(x) {
         return 0;
     }
+    let v = literal::variable_of(x).0;
     if MAX_LITERALS <= literals {
         return 7;
     }
-    let v = literal::variable_of(x);
-    if n < v.0 { 4 } else { 0 }
+    if n < v {
+        return 4;
+    }
+    0
 }
 
 // Checks the tokens from a place on, in a file of n variables and so many clauses.

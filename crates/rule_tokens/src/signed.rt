@@ -35,11 +35,11 @@ pub fn signed_of(word: &[u8]) -> Signed
 fn behind_minus(digits: &[u8]) -> Signed
     ensures { λ r. ⌜ r ≡ signedAs (negative (number (now (digits .entry)))) ⌝ }
 {
-    let Number::Value(v) = decimal::number_of(digits) else {
+    let Number::Value(magnitude) = decimal::number_of(digits) else {
         return Signed::Malformed;
     };
-    if v == 0 {
+    if magnitude == 0 {
         return Signed::Malformed;
     }
-    Signed::Value(literal::literal_of(Variable(v), false))
+    Signed::Value(literal::literal_of(Variable(magnitude), false))
 }

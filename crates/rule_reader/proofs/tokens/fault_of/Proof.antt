@@ -1,7 +1,6 @@
 -- `rule_reader::tokens::fault_of` meets its contract: each return is one of the tests, in their order.
 use mathlib.Core.Path.{_≡_, sym, ap, _∙_}
 use mathlib.Core.Bool.{false}
-use Prim.Native.Nat.{_<_}
 use native.Mathlib.Omega.{arith}
 use lib.Dec.{leb}
 use mir.Syntax.{w32}
@@ -29,43 +28,47 @@ tested c = c .closes .ensures ∙ ap closes (toZ-ofZ w32 (c .before .before .arg
 returns-2 : tie.Need-returns-2
 returns-2 c = rw (more (c .before .before), sym (tested (c .before)) ∙ c .if2 .taken)
 
--- past the second: a literal
+-- past the second: a literal, and its variable is known
 literal : (c : tie.Else2) → closes (c .before .before .before .args .x) ≡ false
 literal c = sym (tested (c .before)) ∙ c .if2 .left
-
-returns-3 : tie.Need-returns-3
-returns-3 c =
-    let start = c .before .before .before .before in
-    rw (more (c .before .before .before), literal (c .before), le-leb maxLiterals (start .args .literals) (c .if3 .taken))
 
 variable-of-requires : tie.Need-variable-of-requires
 variable-of-requires c κs = search needs
 
--- past the third: one more may come, and its variable is known
-room : (c : tie.Else3) → leb maxLiterals (c .before .before .before .before .args .literals) ≡ false
-room c = lt-leb maxLiterals (c .before .before .before .before .args .literals) (c .if3 .left)
-
-same : (c : tie.After-variable-of) → c .variable-of .result .0 ≡ variable (c .before .before .before .before .before .args .x)
+same : (c : tie.After-variable-of) → c .variable-of .result .0 ≡ variable (c .before .before .before .before .args .x)
 same c =
-    let start = c .before .before .before .before .before in
+    let start = c .before .before .before .before in
     c .variable-of .ensures ∙ ap variable (toZ-ofZ w32 (start .args .x) (start .fits .x))
+
+returns-3 : tie.Need-returns-3
+returns-3 c =
+    let known = c .before in
+    rw (more (known .before .before .before), literal (known .before), le-leb maxLiterals (known .before .before .before .before .args .literals) (c .if3 .taken))
+
+-- past the third: one more literal may come
+room : (c : tie.Else3) → leb maxLiterals (c .before .before .before .before .before .args .literals) ≡ false
+room c = lt-leb maxLiterals (c .before .before .before .before .before .args .literals) (c .if3 .left)
 
 returns-4 : tie.Need-returns-4
 returns-4 c =
     let known = c .before .before in
-    let start = known .before .before .before .before .before in
-    let above : start .args .n < variable (start .args .x) = omega (arith, c .if4 .taken, same known) in
-    rw (more (known .before .before .before .before), literal (known .before .before), room (known .before), lt-ltb (start .args .n) (variable (start .args .x)) above)
+    let args = known .before .before .before .before .args in
+    rw (
+      more (known .before .before .before),
+      literal (known .before),
+      room (c .before),
+      lt-ltb (args .n) (variable (args .x)) (omega (arith, c .if4 .taken, same known)),
+    )
 
 returns-5 : tie.Need-returns-5
 returns-5 c =
     let known = c .before .before in
-    let start = known .before .before .before .before .before in
+    let args = known .before .before .before .before .args in
     rw (
-      more (known .before .before .before .before),
-      literal (known .before .before),
-      room (known .before),
-      le-ltb (start .args .n) (variable (start .args .x)) (omega (arith, c .if4 .left, same known)),
+      more (known .before .before .before),
+      literal (known .before),
+      room (c .before),
+      le-ltb (args .n) (variable (args .x)) (omega (arith, c .if4 .left, same known)),
     )
 
 pub fault-of-spec : {M : Type 1} → statement M
@@ -75,7 +78,7 @@ fault-of-spec =
     returns
     closes-requires
     returns-2
-    returns-3
     variable-of-requires
+    returns-3
     returns-4
     returns-5)

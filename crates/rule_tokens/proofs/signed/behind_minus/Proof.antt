@@ -18,16 +18,16 @@ use Rattle.rule_tokens.proofs.signed.behind_minus.Tie as tie
 number-of-requires : tie.Need-number-of-requires
 number-of-requires c κs = search needs
 
-enum-known-v : tie.Need-enum-known-v
-enum-known-v c = search needs
+enum-known-magnitude : tie.Need-enum-known-magnitude
+enum-known-magnitude c = search needs
 
 enum-told : tie.Need-enum-told
 enum-told c = search needs
 
 -- the number behind the minus
-read : (c : tie.After-known-told) → number (c .before .before .before .before .before .args .digits .now) ≡ some (c .before .v .given .0 .0)
+read : (c : tie.After-known-told) → number (c .before .before .before .before .before .args .digits .now) ≡ some (c .before .magnitude .given .0 .0)
 read c =
-    number-some (number (c .before .before .before .before .before .args .digits .now)) (c .before .v .given .0 .0) (sym (c .before .before .before .number-of .ensures) ∙ c .before .v .given .1)
+    number-some (number (c .before .before .before .before .before .args .digits .now)) (c .before .magnitude .given .0 .0) (sym (c .before .before .before .number-of .ensures) ∙ c .before .magnitude .given .1)
 
 returns : tie.Need-returns
 returns c =
@@ -36,14 +36,14 @@ returns c =
 
 returns-2 : tie.Need-returns-2
 returns-2 c =
-    sym (ap (λ (o : Option ℕ). signedAs (negative o)) (read (c .before)) ∙ ap signedAs (negative-zero (c .before .before .v .given .0 .0) (c .if1 .taken)))
+    sym (ap (λ (o : Option ℕ). signedAs (negative o)) (read (c .before)) ∙ ap signedAs (negative-zero (c .before .before .magnitude .given .0 .0) (c .if1 .taken)))
 
 literal-of-requires : tie.Need-literal-of-requires
-literal-of-requires c κs = omega (arith, number-small (c .before .before .before .before .before .before .args .digits .now) (c .before .before .v .given .0 .0) (read (c .before)))
+literal-of-requires c κs = omega (arith, number-small (c .before .before .before .before .before .before .args .digits .now) (c .before .before .magnitude .given .0 .0) (read (c .before)))
 
 returns-3 : tie.Need-returns-3
 returns-3 c =
-    let v = c .before .before .before .v .given .0 .0 in
+    let v = c .before .before .before .magnitude .given .0 .0 in
     let small = number-small (c .before .before .before .before .before .before .before .args .digits .now) v (read (c .before .before)) in
     ap (λ (z : ℤ). S.the-variants.Value z) (held (c .literal-of .result) (negℤ (pos v)) (c .literal-of .ensures) (negative-fits v small))
     ∙ sym (ap (λ (o : Option ℕ). signedAs (negative o)) (read (c .before .before)) ∙ ap signedAs (negative-some v (c .before .if1 .left)))
@@ -53,7 +53,7 @@ behind-minus-spec =
     tie.close
     (tie.spec
     number-of-requires
-    enum-known-v
+    enum-known-magnitude
     enum-told
     returns
     returns-2
