@@ -17,7 +17,7 @@ use Rattle.rule_writer.specs.Write.{lentToWrite, writeReply, writeOutput}
 use Rattle.rule_reader.specs.Read.{readReply, readOutput}
 use Rattle.searches.specs.Searches.{plainReply, plainChoice}
 use Rattle.second_route.specs.Left.{choiceFromReader, listFromWriter, choiceFromWriter, secondLeaves}
-use Rattle.second_route.specs.Routes.{Buffers, fromReader, fromWriter, secondRoute}
+use Rattle.second_route.specs.Routes.{Buffers, inBuffers, fromReader, fromWriter, secondRoute}
 
 -- A call that answered has filled as much of its buffer as its answer says.
 no-refusal : (o : Option Refusal) (answer : Reply) (v x y z : ℕ) → answering v x y z ≡ unless o answer → (o ≡ none) × (answering v x y z ≡ answer)
@@ -76,14 +76,23 @@ module _ (b : Buffers) (n : ℕ) (rules : List ℤ) where
       → (reply ≡ fromWriter b n rules) × (list ≡ listFromWriter b n rules) × (choice ≡ choiceFromWriter b n rules)
   writer-answered size e file f reply list choice g h i = rw (← e, ← f) (g, h, i)
 
+-- buffers that are the same one by one
+all-same : {b : Buffers} {rewritten list : List ℤ} {file choice : List ℕ} → rewritten ≡ b .rewritten → file ≡ b .file → list ≡ b .list → choice ≡ b .choice
+    → inBuffers rewritten file list choice ≡ b
+all-same e f g h = rw (e, f, g, h)
+
 module _ (n : ℕ) (rules : List ℤ) (row : List ℕ) (d : ℕ) (b : Buffers) where
+  -- the reply of the whole route, and what it leaves
+  abbrev Route : Reply → List ℤ → List ℕ → List ℤ → List ℕ → Type 0
+  Route reply out file list choice = (reply ≡ secondRoute n rules row d b) × (inBuffers out file list choice ≡ secondLeaves n rules row d b)
+
   pub rewriting-refused : (r : Refusal) → refusing r ≡ rewriteReply n rules row d (length (b .rewritten))
-      → (refusing r ≡ secondRoute n rules row d b) × (b .file ≡ secondLeaves n rules row d b .file) × (b .list ≡ secondLeaves n rules row d b .list) × (b .choice ≡ secondLeaves n rules row d b .choice)
-  rewriting-refused r e = rw (← e) (refl, refl, refl, refl)
+      → (out : List ℤ) → out ≡ rewriteOutput n rules row d (b .rewritten) → Route (refusing r) out (b .file) (b .list) (b .choice)
+  rewriting-refused r e out f = rw (← e, ← f) (refl, refl)
 
   pub rewriting-answered : (m size : ℕ) → answering 1 m size 0 ≡ rewriteReply n rules row d (length (b .rewritten))
       → (out : List ℤ) → out ≡ rewriteOutput n rules row d (b .rewritten)
       → (reply : Reply) (file : List ℕ) (list : List ℤ) (choice : List ℕ)
       → reply ≡ fromWriter b m (take size out) → file ≡ writeOutput m (take size out) (b .file) → list ≡ listFromWriter b m (take size out) → choice ≡ choiceFromWriter b m (take size out)
-      → (reply ≡ secondRoute n rules row d b) × (file ≡ secondLeaves n rules row d b .file) × (list ≡ secondLeaves n rules row d b .list) × (choice ≡ secondLeaves n rules row d b .choice)
-  rewriting-answered m size e out f reply file list choice g h i j = rw (← e, ← f) (g, h, i, j)
+      → Route reply out file list choice
+  rewriting-answered m size e out f reply file list choice g h i j = rw (← e, ← f) (g, all-same refl h i j)

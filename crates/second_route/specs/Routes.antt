@@ -1,4 +1,4 @@
--- The two routes of document 01 ("Rewriting into plain rules"), each from the definitions of the calls that it makes.
+-- The two routes of document 01 ("Rewriting into plain rules"), each from the definitions of the calls that it makes. The function `second_route` takes the second; the first is the wish search itself.
 use mathlib.Core.Path.{_≡_}
 use mathlib.Core.List.{List}
 use Prim.Native.Nat.{ℕ}
@@ -25,6 +25,9 @@ pub record Buffers : Type 0 where
   pub file : List ℕ
   pub list : List ℤ
   pub choice : List ℕ
+
+abbrev pub inBuffers : List ℤ → List ℕ → List ℤ → List ℕ → Buffers
+inBuffers rewritten file list choice = record { rewritten = rewritten; file = file; list = list; choice = choice }
 
 -- The second route, from its last call to its first. "Each call takes exactly what the one before it returned or left in the part it filled": the numbers of its answer, and as much from the front of the lent buffer as the answer says.
 

@@ -10,7 +10,7 @@ ghost use Rattle.dimacs.specs.Format.{reading};
 ghost use Rattle.rule_reader.specs.Read.{readOutput};
 ghost use Rattle.rule_writer.specs.Write.{writeOutput};
 ghost use Rattle.searches.specs.Answers.{replyOf};
-ghost use Rattle.second_route.specs.Routes.{Buffers, fromReader, fromWriter, secondRoute};
+ghost use Rattle.second_route.specs.Routes.{inBuffers, fromReader, fromWriter, secondRoute};
 ghost use Rattle.second_route.specs.Left.{choiceFromReader, listFromWriter, choiceFromWriter, secondLeaves};
 
 // The whole route, with a buffer lent for what each call writes.
@@ -24,11 +24,8 @@ pub fn second_route(
     list: &mut [i32],
     choice: &mut [u8],
 ) -> Searched
-    ensures reply { λ r. ⌜ replyOf r ≡ secondRoute n (now (rules .entry)) (now (row .entry)) d (record { rewritten = now (rewritten .entry); file = now (file .entry); list = now (list .entry); choice = now (choice .entry) }) ⌝ }
-    ensures rewritten { λ r. ⌜ now (rewritten .exit) ≡ secondLeaves n (now (rules .entry)) (now (row .entry)) d (record { rewritten = now (rewritten .entry); file = now (file .entry); list = now (list .entry); choice = now (choice .entry) }) .rewritten ⌝ }
-    ensures file { λ r. ⌜ now (file .exit) ≡ secondLeaves n (now (rules .entry)) (now (row .entry)) d (record { rewritten = now (rewritten .entry); file = now (file .entry); list = now (list .entry); choice = now (choice .entry) }) .file ⌝ }
-    ensures list { λ r. ⌜ now (list .exit) ≡ secondLeaves n (now (rules .entry)) (now (row .entry)) d (record { rewritten = now (rewritten .entry); file = now (file .entry); list = now (list .entry); choice = now (choice .entry) }) .list ⌝ }
-    ensures choice { λ r. ⌜ now (choice .exit) ≡ secondLeaves n (now (rules .entry)) (now (row .entry)) d (record { rewritten = now (rewritten .entry); file = now (file .entry); list = now (list .entry); choice = now (choice .entry) }) .choice ⌝ }
+    ensures reply { λ r. ⌜ replyOf r ≡ secondRoute n (now (rules .entry)) (now (row .entry)) d (inBuffers (now (rewritten .entry)) (now (file .entry)) (now (list .entry)) (now (choice .entry))) ⌝ }
+    ensures buffers { λ r. ⌜ inBuffers (now (rewritten .exit)) (now (file .exit)) (now (list .exit)) (now (choice .exit)) ≡ secondLeaves n (now (rules .entry)) (now (row .entry)) d (inBuffers (now (rewritten .entry)) (now (file .entry)) (now (list .entry)) (now (choice .entry))) ⌝ }
 {
     match rewriting::rewrite(n, rules, row, d, rewritten) {
         Rewritten::Refused(r) => Searched::Refused(r),
@@ -47,10 +44,10 @@ fn from_writer(
     list: &mut [i32],
     choice: &mut [u8],
 ) -> Searched
-    ensures reply { λ r. ⌜ replyOf r ≡ fromWriter (record { rewritten = now (rules .entry); file = now (file .entry); list = now (list .entry); choice = now (choice .entry) }) n (now (rules .entry)) ⌝ }
+    ensures reply { λ r. ⌜ replyOf r ≡ fromWriter (inBuffers (now (rules .entry)) (now (file .entry)) (now (list .entry)) (now (choice .entry))) n (now (rules .entry)) ⌝ }
     ensures file { λ r. ⌜ now (file .exit) ≡ writeOutput n (now (rules .entry)) (now (file .entry)) ⌝ }
-    ensures list { λ r. ⌜ now (list .exit) ≡ listFromWriter (record { rewritten = now (rules .entry); file = now (file .entry); list = now (list .entry); choice = now (choice .entry) }) n (now (rules .entry)) ⌝ }
-    ensures choice { λ r. ⌜ now (choice .exit) ≡ choiceFromWriter (record { rewritten = now (rules .entry); file = now (file .entry); list = now (list .entry); choice = now (choice .entry) }) n (now (rules .entry)) ⌝ }
+    ensures list { λ r. ⌜ now (list .exit) ≡ listFromWriter (inBuffers (now (rules .entry)) (now (file .entry)) (now (list .entry)) (now (choice .entry))) n (now (rules .entry)) ⌝ }
+    ensures choice { λ r. ⌜ now (choice .exit) ≡ choiceFromWriter (inBuffers (now (rules .entry)) (now (file .entry)) (now (list .entry)) (now (choice .entry))) n (now (rules .entry)) ⌝ }
 {
     match rule_writer::write_rules(n, rules, file) {
         WrittenRules::Refused(r) => Searched::Refused(r),
@@ -60,9 +57,9 @@ fn from_writer(
 
 // The route from the reader on.
 fn from_reader(file: &[u8], list: &mut [i32], choice: &mut [u8]) -> Searched
-    ensures reply { λ r. ⌜ replyOf r ≡ fromReader (record { rewritten = now (list .entry); file = now (file .entry); list = now (list .entry); choice = now (choice .entry) }) (now (file .entry)) ⌝ }
+    ensures reply { λ r. ⌜ replyOf r ≡ fromReader (inBuffers (now (list .entry)) (now (file .entry)) (now (list .entry)) (now (choice .entry))) (now (file .entry)) ⌝ }
     ensures list { λ r. ⌜ now (list .exit) ≡ readOutput (reading (now (file .entry))) (now (list .entry)) ⌝ }
-    ensures choice { λ r. ⌜ now (choice .exit) ≡ choiceFromReader (record { rewritten = now (list .entry); file = now (file .entry); list = now (list .entry); choice = now (choice .entry) }) (now (file .entry)) ⌝ }
+    ensures choice { λ r. ⌜ now (choice .exit) ≡ choiceFromReader (inBuffers (now (list .entry)) (now (file .entry)) (now (list .entry)) (now (choice .entry))) (now (file .entry)) ⌝ }
 {
     match rule_reader::read_rules(file, list) {
         ReadRules::Refused(r) => Searched::Refused(r),

@@ -1,9 +1,7 @@
 -- `second_route::from_reader` meets its contract: the reader is refused, or plain search has the part of the list that it filled.
 use mathlib.Core.Path.{_≡_, sym, ap, _∙_}
-use mathlib.Core.List.{List}
-use Prim.Native.Nat.{ℕ, _≤_}
+use Prim.Native.Nat.{_≤_}
 use native.Mathlib.Omega.{arith}
-use lib.IntN.{ℤ}
 use lib.ListN.{length, length-take}
 use borrow.Author.Needs.{needs}
 use Rattle.refusal.specs.Reply.{answering}
@@ -11,7 +9,7 @@ use Rattle.dimacs.specs.Format.{reading}
 use Rattle.rule_reader.specs.Read.{readReply, replyOf}
 use Rattle.searches.specs.Answers as searches
 use Rattle.second_route.specs.Laws.{read-inside, reader-refused, reader-answered}
-use Rattle.second_route.specs.Routes.{Buffers}
+use Rattle.second_route.specs.Routes.{inBuffers}
 use Rattle.second_route.proofs.from_reader.Statement.{statement}
 use Rattle.second_route.proofs.from_reader.Tie as tie
 
@@ -46,16 +44,12 @@ search-requires c κs = search needs
 same-length : tie.Need-same-length
 same-length c = search needs
 
--- the buffers, as far as they are lent here
-abbrev lent : List ℕ → List ℤ → List ℕ → Buffers
-lent file list choice = record { rewritten = list; file = file; list = list; choice = choice }
-
 returns : tie.Need-returns
 returns c =
     let args = c .before .before .before .before .before .before .before .before .args in
     let call = c .before .before .before .before .read-rules in
     let held = c .before .r .given in
-    let out = reader-refused (lent (args .file .now) (args .list .now) (args .choice .now)) (args .file .now) (held .0 .0) (sym (ap replyOf (held .1)) ∙ call .ensures .0) in
+    let out = reader-refused (inBuffers (args .list .now) (args .file .now) (args .list .now) (args .choice .now)) (args .file .now) (held .0 .0) (sym (ap replyOf (held .1)) ∙ call .ensures .0) in
     (out .0, (call .ensures .1, out .1))
 
 same-length-2 : tie.Need-same-length-2
@@ -70,7 +64,7 @@ returns-2 c =
     let call = c .before .before .before .before .before .before .before .before .before .read-rules in
     let held = c .before .before .before .before .before .before .counts .given .0 .0 in
     let searched = c .before .before .search in
-    let out = reader-answered (lent (args .file .now) (args .list .now) (args .choice .now)) (args .file .now) (held .variables) (held .clauses) (held .length) (said (c .before .before .before .before .before)) (call .last .1 .0) (call .ensures .1) (searches.replyOf (searched .result)) (searched .last .1 .1 .0) (searched .ensures .0) (searched .ensures .1 .0) in
+    let out = reader-answered (inBuffers (args .list .now) (args .file .now) (args .list .now) (args .choice .now)) (args .file .now) (held .variables) (held .clauses) (held .length) (said (c .before .before .before .before .before)) (call .last .1 .0) (call .ensures .1) (searches.replyOf (searched .result)) (searched .last .1 .1 .0) (searched .ensures .0) (searched .ensures .1 .0) in
     (out .0, (call .ensures .1, out .1))
 
 pub from-reader-spec : {M : Type 1} → statement M

@@ -1,16 +1,14 @@
 -- `second_route::from_writer` meets its contract: the writer is refused, or the reader has the part of the file that it filled.
 use mathlib.Core.Path.{_≡_, sym, ap, _∙_}
-use mathlib.Core.List.{List}
-use Prim.Native.Nat.{ℕ, _≤_}
+use Prim.Native.Nat.{_≤_}
 use native.Mathlib.Omega.{arith}
-use lib.IntN.{ℤ}
 use lib.ListN.{length, length-take}
 use borrow.Author.Needs.{needs}
 use Rattle.refusal.specs.Reply.{answering}
 use Rattle.rule_writer.specs.Write.{writeReply, replyOf}
 use Rattle.searches.specs.Answers as searches
 use Rattle.second_route.specs.Laws.{written-inside, writer-refused, writer-answered}
-use Rattle.second_route.specs.Routes.{Buffers}
+use Rattle.second_route.specs.Routes.{inBuffers}
 use Rattle.second_route.proofs.from_writer.Statement.{statement}
 use Rattle.second_route.proofs.from_writer.Tie as tie
 
@@ -45,16 +43,12 @@ from-reader-requires c κs = search needs
 same-length : tie.Need-same-length
 same-length c = search needs
 
--- the buffers, as far as they are lent here
-abbrev lent : List ℤ → List ℕ → List ℤ → List ℕ → Buffers
-lent rules file list choice = record { rewritten = rules; file = file; list = list; choice = choice }
-
 returns : tie.Need-returns
 returns c =
     let args = c .before .before .before .before .before .before .before .before .before .args in
     let call = c .before .before .before .before .before .write-rules in
     let held = c .before .r .given in
-    let out = writer-refused (lent (args .rules .now) (args .file .now) (args .list .now) (args .choice .now)) (args .n) (args .rules .now) (held .0 .0) (sym (ap replyOf (held .1)) ∙ call .ensures .0) in
+    let out = writer-refused (inBuffers (args .rules .now) (args .file .now) (args .list .now) (args .choice .now)) (args .n) (args .rules .now) (held .0 .0) (sym (ap replyOf (held .1)) ∙ call .ensures .0) in
     (out .0, (call .ensures .1, (out .1, out .2)))
 
 same-length-2 : tie.Need-same-length-2
@@ -71,7 +65,7 @@ returns-2 c =
     let args = c .before .before .before .before .before .before .before .before .before .before .before .before .before .before .before .before .args in
     let call = c .before .before .before .before .before .before .before .before .before .before .before .before .write-rules in
     let rest = c .before .before .before .from-reader in
-    let out = writer-answered (lent (args .rules .now) (args .file .now) (args .list .now) (args .choice .now)) (args .n) (args .rules .now) (c .before .before .before .before .before .before .before .before .k .given .0 .0) (said (c .before .before .before .before .before .before .before)) (call .last .1 .1 .0) (call .ensures .1) (searches.replyOf (rest .result)) (rest .last .1 .0) (rest .last .1 .1 .0) (rest .ensures .0) (rest .ensures .1 .0) (rest .ensures .1 .1) in
+    let out = writer-answered (inBuffers (args .rules .now) (args .file .now) (args .list .now) (args .choice .now)) (args .n) (args .rules .now) (c .before .before .before .before .before .before .before .before .k .given .0 .0) (said (c .before .before .before .before .before .before .before)) (call .last .1 .1 .0) (call .ensures .1) (searches.replyOf (rest .result)) (rest .last .1 .0) (rest .last .1 .1 .0) (rest .ensures .0) (rest .ensures .1 .0) (rest .ensures .1 .1) in
     (out .0, (call .ensures .1, (out .1, out .2)))
 
 pub from-writer-spec : {M : Type 1} → statement M

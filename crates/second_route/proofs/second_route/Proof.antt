@@ -1,16 +1,14 @@
 -- `second_route::second_route` meets its contract: rewriting is refused, or the writer has the part of the list that it filled.
 use mathlib.Core.Path.{_≡_, sym, ap, _∙_}
-use mathlib.Core.List.{List}
-use Prim.Native.Nat.{ℕ, _≤_}
+use Prim.Native.Nat.{_≤_}
 use native.Mathlib.Omega.{arith}
-use lib.IntN.{ℤ}
 use lib.ListN.{length, length-take}
 use borrow.Author.Needs.{needs}
 use Rattle.refusal.specs.Reply.{answering}
 use Rattle.rewriting.specs.Rewrite.{rewriteReply, replyOf}
 use Rattle.searches.specs.Answers as searches
 use Rattle.second_route.specs.Laws.{rewritten-inside, rewriting-refused, rewriting-answered}
-use Rattle.second_route.specs.Routes.{Buffers}
+use Rattle.second_route.specs.Routes.{inBuffers}
 use Rattle.second_route.proofs.second_route.Statement.{statement}
 use Rattle.second_route.proofs.second_route.Tie as tie
 
@@ -46,16 +44,12 @@ from-writer-requires c κs = search needs
 same-length : tie.Need-same-length
 same-length c = search needs
 
-abbrev lent : List ℤ → List ℕ → List ℤ → List ℕ → Buffers
-lent rewritten file list choice = record { rewritten = rewritten; file = file; list = list; choice = choice }
-
 returns : tie.Need-returns
 returns c =
     let args = c .before .before .before .before .before .before .before .before .before .args in
     let call = c .before .before .before .before .rewrite in
     let held = c .before .r .given in
-    let out = rewriting-refused (args .n) (args .rules .now) (args .row .now) (args .d) (lent (args .rewritten .now) (args .file .now) (args .list .now) (args .choice .now)) (held .0 .0) (sym (ap replyOf (held .1)) ∙ call .ensures .0) in
-    (out .0, (call .ensures .1, (out .1, (out .2, out .3))))
+    rewriting-refused (args .n) (args .rules .now) (args .row .now) (args .d) (inBuffers (args .rewritten .now) (args .file .now) (args .list .now) (args .choice .now)) (held .0 .0) (sym (ap replyOf (held .1)) ∙ call .ensures .0) (call .last .1 .1 .1 .1 .0) (call .ensures .1)
 
 same-length-2 : tie.Need-same-length-2
 same-length-2 c = search needs
@@ -75,8 +69,7 @@ returns-2 c =
     let call = c .before .before .before .before .before .before .before .before .before .before .before .before .before .before .rewrite in
     let held = c .before .before .before .before .before .before .before .before .before .before .before .sizes .given .0 .0 in
     let rest = c .before .before .before .before .before .from-writer in
-    let out = rewriting-answered (args .n) (args .rules .now) (args .row .now) (args .d) (lent (args .rewritten .now) (args .file .now) (args .list .now) (args .choice .now)) (held .variables) (held .length) (said (c .before .before .before .before .before .before .before .before .before .before)) (call .last .1 .1 .1 .1 .0) (call .ensures .1) (searches.replyOf (rest .result)) (rest .last .1 .1 .0) (rest .last .1 .1 .1 .0) (rest .last .1 .1 .1 .1 .0) (rest .ensures .0) (rest .ensures .1 .0) (rest .ensures .1 .1 .0) (rest .ensures .1 .1 .1) in
-    (out .0, (call .ensures .1, (out .1, (out .2, out .3))))
+    rewriting-answered (args .n) (args .rules .now) (args .row .now) (args .d) (inBuffers (args .rewritten .now) (args .file .now) (args .list .now) (args .choice .now)) (held .variables) (held .length) (said (c .before .before .before .before .before .before .before .before .before .before)) (call .last .1 .1 .1 .1 .0) (call .ensures .1) (searches.replyOf (rest .result)) (rest .last .1 .1 .0) (rest .last .1 .1 .1 .0) (rest .last .1 .1 .1 .1 .0) (rest .ensures .0) (rest .ensures .1 .0) (rest .ensures .1 .1 .0) (rest .ensures .1 .1 .1)
 
 pub second-route-spec : {M : Type 1} → statement M
 second-route-spec =
