@@ -48,10 +48,10 @@ module _ (file out : List ℕ) where
     )
 
 -- a file in the writer's form, whatever it was written from, that the reader takes
-module _ (n₀ : ℕ) (l₀ : List ℤ) (file : List ℕ) (form : file ≡ written n₀ l₀) (list : List ℤ) (v n c size : ℕ) (taken : readReply (reading file) list ≡ answering v n c size) where
+module _ (n₀ : ℕ) (l₀ : List ℤ) (file : List ℕ) (form : file ≡ written n₀ l₀) (list : List ℤ) (v n c size : ℕ) (taken : readReply file (length list) ≡ answering v n c size) where
   -- the part of the lent list that the reader filled
   abbrev pub part : List ℤ
-  part = take size (readOutput (reading file) list)
+  part = take size (readOutput file list)
 
   -- the writer, given that and lent room for the file, makes the file
   pub written-again : (out : List ℕ) → length file ≤ length out → WritesFile file out n part

@@ -14,7 +14,7 @@ use Rattle.dimacs.specs.Written.{written}
 use Rattle.totalizer.specs.Totalizer.{rewritten}
 use Rattle.rewriting.specs.Rewrite.{lentToRewrite, rewriteReply, rewriteOutput}
 use Rattle.rule_writer.specs.Write.{lentToWrite, writeReply, writeOutput}
-use Rattle.rule_reader.specs.Read.{readReply, readOutput}
+use Rattle.rule_reader.specs.Read.{replying, leaving, readReply, readOutput}
 use Rattle.searches.specs.Searches.{plainReply, plainChoice}
 use Rattle.second_route.specs.Left.{choiceFromReader, listFromWriter, choiceFromWriter, secondLeaves}
 use Rattle.second_route.specs.Routes.{Buffers, inBuffers, fromReader, fromWriter, secondRoute}
@@ -44,22 +44,25 @@ written-inside n rules out size e =
     let same : size ≡ length (written n rules) = cc in
     omega (arith, whole (written n rules) out o p)
 
-pub read-inside : (g : Reading) (out : List ℤ) (n c size : ℕ) → answering 1 n c size ≡ readReply g out → size ≤ length (readOutput g out)
-read-inside (refuses r) out n c size e = let z : _≡_ {A = ℕ} 0 1 = cc in absurd (omega arith)
-read-inside (gives m k list) out n c size e =
-    let o = tooShort (length list) (length out) in
-    let (p, q) = no-refusal o _ 1 n c size e in
-    let same : size ≡ length list = cc in
-    omega (arith, whole list out o p)
+pub read-inside : (file : List ℕ) (out : List ℤ) (n c size : ℕ) → answering 1 n c size ≡ readReply file (length out) → size ≤ length (readOutput file out)
+read-inside file out n c size e = go (reading file) e
+  where
+    go : (g : Reading) → answering 1 n c size ≡ replying g (length out) → size ≤ length (leaving g out)
+    go (refuses r) e = let z : _≡_ {A = ℕ} 0 1 = cc in absurd (omega arith)
+    go (gives m k list) e =
+        let o = tooShort (length list) (length out) in
+        let (p, q) = no-refusal o _ 1 n c size e in
+        let same : size ≡ length list = cc in
+        omega (arith, whole list out o p)
 
 -- From each call on: it is refused, and that is the end; or it answers, and the next call has the part that it filled.
 module _ (b : Buffers) (file : List ℕ) where
-  pub reader-refused : (r : Refusal) → refusing r ≡ readReply (reading file) (b .list)
+  pub reader-refused : (r : Refusal) → refusing r ≡ readReply file (length (b .list))
       → (refusing r ≡ fromReader b file) × (b .choice ≡ choiceFromReader b file)
   reader-refused r e = rw (← e) (refl, refl)
 
-  pub reader-answered : (n c size : ℕ) → answering 1 n c size ≡ readReply (reading file) (b .list)
-      → (list : List ℤ) → list ≡ readOutput (reading file) (b .list)
+  pub reader-answered : (n c size : ℕ) → answering 1 n c size ≡ readReply file (length (b .list))
+      → (list : List ℤ) → list ≡ readOutput file (b .list)
       → (reply : Reply) (choice : List ℕ) → reply ≡ plainReply n (take size list) (length (b .choice)) → choice ≡ plainChoice n (take size list) (b .choice)
       → (reply ≡ fromReader b file) × (choice ≡ choiceFromReader b file)
   reader-answered n c size e list f reply choice g h = rw (← e, ← f) (g, h)
@@ -72,7 +75,7 @@ module _ (b : Buffers) (n : ℕ) (rules : List ℤ) where
   pub writer-answered : (size : ℕ) → answering 1 size 0 0 ≡ writeReply n rules (length (b .file))
       → (file : List ℕ) → file ≡ writeOutput n rules (b .file)
       → (reply : Reply) (list : List ℤ) (choice : List ℕ)
-      → reply ≡ fromReader b (take size file) → list ≡ readOutput (reading (take size file)) (b .list) → choice ≡ choiceFromReader b (take size file)
+      → reply ≡ fromReader b (take size file) → list ≡ readOutput (take size file) (b .list) → choice ≡ choiceFromReader b (take size file)
       → (reply ≡ fromWriter b n rules) × (list ≡ listFromWriter b n rules) × (choice ≡ choiceFromWriter b n rules)
   writer-answered size e file f reply list choice g h i = rw (← e, ← f) (g, h, i)
 

@@ -4,7 +4,6 @@ use Prim.Native.Nat.{ℕ}
 use lib.IntN.{ℤ}
 use lib.ListN.{length, take}
 use Rattle.refusal.specs.Reply.{Reply, refusing, answering}
-use Rattle.dimacs.specs.Format.{reading}
 use Rattle.searches.specs.Searches.{plainChoice}
 use Rattle.rewriting.specs.Rewrite.{rewriteReply, rewriteOutput}
 use Rattle.rule_writer.specs.Write.{writeReply, writeOutput}
@@ -20,8 +19,8 @@ leftBy lent (answering v x y z) next = next v x y z
 abbrev pub choiceFromReader : Buffers → List ℕ → List ℕ
 choiceFromReader b file =
     leftBy (b .choice)
-    (readReply (reading file) (b .list))
-    (λ (v n c size : ℕ). plainChoice n (take size (readOutput (reading file) (b .list))) (b .choice))
+    (readReply file (length (b .list)))
+    (λ (v n c size : ℕ). plainChoice n (take size (readOutput file (b .list))) (b .choice))
 
 -- from the writer on
 module _ (b : Buffers) (n : ℕ) (rules : List ℤ) where
@@ -30,7 +29,7 @@ module _ (b : Buffers) (n : ℕ) (rules : List ℤ) where
       leftBy lent (writeReply n rules (length (b .file))) (λ (v size y z : ℕ). next (take size (writeOutput n rules (b .file))))
 
   abbrev pub listFromWriter : List ℤ
-  listFromWriter = fromWritten (b .list) (λ (file : List ℕ). readOutput (reading file) (b .list))
+  listFromWriter = fromWritten (b .list) (λ (file : List ℕ). readOutput file (b .list))
 
   abbrev pub choiceFromWriter : List ℕ
   choiceFromWriter = fromWritten (b .choice) (choiceFromReader b)

@@ -6,7 +6,6 @@ use rule_reader::ReadRules;
 use rule_writer::WrittenRules;
 use searches::Searched;
 ghost use mathlib.Core.Path.{_≡_};
-ghost use Rattle.dimacs.specs.Format.{reading};
 ghost use Rattle.rule_reader.specs.Read.{readOutput};
 ghost use Rattle.rule_writer.specs.Write.{writeOutput};
 ghost use Rattle.searches.specs.Answers.{replyOf};
@@ -58,7 +57,7 @@ fn from_writer(
 // The route from the reader on.
 fn from_reader(file: &[u8], list: &mut [i32], choice: &mut [u8]) -> Searched
     ensures reply { λ r. ⌜ replyOf r ≡ fromReader (inBuffers (now (list .entry)) (now (file .entry)) (now (list .entry)) (now (choice .entry))) (now (file .entry)) ⌝ }
-    ensures list { λ r. ⌜ now (list .exit) ≡ readOutput (reading (now (file .entry))) (now (list .entry)) ⌝ }
+    ensures list { λ r. ⌜ now (list .exit) ≡ readOutput (now (file .entry)) (now (list .entry)) ⌝ }
     ensures choice { λ r. ⌜ now (choice .exit) ≡ choiceFromReader (inBuffers (now (list .entry)) (now (file .entry)) (now (list .entry)) (now (choice .entry))) (now (file .entry)) ⌝ }
 {
     match rule_reader::read_rules(file, list) {

@@ -5,7 +5,6 @@ use native.Mathlib.Omega.{arith}
 use lib.ListN.{length, length-take}
 use borrow.Author.Needs.{needs}
 use Rattle.refusal.specs.Reply.{answering}
-use Rattle.dimacs.specs.Format.{reading}
 use Rattle.rule_reader.specs.Read.{readReply, replyOf}
 use Rattle.searches.specs.Answers as searches
 use Rattle.second_route.specs.Laws.{read-inside, reader-refused, reader-answered}
@@ -24,13 +23,13 @@ enum-known-counts c = search needs
 
 -- what the reader said, and the part that it filled
 said : (c : tie.After-known-told2)
-    → answering 1 (c .before .counts .given .0 .0 .variables) (c .before .counts .given .0 .0 .clauses) (c .before .counts .given .0 .0 .length) ≡ readReply (reading (c .before .before .before .before .before .before .before .before .args .file .now)) (c .before .before .before .before .before .before .before .before .args .list .now)
+    → answering 1 (c .before .counts .given .0 .0 .variables) (c .before .counts .given .0 .0 .clauses) (c .before .counts .given .0 .0 .length) ≡ readReply (c .before .before .before .before .before .before .before .before .args .file .now) (length (c .before .before .before .before .before .before .before .before .args .list .now))
 said c = sym (ap replyOf (c .before .counts .given .1)) ∙ c .before .before .before .before .read-rules .ensures .0
 
 inside : (c : tie.After-known-told2) → c .before .counts .given .0 .0 .length ≤ length (c .before .before .before .before .read-rules .last .1 .0)
 inside c =
     let held = c .before .counts .given .0 .0 in
-    rw (c .before .before .before .before .read-rules .ensures .1) (read-inside (reading (c .before .before .before .before .before .before .before .before .args .file .now)) (c .before .before .before .before .before .before .before .before .args .list .now) (held .variables) (held .clauses) (held .length) (said c))
+    rw (c .before .before .before .before .read-rules .ensures .1) (read-inside (c .before .before .before .before .before .before .before .before .args .file .now) (c .before .before .before .before .before .before .before .before .args .list .now) (held .variables) (held .clauses) (held .length) (said c))
 
 slice-reshare-prefix-search : tie.Need-slice-reshare-prefix-search
 slice-reshare-prefix-search c = omega (arith, inside c)
