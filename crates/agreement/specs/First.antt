@@ -14,7 +14,8 @@ use Rattle.refusal.specs.Reply.{Reply}
 use Rattle.limits.specs.Limits.{maxLimit}
 use Rattle.walk.specs.Nearest.{disagreement-wishes}
 use Rattle.totalizer.specs.Rows.{sound-wishes}
-use Rattle.searches.specs.Admitted.{Admitted}
+use Rattle.lent.specs.Admitted.{Admitted}
+use Rattle.lent.specs.Lent.{problem}
 use Rattle.searches.specs.Searches.{found}
 use Rattle.agreement.specs.Claim.{Finds, FindsNone, First, Nearest}
 use Rattle.agreement.specs.Decided.{Reached, Decided, yes, no, plain-decides}
@@ -48,7 +49,7 @@ module _ (Holds : Type 0) (reply : Reply) where
   no-decided (yes broken h e r) f holds = let z : _≡_ {A = ℕ} 0 1 = cc in absurd (omega arith)
   no-decided (no e r) f holds = r holds
 
-module _ (n : ℕ) (rules : List ℤ) (row : List ℕ) (ok : (d : ℕ) → d ≤ maxLimit → Admitted n rules row d) where
+module _ (n : ℕ) (rules : List ℤ) (row : List ℕ) (ok : (d : ℕ) → d ≤ maxLimit → Admitted (problem n rules row d)) where
   -- the second route says whether some choice is within d
   pub second-decides : (d : ℕ) → d ≤ maxLimit → (b : Buffers) → Answered (secondRoute n rules row d b) → Decided (Reached n rules row d) 0 (secondRoute n rules row d b)
   second-decides d h b u =

@@ -1,4 +1,3 @@
-pub mod Admitted
 pub mod Answers
 pub mod Fits
 pub mod Meaning
