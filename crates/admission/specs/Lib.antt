@@ -1,2 +1,3 @@
-pub mod Causes
-pub mod Startable
+pub mod Admission
+pub mod Laws
+pub mod Order

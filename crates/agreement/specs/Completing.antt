@@ -12,14 +12,15 @@ use Rattle.choices.specs.Choices.{Choice, Model}
 use Rattle.totalizer.specs.Choice.{choice-take}
 use Rattle.totalizer.specs.Totalizer.{leaves, tree, rewrittenVariables, completion, AllCount}
 use Rattle.totalizer.specs.Theorems as totalizer
-use Rattle.searches.specs.Admitted.{Admitted}
+use Rattle.lent.specs.Admitted.{Admitted}
+use Rattle.lent.specs.Lent.{problem}
 use Rattle.agreement.specs.Claim.{Completing, Completions}
 
-module _ (n : ℕ) (rules : List ℤ) (row : List ℕ) (d : ℕ) (ok : Admitted n rules row d) where
+module _ (n : ℕ) (rules : List ℤ) (row : List ℕ) (d : ℕ) (ok : Admitted (problem n rules row d)) where
   -- a completion that meets every rewritten rule is the totalizer's, of a model within the limit
   says : (a e : List ℕ) → Completing n rules row d a e → Model n (clauses rules) a × (disagreement row a ≤ d) × (e ≡ completion row a)
   says a e c =
-      let (met, near, own) = totalizer.completions n rules row d a e (ok .soundRules) (ok .long) (c .completion .whole) (c .completion .same) .0 (c .meets) in
+      let (met, near, own) = totalizer.completions n rules row d a e (ok .soundRules) (ok .longRow) (c .completion .whole) (c .completion .same) .0 (c .meets) in
       let choice : Choice n a = subst (Choice n) (c .completion .same) (choice-take n (rewrittenVariables n row) e (c .completion .whole) (omega arith)) in
       (record { choice = choice; satisfies = met }, near, own)
 
@@ -28,13 +29,13 @@ module _ (n : ℕ) (rules : List ℤ) (row : List ℕ) (d : ℕ) (ok : Admitted 
       let (whole, same) = totalizer.completion-completes n row a (m .choice) in
       record {
         completion = record { whole = whole; same = same };
-        meets = totalizer.within-found n rules row d a (ok .soundRules) (ok .long) (m .choice) (m .satisfies) near;
+        meets = totalizer.within-found n rules row d a (ok .soundRules) (ok .longRow) (m .choice) (m .satisfies) near;
       }
 
   counts : (a e : List ℕ) → Completing n rules row d a e → AllCount (holds e) n (tree (leaves row))
   counts a e c =
       let (model, near, same) = says a e c in
-      subst (λ (l : List ℕ). AllCount (holds l) n (tree (leaves row))) (sym same) (totalizer.completion-counts n row a (ok .long) (model .choice))
+      subst (λ (l : List ℕ). AllCount (holds l) n (tree (leaves row))) (sym same) (totalizer.completion-counts n row a (ok .longRow) (model .choice))
 
   pub all-completions : Completions n rules row d
   all-completions =

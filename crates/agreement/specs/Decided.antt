@@ -14,7 +14,8 @@ use Rattle.walk.specs.Walk.{Answer, walk, plainWalk}
 use Rattle.totalizer.specs.Completion.{completion-choice}
 use Rattle.totalizer.specs.Totalizer.{rewrittenVariables, rewritten, completion}
 use Rattle.totalizer.specs.Theorems.{found-within, within-found}
-use Rattle.searches.specs.Admitted.{Admitted}
+use Rattle.lent.specs.Admitted.{Admitted}
+use Rattle.lent.specs.Lent.{problem}
 use Rattle.searches.specs.Meaning.{search-found, search-none, plain-nothing}
 use Rattle.searches.specs.Searches.{found, brokenBy}
 use Rattle.agreement.specs.Second.{outcome, sound}
@@ -28,7 +29,7 @@ pub data Decided (Holds : Type 0) (most : ℕ) (reply : Reply) : Type 0 where
   yes : (broken : ℕ) → broken ≤ most → reply ≡ found (some broken) → Holds → Decided Holds most reply
   no : reply ≡ found none → (Holds → ⊥) → Decided Holds most reply
 
-module _ (n : ℕ) (rules : List ℤ) (row : List ℕ) (d : ℕ) (ok : Admitted n rules row d) where
+module _ (n : ℕ) (rules : List ℤ) (row : List ℕ) (d : ℕ) (ok : Admitted (problem n rules row d)) where
   -- the wish search
   pub search-decides : Decided (Reached n rules row d) d (found (brokenBy (walk n (clauses rules) row d .answer)))
   search-decides = go (walk n (clauses rules) row d .answer) refl
@@ -54,9 +55,9 @@ module _ (n : ℕ) (rules : List ℤ) (row : List ℕ) (d : ℕ) (ok : Admitted 
           plain-nothing N R (sound n rules row d ok) .0 e (completion row (r .0))
           (record {
             choice = completion-choice n row (r .0) (r .1 .choice);
-            satisfies = within-found n rules row d (r .0) (ok .soundRules) (ok .long) (r .1 .choice) (r .1 .satisfies) (r .2);
+            satisfies = within-found n rules row d (r .0) (ok .soundRules) (ok .longRow) (r .1 .choice) (r .1 .satisfies) (r .2);
           }))
       go (some x) e =
           let f = search-found N R (sound n rules row d ok) (replicate N 2) 0 x e in
-          let (choice, met, near) = found-within n rules row d (x .choice) (ok .soundRules) (ok .long) (f .model .choice) (f .model .satisfies) in
+          let (choice, met, near) = found-within n rules row d (x .choice) (ok .soundRules) (ok .longRow) (f .model .choice) (f .model .satisfies) in
           yes (x .broken) (f .limited) refl (take n (x .choice), record { choice = choice; satisfies = met }, near)

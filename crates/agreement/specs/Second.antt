@@ -1,6 +1,5 @@
 -- The second route on admitted input, call by call: each is refused only for want of room, and plain search is asked for the rewritten rules.
 use mathlib.Core.Path.{_≡_, refl, sym, ap, subst, _∙_}
-use mathlib.Core.Bool.{Bool, false}
 use mathlib.Core.List.{List}
 use mathlib.Core.Option.{Option, none, some}
 use Prim.Native.Nat.{ℕ, _≤_, _<_}
@@ -9,27 +8,25 @@ use native.Mathlib.Omega.{arith}
 use lib.IntN.{ℤ}
 use lib.ListN.{length, take, drop, replicate, length-replicate}
 use lib.Seq.{take-append-seam}
-use borrow.Author.Tests.{le-ltb, ne-eqb}
 use Rattle.formula.specs.Formula.{clauses}
 use Rattle.refusal.specs.declared.Refusal.{Refusal}
 use Rattle.refusal.specs.Laws.{room-enough}
-use Rattle.refusal.specs.Reply.{Reply, cause, answering, unless, filled, tooShort}
-use Rattle.lent.specs.Lent.{refusalOf, outOfRange}
+use Rattle.refusal.specs.Reply.{Reply, answering, unless, filled, tooShort}
+use Rattle.lent.specs.Admitted.{Admitted, admitted-room, plain-admitted}
+use Rattle.lent.specs.Lent.{plainProblem, problem, refusalOf}
 use Rattle.limits.specs.Limits.{maxVariables}
-use Rattle.rule_list.specs.Sound.{unread, badRule}
+use Rattle.rule_list.specs.Sound.{SoundList}
 use Rattle.walk.specs.Walk.{plainWalk}
 use Rattle.totalizer.specs.Totalizer.{rewrittenVariables, rewritten}
 use Rattle.totalizer.specs.Theorems.{rewritten-variables, rewritten-sound}
 use Rattle.dimacs.specs.Format.{Reading}
 use Rattle.dimacs.specs.RoundTrip.{read-written}
 use Rattle.dimacs.specs.Written.{written}
-use Rattle.searches.specs.Admitted.{Admitted, admitted-room}
 use Rattle.searches.specs.Searches.{found, brokenBy}
 use Rattle.rewriting.specs.Rewrite.{lentToRewrite, rewriteOutput}
-use Rattle.rule_writer.specs.Laws.{by-room}
 use Rattle.rule_writer.specs.Write.{lentToWrite, writeOutput}
 use Rattle.rule_reader.specs.Read.{replying, leaving}
-use Rattle.agreement.specs.Causes.{short-fine, fine-passes, answered-past, plain-room}
+use Rattle.agreement.specs.Causes.{short-fine, fine-passes, answered-past}
 use Rattle.second_route.specs.Routes.{onAnswer, Buffers, fromSearch, fromReader, fromWriter, secondRoute, Answered, Passes}
 
 on-unless : (o : Option Refusal) (v x y z : ℕ) (next : ℕ → ℕ → ℕ → ℕ → Reply) → onAnswer (unless o (answering v x y z)) next ≡ unless o (next v x y z)
@@ -54,7 +51,7 @@ found-passes (some k) = tt
 abbrev pub outcome : ℕ → List ℤ → List ℕ → ℕ → Reply
 outcome n rules row d = found (brokenBy (plainWalk (rewrittenVariables n row) (clauses (rewritten n rules row d)) .answer))
 
-module _ (n : ℕ) (rules : List ℤ) (row : List ℕ) (d : ℕ) (a : Admitted n rules row d) where
+module _ (n : ℕ) (rules : List ℤ) (row : List ℕ) (d : ℕ) (a : Admitted (problem n rules row d)) where
   abbrev N : ℕ
   N = rewrittenVariables n row
 
@@ -64,18 +61,21 @@ module _ (n : ℕ) (rules : List ℤ) (row : List ℕ) (d : ℕ) (a : Admitted n
   abbrev W : List ℕ
   W = written N R
 
-  pub sound : badRule N unread 0 R ≡ none
-  sound = rewritten-sound n rules row d (a .soundRules) (a .long) (a .soundRow) (a .few) (a .short)
+  pub sound : SoundList N R
+  sound = rewritten-sound n rules row d (a .soundRules) (a .longRow) (a .soundRow) (a .small .few) (a .small .short)
 
   positive : 0 < N
   positive = omega (arith, a .positive)
 
   most : N ≤ maxVariables
-  most = rewritten-variables n row (a .small) (a .soundRow)
+  most = rewritten-variables n row (a .small .variables) (a .soundRow)
+
+  plain : Admitted (plainProblem N R)
+  plain = plain-admitted N R positive most sound
 
   module _ (b : Buffers) where
     search-says : fromSearch b N R ≡ unless (tooShort N (length (b .choice))) (outcome n rules row d)
-    search-says = ap (λ (o : Option Refusal). unless o (outcome n rules row d)) (plain-room N R (length (b .choice)) positive most sound)
+    search-says = ap (λ (o : Option Refusal). unless o (outcome n rules row d)) (admitted-room (plainProblem N R) N (length (b .choice)) plain)
 
     reader-says : fromReader b W ≡ unless (tooShort (length R) (length (b .list))) (fromSearch b N R)
     reader-says =
@@ -89,17 +89,16 @@ module _ (n : ℕ) (rules : List ℤ) (row : List ℕ) (d : ℕ) (a : Admitted n
     writer-says : fromWriter b N R ≡ unless (tooShort (length W) (length (b .file))) (fromReader b W)
     writer-says =
         let o : Option Refusal = refusalOf (lentToWrite N R (length (b .file))) in
-        let range : outOfRange N 0 ≡ false = rw (ne-eqb N 0 (λ z. omega (arith, positive)), le-ltb maxVariables N most) in
         on-unless o 1 (length W) 0 0 (λ (v size y z : ℕ). fromReader b (take size (writeOutput N R (b .file))))
         ∙ take-filled o W (b .file) (fromReader b)
-        ∙ ap (λ (p : Option Refusal). unless p (fromReader b W)) (by-room N R (b .file) (ap (λ (t : Bool). cause t 14 0) range) sound)
+        ∙ ap (λ (p : Option Refusal). unless p (fromReader b W)) (admitted-room (plainProblem N R) (length W) (length (b .file)) plain)
 
     rewriting-says : secondRoute n rules row d b ≡ unless (tooShort (length R) (length (b .rewritten))) (fromWriter b N R)
     rewriting-says =
         let o : Option Refusal = refusalOf (lentToRewrite n rules row d (length (b .rewritten))) in
         on-unless o 1 N (length R) 0 (λ (v variables size z : ℕ). fromWriter b variables (take size (rewriteOutput n rules row d (b .rewritten))))
         ∙ take-filled o R (b .rewritten) (fromWriter b N)
-        ∙ ap (λ (p : Option Refusal). unless p (fromWriter b N R)) (admitted-room n rules row d (length R) (length (b .rewritten)) a)
+        ∙ ap (λ (p : Option Refusal). unless p (fromWriter b N R)) (admitted-room (problem n rules row d) (length R) (length (b .rewritten)) a)
 
     -- the whole route: the refusals for want of room, in the order of the calls, and then the answer of plain search
     pub second-says : secondRoute n rules row d b

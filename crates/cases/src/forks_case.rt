@@ -1,8 +1,8 @@
 // `forks N RULES ROW D`: the walk of the wish search, with the forks that it makes. They are counted
 // below the public calls, which do not tell them.
 use crate::report;
+use admission::Admission;
 use dll::Tried;
-use refusal::Verdict;
 
 pub fn answer(n: usize, rules: &[i32], row: &[u8], d: usize) {
     let mut choice = casefile::bytes();
@@ -10,11 +10,11 @@ pub fn answer(n: usize, rules: &[i32], row: &[u8], d: usize) {
 }
 
 fn walk(n: usize, rules: &[i32], row: &[u8], d: usize, choice: &mut [u8]) {
-    if let Verdict::Refuse(r) = admission::check_wished(n, d, rules, row, choice.len()) {
-        report::refused(r.number, r.place);
-        return;
+    let admitted = admission::admit_wishes(n, rules, row, d);
+    match admission::with_room(admitted, n, choice.len()) {
+        Admission::Refused(r) => report::refused(r.number, r.place),
+        Admission::Admitted(_) => show(root::walk_into(n, rules, row, d, choice)),
     }
-    show(root::walk_into(n, rules, row, d, choice));
 }
 
 fn show(tried: Tried) {

@@ -1,20 +1,18 @@
 -- The checking call (document 01, "The wish search"): "A checking call says whether a choice meets all rules, and how many wishes it breaks."
 use mathlib.Core.Bool.{cond}
 use mathlib.Core.List.{List}
-use mathlib.Core.Option.{some}
 use Prim.Native.Nat.{ℕ}
 use lib.IntN.{ℤ}
 use Rattle.formula.specs.Formula.{clauses, models}
 use Rattle.distance.specs.Distance.{disagreement}
 use Rattle.refusal.specs.Reply.{Reply, refusing, answering, unless}
-use Rattle.lent.specs.Lent.{Lent, refusalOf}
+use Rattle.lent.specs.Lent.{Lent, chosenProblem, refusalOf}
 use Rattle.checking.specs.declared.Checked.{Checked}
 use Rattle.checking.specs.declared.Checked.the-variants.{Refused, Met, Unmet}
 
--- what is lent to the call
+-- what is lent to the call; it has no output
 abbrev pub lentToCheck : ℕ → List ℤ → List ℕ → List ℕ → Lent
-lentToCheck n rules row choice =
-    record { n = n; d = 0; rules = rules; row = some row; choice = some choice; needed = 0; room = 0 }
+lentToCheck n rules row choice = chosenProblem n rules row choice
 
 -- whether the choice meets all rules, and the number of wishes that it breaks
 abbrev pub judged : List ℤ → List ℕ → List ℕ → Reply

@@ -6,9 +6,6 @@ use Prim.Native.Nat.{ℕ, suc, _+_, _-_, _<_, min}
 use native.Mathlib.Omega.{arith}
 use lib.Dec.{lit<}
 use lib.ListN.{length, set}
-use Rattle.literal.specs.Literal.{value}
-use Rattle.wish.specs.Wish.{cost}
-use Rattle.walk.specs.Assignment.{assign-fewer}
 use Rattle.walk.specs.Promises.{Branches}
 use Rattle.walk.specs.State.{unassigned, assign}
 use Rattle.walk.specs.Walk.{Outcome, fork}

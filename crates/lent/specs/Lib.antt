@@ -1,5 +1,5 @@
+pub mod Admitted
 pub mod Laws
 pub mod Lent
-pub mod ScanLaws
 pub mod Scans
 pub mod Sound

@@ -1,13 +1,10 @@
-// The checks of what a call is lent: the causes 11 to 14 of document 01's table, a function for each.
+// The checks of what a call is lent: the causes 11 to 14 of document 01's table, a function for each. The rule list's is in crate `rule_list`.
 mod choice;
-mod problem;
 mod range;
 mod row;
 mod size;
 
 pub use choice::scan_choice;
-pub use problem::Problem;
-pub use problem::scan_problem;
 pub use range::check_range;
 pub use row::RowScan;
 pub use row::scan_row;

@@ -10,7 +10,7 @@ use mir.Syntax.{w32}
 use mir.Val.{hbits, toZ, ofZ}
 use mir.ValLaws.{toZ-ofZ}
 use lib.ListN.{length, getD, List·getD-eq-default}
-use Rattle.literal.specs.Literal.{variable, value}
+use Rattle.literal.specs.Literal.{value}
 
 -- inside a list the default does not matter
 pub getD-inside {ℓ} : {A : Type ℓ} (l : List A) (i : ℕ) (d e : A) → i < length l → getD l i d ≡ getD l i e

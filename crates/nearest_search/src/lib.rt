@@ -1,14 +1,14 @@
 // Nearest: the least number of broken wishes with a choice that meets all rules, or none when the
 // rules can't be met.
+use admission::Admission;
 use dll::Tried;
-use refusal::Verdict;
 use searches::Searched;
 ghost use mathlib.Core.Path.{_≡_};
 ghost use mathlib.Core.Option.{none};
 ghost use lib.ListN.{length};
 ghost use Rattle.formula.specs.Formula.{clauses};
 ghost use Rattle.wish.specs.Wish.{totalWeight};
-ghost use Rattle.admission.specs.Startable.{Startable};
+ghost use Rattle.root.specs.Into.{Startable};
 ghost use Rattle.searches.specs.Answers.{replyOf, NearestMeans, searchedOf};
 ghost use Rattle.searches.specs.Searches.{nearestReply, nearestChoice, brokenBy, choiceAfter};
 ghost use Rattle.walk.specs.Walk.{nearestWalk};
@@ -19,20 +19,20 @@ pub fn search(n: usize, rules: &[i32], row: &[u8], choice: &mut [u8]) -> Searche
     ensures output { λ r. ⌜ now (choice .exit) ≡ nearestChoice n (now (rules .entry)) (now (row .entry)) (now (choice .entry)) ⌝ }
     ensures meaning { λ r. ⌜ NearestMeans n (now (rules .entry)) (now (row .entry)) (now (choice .exit)) r ⌝ }
 {
-    if let Verdict::Refuse(r) = admission::check_wished(n, 0, rules, row, choice.len()) {
-        return Searched::Refused(r);
+    let admitted = admission::admit_wishes(n, rules, row, 0);
+    match admission::with_room(admitted, n, choice.len()) {
+        Admission::Refused(r) => Searched::Refused(r),
+        Admission::Admitted(counts) => climb(n, rules, row, counts.weight, choice),
     }
-    climb(n, rules, row, choice)
 }
 
 // Walks with the limits 0, 1, .. until one finds an answer. No choice breaks more wishes than there
-// are, so the number of wishes is the last limit.
-fn climb(n: usize, rules: &[i32], row: &[u8], choice: &mut [u8]) -> Searched
-    requires { ⌜ Startable n (now rules) (length (now choice)) ⌝ }
+// are, so their number is the last limit.
+fn climb(n: usize, rules: &[i32], row: &[u8], last: usize, choice: &mut [u8]) -> Searched
+    requires { ⌜ Startable n (now rules) (length (now choice)) × (last ≡ totalWeight (now row)) ⌝ }
     ensures answer { λ r. ⌜ r ≡ searchedOf (brokenBy (nearestWalk n (clauses (now (rules .entry))) (now (row .entry)))) ⌝ }
     ensures output { λ r. ⌜ now (choice .exit) ≡ choiceAfter none (nearestWalk n (clauses (now (rules .entry))) (now (row .entry))) n (now (choice .entry)) ⌝ }
 {
-    let last = count_wishes(row);
     let mut d: usize = 0;
     while d < last {
         if let Tried::Found(broken, _) = root::walk_into(n, rules, row, d, choice) {
@@ -41,16 +41,4 @@ fn climb(n: usize, rules: &[i32], row: &[u8], choice: &mut [u8]) -> Searched
         d += 1;
     }
     root::answer_of(root::walk_into(n, rules, row, d, choice))
-}
-
-fn count_wishes(row: &[u8]) -> usize
-    ensures { λ r. ⌜ r ≡ totalWeight (now (row .entry)) ⌝ }
-{
-    let mut count: usize = 0;
-    let mut i = 0;
-    while i < row.len() {
-        count += wish::weight_of(row[i]);
-        i += 1;
-    }
-    count
 }

@@ -11,10 +11,10 @@ use Rattle.formula.specs.Formula.{clauses}
 use Rattle.distance.specs.Distance.{nearest}
 use Rattle.refusal.specs.declared.Refusal.{Refusal}
 use Rattle.refusal.specs.Reply.{Reply, refusing, answering, unless}
-use Rattle.lent.specs.Lent.{refusalOf}
+use Rattle.lent.specs.Admitted.{Admitted}
+use Rattle.lent.specs.Lent.{problem, refusalOf}
 use Rattle.walk.specs.Promises.{Closest}
 use Rattle.walk.specs.Walk.{Answer, nearestWalk}
-use Rattle.searches.specs.Admitted.{Admitted}
 use Rattle.searches.specs.Meaning as meaning
 use Rattle.searches.specs.Searches.{lentToSearch, found, brokenBy, choiceAfter, nearestReply, nearestChoice}
 use Rattle.report.specs.Report.{refusalLine}
@@ -31,7 +31,7 @@ module _ (n : ℕ) (rules : List ℤ) (row : List ℕ) where
     abbrev off : List ℕ
     off = replicate n 0
 
-    admitted : Admitted n rules row 0
+    admitted : Admitted (problem n rules row 0)
     admitted = unrefused n rules row 0 n n e
 
     broken-is : brokenBy (nearestWalk n (clauses rules) row) ≡ nearest n rules row
@@ -68,7 +68,7 @@ module _ (n : ℕ) (rules : List ℤ) (row : List ℕ) where
     cause-of = refusalOf (lentToSearch n rules row 0 (length blank))
 
     same-cause : cause-of ≡ nearestRefused n rules row
-    same-cause = enough n rules row 0 n (length blank) (λ a. omega (arith, a .small))
+    same-cause = enough n rules row 0 n (length blank) (λ a. omega (arith, a .small .variables))
 
     pub nearest-refused : (r : Refusal) → refusing r ≡ nearestReply n rules row (length blank) → refusalLine r ≡ nearestText n rules row
     nearest-refused r e = go cause-of (nearest n rules row) e ∙ ap text same-cause
@@ -130,7 +130,7 @@ module _ (n : ℕ) (rules : List ℤ) (row : List ℕ) where
             let left : result ≡ x .choice ++ drop n blank = f ∙ ap₂ (λ (o : Option Refusal) (w : Option Answer). choiceAfter o w n blank) (a .0) g in
             let front : take n result ≡ x .choice = ap (take n) left ∙ take-at (x .choice) (drop n blank) n size in
             record {
-              few = admitted free .small;
+              few = admitted free .small .variables;
               inside = omega (arith, ap length left, length-append (x .choice) (drop n blank), size);
               lines = whole (a .0) (some k) count (take n result) (front ∙ sym (chosen-is free x g));
             }

@@ -14,7 +14,7 @@ use Rattle.formula.specs.Formula.{any, all, clauses, satisfied}
 use Rattle.walk.specs.State.{isUnassigned, unassignedIn}
 use Rattle.walk.specs.Branching.{assignedOrAgainst, isOpposed, shorter, shorterOf, shortest, fewest}
 use Rattle.wish.specs.Wish.{isAgainst}
-use Rattle.walk.specs.BranchingLaws.{fewer, fewest-opposed, fewest-other, fewer-assoc, shorter-fewer}
+use Rattle.walk.specs.BranchingLaws.{fewer, fewest-opposed, fewest-other}
 use Rattle.opposed.specs.Opposed.{opposes, isSome}
 
 -- a literal that holds, one that is unassigned, and one that is assigned and does not hold

@@ -1,5 +1,5 @@
 // Plain search: a choice that meets all rules, or none; up to the limits of a rule file.
-use refusal::Verdict;
+use admission::Admission;
 use searches::Searched;
 use wish::FREE;
 ghost use mathlib.Core.Path.{_≡_};
@@ -14,11 +14,14 @@ pub fn search(n: usize, rules: &[i32], choice: &mut [u8]) -> Searched
     ensures output { λ r. ⌜ now (choice .exit) ≡ plainChoice n (now (rules .entry)) (now (choice .entry)) ⌝ }
     ensures meaning { λ r. ⌜ PlainMeans n (now (rules .entry)) (now (choice .exit)) r ⌝ }
 {
-    if let Verdict::Refuse(r) = admission::check_plain(n, rules, choice.len()) {
-        return Searched::Refused(r);
+    let admitted = admission::admit_rules(n, rules);
+    match admission::with_room(admitted, n, choice.len()) {
+        Admission::Refused(r) => Searched::Refused(r),
+        Admission::Admitted(_) => {
+            let row = no_wishes();
+            root::answer_of(root::walk_into(n, rules, &row[..n], 0, choice))
+        }
     }
-    let row = no_wishes();
-    root::answer_of(root::walk_into(n, rules, &row[..n], 0, choice))
 }
 
 // A wish row in which every variable is free.

@@ -10,7 +10,6 @@ use lib.IntN.{ℤ}
 use borrow.Author.Tests.{eqb-true, lt-ltb, le-ltb}
 use Rattle.literal.specs.Literal.{variable, wanted, value}
 use Rattle.formula.specs.Formula.{any}
-use Rattle.wish.specs.Wish.{cost}
 use Rattle.distance.specs.Distance.{disagreement}
 use Rattle.walk.specs.Extension.{wanted-bit}
 use Rattle.walk.specs.Propagation.{unitLiteral, propagate}

@@ -5,9 +5,7 @@ ghost use mathlib.Core.Path.{_≡_};
 ghost use Prim.Native.Nat.{_^_, _≤_, _<_, _+_, _-_, _*_};
 ghost use lib.ListN.{length, set};
 ghost use Rattle.propagation.specs.Assigned.{AssignedTo};
-ghost use Rattle.literal.specs.Literal.{value};
-ghost use Rattle.wish.specs.Wish.{maxWeight, cost};
-ghost use Rattle.walk.specs.State.{assign};
+ghost use Rattle.wish.specs.Wish.{cost};
 
 // Assigns a variable, at what its wish makes it cost, and gives the tally with it. What it asks of the
 // tally is that no count runs over.

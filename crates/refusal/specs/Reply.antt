@@ -1,6 +1,6 @@
 -- Refusals (document 01, "Refusals"), and the reply of a call as numbers.
 use mathlib.Core.Bool.{Bool, cond}
-use mathlib.Core.List.{List, [], _∷_, _++_}
+use mathlib.Core.List.{List, [], _∷_, _++_, map}
 use mathlib.Core.Option.{Option, none, some}
 use Prim.Native.Nat.{ℕ}
 use lib.Dec.{ltb}
@@ -24,14 +24,31 @@ first [] = none
 first (none ∷ causes) = first causes
 first (some r ∷ causes) = some r
 
--- a cause that applies where the test does
-abbrev pub cause : Bool → ℕ → ℕ → Option Refusal
-cause applies number place = cond applies (some (refusal number place)) none
-
 -- a cause with the place at which it was found, if it was
 abbrev pub causeAt : ℕ → Option ℕ → Option Refusal
 causeAt number none = none
 causeAt number (some place) = some (refusal number place)
+
+-- a place, where the test applies
+abbrev pub placeIf : Bool → ℕ → Option ℕ
+placeIf applies place = cond applies (some place) none
+
+-- a cause that applies where the test does
+abbrev pub cause : Bool → ℕ → ℕ → Option Refusal
+cause applies number place = causeAt number (placeIf applies place)
+
+-- a cause by the table's number, with the place at which it was found, if it was
+pub record Cause : Type 0 where
+  pub number : ℕ
+  pub place : Option ℕ
+
+-- the refusal that a cause gives
+abbrev pub given : Cause → Option Refusal
+given c = causeAt (c .number) (c .place)
+
+-- the refusal of the first of several causes that was found
+abbrev pub firstFound : List Cause → Option Refusal
+firstFound causes = first (map given causes)
 
 -- 15, the last of a call's causes: "lent output too short", with the "length needed" as its place; the output needs so many elements, and was lent room for so many
 abbrev pub tooShort : ℕ → ℕ → Option Refusal

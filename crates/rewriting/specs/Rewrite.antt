@@ -1,27 +1,17 @@
 -- The call that rewrites into plain rules (document 01, "Rewriting into plain rules").
 use mathlib.Core.List.{List}
-use mathlib.Core.Option.{none, some}
 use Prim.Native.Nat.{ℕ}
 use lib.IntN.{ℤ}
 use lib.ListN.{length}
 use Rattle.refusal.specs.Reply.{Reply, refusing, answering, unless, filled}
-use Rattle.lent.specs.Lent.{Lent, refusalOf}
+use Rattle.lent.specs.Lent.{Lent, withRoom, problem, refusalOf}
 use Rattle.totalizer.specs.Totalizer.{rewrittenVariables, rewritten}
 use Rattle.rewriting.specs.declared.Rewritten.{Rewritten}
 use Rattle.rewriting.specs.declared.Rewritten.the-variants.{Refused, Done}
 
 -- what is lent to the call: n, the limit d, the rules, the row, and room for so many elements
 abbrev pub lentToRewrite : ℕ → List ℤ → List ℕ → ℕ → ℕ → Lent
-lentToRewrite n rules row d room =
-    record {
-      n = n;
-      d = d;
-      rules = rules;
-      row = some row;
-      choice = none;
-      needed = length (rewritten n rules row d);
-      room = room;
-    }
+lentToRewrite n rules row d room = withRoom (length (rewritten n rules row d)) room (problem n rules row d)
 
 -- the reply of the call: the number of variables, and the length of the rewritten list
 abbrev pub rewriteReply : ℕ → List ℤ → List ℕ → ℕ → ℕ → Reply

@@ -2,15 +2,17 @@
 // counts first, then writes, so that a refusal leaves the lent list alone.
 mod leaves;
 
-use lent::Problem;
+use admission::Admission;
 use refusal::Refusal;
 use refusal::Verdict;
 ghost use mathlib.Core.Option.{none};
 ghost use mathlib.Core.Path.{_≡_};
+ghost use Prim.Native.Nat.{_≤_};
 ghost use lib.ListN.{length};
 ghost use Rattle.refusal.specs.Reply.{filled};
+ghost use Rattle.lent.specs.Admitted.{Admitted};
+ghost use Rattle.lent.specs.Lent.{problem};
 ghost use Rattle.totalizer.specs.Totalizer.{rewrittenVariables, rewritten};
-ghost use Rattle.rewriting.specs.Causes.{Writable};
 ghost use Rattle.rewriting.specs.Rewrite.{rewriteReply, rewriteOutput, replyOf, done};
 
 // Refused, or the number of variables and the length of the rewritten list.
@@ -30,15 +32,11 @@ pub fn rewrite(n: usize, rules: &[i32], row: &[u8], d: usize, out: &mut [i32]) -
     ensures reply { λ r. ⌜ replyOf r ≡ rewriteReply n (now (rules .entry)) (now (row .entry)) d (length (now (out .entry))) ⌝ }
     ensures output { λ r. ⌜ now (out .exit) ≡ rewriteOutput n (now (rules .entry)) (now (row .entry)) d (now (out .entry)) ⌝ }
 {
-    match lent::scan_problem(n, d, rules, row) {
-        Problem::Refused(r) => Rewritten::Refused(r),
-        Problem::Sound {
-            clauses,
-            literals,
-            wishes,
-        } => {
-            let needed = rules.len() + at_most::length_of(wishes, d);
-            match admission::check_rest(n, row.len(), clauses, literals, needed, out.len()) {
+    match admission::admit_wishes(n, rules, row, d) {
+        Admission::Refused(r) => Rewritten::Refused(r),
+        Admission::Admitted(counts) => {
+            let needed = rules.len() + at_most::length_of(counts.weight, d);
+            match admission::check_room(needed, out.len()) {
                 Verdict::Refuse(r) => Rewritten::Refused(r),
                 Verdict::Pass => write(n, rules, row, d, out),
             }
@@ -48,7 +46,7 @@ pub fn rewrite(n: usize, rules: &[i32], row: &[u8], d: usize, out: &mut [i32]) -
 
 // Writes the rewritten list where it has room.
 fn write(n: usize, rules: &[i32], row: &[u8], d: usize, out: &mut [i32]) -> Rewritten
-    requires { ⌜ Writable n (now rules) (now row) d (now out) ⌝ }
+    requires { ⌜ Admitted (problem n (now rules) (now row) d) × (length (rewritten n (now rules) (now row) d) ≤ length (now out)) ⌝ }
     ensures reply { λ r. ⌜ r ≡ done (rewrittenVariables n (now (row .entry))) (length (rewritten n (now (rules .entry)) (now (row .entry)) d)) ⌝ }
     ensures output { λ r. ⌜ now (out .exit) ≡ filled none (rewritten n (now (rules .entry)) (now (row .entry)) d) (now (out .entry)) ⌝ }
 {

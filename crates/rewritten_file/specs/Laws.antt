@@ -8,19 +8,17 @@ use native.Mathlib.Omega.{arith}
 use lib.Dec.{ltb}
 use lib.IntN.{ℤ}
 use lib.ListN.{length, take}
-use borrow.Author.Tests.{ne-eqb, le-ltb}
 use Rattle.refusal.specs.declared.Refusal.{Refusal}
 use Rattle.refusal.specs.Reply.{refusing, answering, cause, unless, tooShort, filled}
-use Rattle.lent.specs.Lent.{refusalOf, outOfRange}
+use Rattle.lent.specs.Lent.{refusalOf, plainProblem, problem}
+use Rattle.lent.specs.Admitted.{Admitted, admitted-room, plain-admitted}
 use Rattle.limits.specs.Limits.{maxVariables}
-use Rattle.rule_list.specs.Sound.{unread, badRule}
+use Rattle.rule_list.specs.Sound.{unread, badRule, SoundList}
 use Rattle.dimacs.specs.Sizes.{sound-length}
 use Rattle.dimacs.specs.Written.{written}
-use Rattle.searches.specs.Admitted.{Admitted}
 use Rattle.totalizer.specs.Theorems.{rewritten-variables, rewritten-sound}
 use Rattle.totalizer.specs.Totalizer.{rewrittenVariables, rewritten}
 use Rattle.rewriting.specs.Rewrite.{lentToRewrite, rewriteReply, rewriteOutput}
-use Rattle.rule_writer.specs.Laws.{by-room}
 use Rattle.rule_writer.specs.Write.{lentToWrite, writeReply, writeOutput}
 use Rattle.report.specs.Report.{refusalLine, fitted}
 use Rattle.problem_files.specs.Problem.{unlessRefused}
@@ -30,11 +28,9 @@ use Rattle.rewritten_file.specs.FileSize.{sizeOf}
 use Rattle.rewritten_file.specs.Printed.{rewritingRefused, rewrittenText}
 
 -- the file of a sound list
-module _ (n : ℕ) (l : List ℤ) (out : List ℕ) (positive : 0 < n) (most : n ≤ maxVariables) (sound : badRule n unread 0 l ≡ none) where
+module _ (n : ℕ) (l : List ℤ) (out : List ℕ) (positive : 0 < n) (most : n ≤ maxVariables) (sound : SoundList n l) where
   only-room : refusalOf (lentToWrite n l (length out)) ≡ tooShort (length (written n l)) (length out)
-  only-room =
-      let range : outOfRange n 0 ≡ false = rw (ne-eqb n 0 (λ z. omega (arith, positive)), le-ltb maxVariables n most) in
-      by-room n l out (ap (λ (b : Bool). cause b 14 0) range) sound
+  only-room = admitted-room (plainProblem n l) (length (written n l)) (length out) (plain-admitted n l positive most sound)
 
   pub file-size : sizeOf (writeReply n l (length out)) ≡ length (written n l)
   file-size = ap (λ (o : Option Refusal). sizeOf (unless o (answering 1 k 0 0))) only-room ∙ either (ltb (length out) k)
@@ -60,8 +56,8 @@ module _ (n : ℕ) (rules : List ℤ) (row : List ℕ) (d : ℕ) where
   abbrev text : Option Refusal → List ℕ
   text o = unlessRefused o (written N R)
 
-  admitted-sound : Admitted n rules row d → badRule N unread 0 R ≡ none
-  admitted-sound a = rewritten-sound n rules row d (a .soundRules) (a .long) (a .soundRow) (a .few) (a .short)
+  admitted-sound : Admitted (problem n rules row d) → SoundList N R
+  admitted-sound a = rewritten-sound n rules row d (a .soundRules) (a .longRow) (a .soundRow) (a .small .few) (a .small .short)
 
   module _ (blank : List ℤ) (room : 40000 ≤ length blank) where
     same-cause : refusalOf (lentToRewrite n rules row d (length blank)) ≡ rewritingRefused n rules row d
@@ -79,7 +75,7 @@ module _ (n : ℕ) (rules : List ℤ) (row : List ℕ) (d : ℕ) where
       pub inside : k ≤ length result
       pub positive : 0 < v
       pub most : v ≤ maxVariables
-      pub sound : badRule v unread 0 (take k result) ≡ none
+      pub sound : SoundList v (take k result)
       pub file : written v (take k result) ≡ rewrittenText n rules row d
 
     pub rewriting-done : (v k : ℕ) (result : List ℤ) → answering 1 v k 0 ≡ rewriteReply n rules row d (length blank) → result ≡ rewriteOutput n rules row d blank
@@ -90,7 +86,7 @@ module _ (n : ℕ) (rules : List ℤ) (row : List ℕ) (d : ℕ) where
             → Rewrote v k result
         go (some q) g h i = absurd (let z : _≡_ {A = ℕ} 0 1 = cc in omega arith)
         go none g h i =
-            let a : Admitted n rules row d = unrefused n rules row d (length R) (length blank) g in
+            let a : Admitted (problem n rules row d) = unrefused n rules row d (length R) (length blank) g in
             let v-is : N ≡ v = cc in
             let k-is : length R ≡ k = cc in
             let here = front R blank result k k-is i in
@@ -98,7 +94,7 @@ module _ (n : ℕ) (rules : List ℤ) (row : List ℕ) (d : ℕ) where
             (record {
               inside = here .1;
               positive = omega (arith, a .positive);
-              most = rewritten-variables n row (a .small) (a .soundRow);
+              most = rewritten-variables n row (a .small .variables) (a .soundRow);
               sound = ap (badRule N unread 0) (here .0) ∙ admitted-sound a;
               file = ap (written N) (here .0) ∙ ap text (sym g ∙ same-cause);
             })

@@ -12,7 +12,7 @@ use borrow.Author.Tests.{leb-true, eqb-true}
 use Rattle.literal.specs.Literal.{variable}
 use Rattle.formula.specs.Formula.{closes, clauses}
 use Rattle.limits.specs.Limits.{maxVariables, maxClauses, maxLiterals}
-use Rattle.rule_list.specs.Sound.{Scan, mayJoin, stands, after, unread, badRule}
+use Rattle.rule_list.specs.Sound.{Scan, mayJoin, stands, after, unread, badRule, SoundList}
 use Rattle.decimal.specs.Laws.{count-most}
 use Rattle.soundness.specs.Laws.{and-left}
 use Rattle.text.specs.Laws.{numeral-most}
@@ -42,7 +42,7 @@ body-most (x ∷ l) n s i h e =
     )
 
 -- the file of a sound list
-pub written-most : (n : ℕ) (l : List ℤ) → n ≤ maxVariables → badRule n unread 0 l ≡ none → length (written n l) ≤ longest
+pub written-most : (n : ℕ) (l : List ℤ) → n ≤ maxVariables → SoundList n l → length (written n l) ≤ longest
 written-most n l h e =
     let c : ℕ = length (clauses l) in
     omega (

@@ -2,14 +2,29 @@
 use mathlib.Core.Path.{_≡_, sym, ap, _∙_}
 use mathlib.Core.List.{List, _++_}
 use mathlib.Core.Option.{Option, none, some}
-use Prim.Native.Nat.{ℕ}
+use Prim.Native.Nat.{ℕ, _≤_}
+use lib.IntN.{ℤ}
 use lib.ListN.{drop}
+use Rattle.limits.specs.Limits.{maxVariables}
+use Rattle.rule_list.specs.Sound.{SoundList}
+use Rattle.lent.specs.Admitted.{Admitted}
+use Rattle.lent.specs.Lent.{Lent}
 use Rattle.walk.specs.Walk.{Answer, Outcome}
 use Rattle.searches.specs.Searches.{brokenBy, choiceAfter}
 use Rattle.dll.specs.declared.tried.Tried.{Tried}
 use Rattle.dll.specs.declared.tried.Tried.the-variants.{Found, Nothing}
 use Rattle.dll.specs.Tried.{clip}
 use Rattle.root.specs.Root.{RootSays}
+
+-- what a walk asks for: so many variables, a sound list, and room for the choice
+pub record Startable (n : ℕ) (rules : List ℤ) (room : ℕ) : Type 0 where
+  pub few : n ≤ maxVariables
+  pub sound : SoundList n rules
+  pub wide : n ≤ room
+
+-- any call that is admitted with room for it may walk
+pub startable : (s : Lent) (room : ℕ) → Admitted s × (s .n ≤ room) → Startable (s .n) (s .rules) room
+startable s room a = record { few = a .0 .most; sound = a .0 .soundRules; wide = a .1 }
 
 -- the number of broken wishes of an answer, and the forks that were made
 abbrev pub brokenIn : Tried → Option ℕ

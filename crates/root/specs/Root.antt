@@ -9,7 +9,6 @@ use borrow.Author.Tests.{le-ltb}
 use Rattle.distance.specs.Distance.{disagreement}
 use Rattle.wish.specs.Laws.{cost-unassigned}
 use Rattle.walk.specs.Correctness.{start-state, start-unassigned}
-use Rattle.walk.specs.State.{unassigned}
 use Rattle.walk.specs.Walk.{Outcome}
 use Rattle.propagation.specs.Searching.{Searching}
 use Rattle.propagation.specs.Trail.{undone}

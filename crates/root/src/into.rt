@@ -9,8 +9,7 @@ ghost use lib.ListN.{length, drop};
 ghost use Rattle.formula.specs.Formula.{clauses};
 ghost use Rattle.walk.specs.Walk.{walk};
 ghost use Rattle.searches.specs.Answers.{searchedOf};
-ghost use Rattle.admission.specs.Startable.{Startable};
-ghost use Rattle.root.specs.Into.{Reaches, brokenIn};
+ghost use Rattle.root.specs.Into.{Startable, Reaches, brokenIn};
 
 // Walks from the root; where that finds an answer, it stands in the first n bytes of the choice.
 pub fn walk_into(n: usize, list: &[i32], row: &[u8], d: usize, choice: &mut [u8]) -> Tried

@@ -1,6 +1,6 @@
 -- The rule file's two calls, one after the other (document 01, "The rule file"): "Every sound list, written and read, is that list again".
 use mathlib.Core.Path.{_≡_, ap, _∙_}
-use mathlib.Core.List.{List, [], _∷_, _++_}
+use mathlib.Core.List.{List, _++_}
 use mathlib.Core.Option.{none}
 use Prim.Native.Nat.{ℕ, _≤_}
 use lib.IntN.{ℤ}
@@ -8,11 +8,9 @@ use lib.ListN.{length, take, drop}
 use lib.Seq.{take-append-seam}
 use borrow.Author.Tests.{le-ltb}
 use Rattle.formula.specs.Formula.{clauses}
-use Rattle.refusal.specs.Laws.{cause-none, causeAt-none, no-first}
-use Rattle.refusal.specs.Reply.{cause, causeAt, answering, tooShort}
-use Rattle.lent.specs.Laws.{in-range}
-use Rattle.lent.specs.Lent.{refusalOf, outOfRange}
-use Rattle.rule_list.specs.Sound.{unread, badRule}
+use Rattle.refusal.specs.Reply.{answering}
+use Rattle.lent.specs.Admitted.{unrefused}
+use Rattle.lent.specs.Lent.{plainProblem, refusalOf}
 use Rattle.dimacs.specs.Format.{gives, reading}
 use Rattle.dimacs.specs.RoundTrip.{read-written}
 use Rattle.dimacs.specs.Written.{written}
@@ -30,11 +28,8 @@ module _ (n : ℕ) (l : List ℤ) (file : List ℕ) (taken : refusalOf (lentToWr
   -- what the writer wrote reads as what it was given
   pub read-back : reading part ≡ gives n (length (clauses l)) l
   read-back =
-      let short = tooShort (length (written n l)) (length file) in
-      let numbers = no-first (cause (outOfRange n 0) 14 0) (causeAt 13 (badRule n unread 0 l) ∷ none ∷ none ∷ none ∷ none ∷ none ∷ short ∷ []) taken in
-      let rules = no-first (causeAt 13 (badRule n unread 0 l)) (none ∷ none ∷ none ∷ none ∷ none ∷ short ∷ []) (numbers .1) in
-      let range = in-range n 0 (cause-none (outOfRange n 0) 14 0 (numbers .0)) in
-      ap reading is-file ∙ read-written n l (range .0) (range .1) (causeAt-none 13 (badRule n unread 0 l) (rules .0))
+      let (ok, room) = unrefused (plainProblem n l) (length (written n l)) (length file) taken in
+      ap reading is-file ∙ read-written n l (ok .positive) (ok .most) (ok .soundRules)
 
   -- so the reader answers with these numbers, and leaves that list, where it was lent the room
   module _ (out : List ℤ) (room : length l ≤ length out) where

@@ -1,20 +1,17 @@
 -- The wish file's two calls, one after the other (document 01, "The wish file").
 use mathlib.Core.Path.{_≡_, sym, ap, _∙_}
-use mathlib.Core.List.{List, _∷_, _++_}
+use mathlib.Core.List.{List, _++_}
 use mathlib.Core.Option.{none}
 use Prim.Native.Nat.{ℕ, _≤_}
 use lib.ListN.{length, take, drop}
 use lib.Seq.{take-append-seam}
 use borrow.Author.Tests.{le-ltb}
 use Rattle.wish.specs.Wish.{wishCount}
-use Rattle.refusal.specs.Laws.{cause-none, causeAt-none, no-first}
-use Rattle.refusal.specs.Reply.{cause, causeAt, answering}
-use Rattle.lent.specs.Laws.{in-range}
-use Rattle.lent.specs.Lent.{refusalOf, outOfRange}
-use Rattle.lent.specs.Sound.{badWish}
+use Rattle.refusal.specs.Reply.{answering}
+use Rattle.lent.specs.Lent.{refusalOf, wishesAlone}
+use Rattle.lent.specs.Admitted.{Admitted, unrefused}
 use Rattle.wish_file.specs.Format.{written, gives, reading}
 use Rattle.wish_file.specs.RoundTrip.{read-written}
-use Rattle.wish_writer.specs.Laws.{laterCauses, by-wishes, Writable, writable}
 use Rattle.wish_writer.specs.Write.{lentToWrite, writeOutput}
 use Rattle.wish_reader.specs.Read.{readReply, readOutput}
 
@@ -26,17 +23,15 @@ module _ (n : ℕ) (row : List ℕ) (d : ℕ) (file : List ℕ) (taken : refusal
   is-file : part ≡ written n row d
   is-file = rw (taken) (take-append-seam (written n row d) (drop (length (written n row d)) file))
 
-  fits : Writable n row d (length file)
-  fits = writable n row d (length file) taken
+  fits : Admitted (wishesAlone n row d)
+  fits = unrefused (wishesAlone n row d) (length (written n row d)) (length file) taken .0
+
+  size : length row ≡ n
+  size = fits .longRow
 
   -- what the writer wrote reads as what it was given
   pub read-back : reading part ≡ gives n (wishCount row) d row
-  read-back =
-      let later = laterCauses n (length row) (wishCount row) (length file) in
-      let numbers = no-first (cause (outOfRange n d) 14 0) (causeAt 13 (badWish 0 0 row) ∷ later) (sym (by-wishes n row d (length file)) ∙ taken) in
-      let sound = no-first (causeAt 13 (badWish 0 0 row)) later (numbers .1) in
-      let range = in-range n d (cause-none (outOfRange n d) 14 0 (numbers .0)) in
-      ap reading is-file ∙ read-written n row d (range .0) (fits .most) (fits .size) (causeAt-none 13 (badWish 0 0 row) (sound .0)) (fits .limit)
+  read-back = ap reading is-file ∙ read-written n row d (fits .positive) (fits .small .variables) size (fits .soundRow) (fits .limited)
 
   -- so the reader answers with these numbers, and leaves that row, where it was lent the room
   module _ (out : List ℕ) (room : n ≤ length out) where
@@ -44,4 +39,4 @@ module _ (n : ℕ) (row : List ℕ) (d : ℕ) (file : List ℕ) (taken : refusal
     reply-back = rw (read-back, le-ltb (length out) n room)
 
     pub output-back : readOutput part out ≡ row ++ drop n out
-    output-back = rw (read-back, le-ltb (length out) n room, sym (fits .size))
+    output-back = rw (read-back, le-ltb (length out) n room, sym size)

@@ -13,7 +13,7 @@ use Rattle.formula.specs.Formula.{clauses, literals}
 use Rattle.rule_list.specs.declared.scan.RuleScan.the-variants.{Unsound, Sound}
 use Rattle.rule_list.specs.Laws.{scan, rule-closed, rule-clauses, rule-literal, rule-outside, rule-literals, rule-twice, rule-end, zeros, nonzeros, zeros-zero, zeros-literal, zeros-end, zeros-clauses, nonzeros-literals}
 use Rattle.rule_list.specs.Scans.{ruleScan}
-use Rattle.rule_list.specs.Sound.{unread, unclosed, badRule}
+use Rattle.rule_list.specs.Sound.{unread, unclosed, badRule, SoundList}
 use Rattle.rule_list.specs.Stamps.{Stamped, stamped-none, stamped-closed, stamped-joined, stamp-free, stamp-taken}
 
 -- After the elements before i: k clauses, m literals, and the literals of the open clause
@@ -120,7 +120,7 @@ module _ (n : ℕ) (list : List ℤ) (stamps : List ℕ) (k m : ℕ) (is-open : 
 
     pub complete : is-open ≡ false → Sound k m ≡ ruleScan (badRule n unread 0 list) list
     complete o =
-        let sound : badRule n unread 0 list ≡ none = s .so-far ∙ ended ∙ ap (λ (b : Bool). cond b (some i) none) o in
+        let sound : SoundList n list = s .so-far ∙ ended ∙ ap (λ (b : Bool). cond b (some i) none) o in
         let clauses-are : k ≡ length (clauses list) = omega (arith, s .closings, zeros-end list i h .0, zeros-clauses n unread 0 list sound .0) in
         let literals-are : m ≡ literals (clauses list) = omega (arith, s .entries, zeros-end list i h .1, nonzeros-literals list) in
         ap₂ Sound clauses-are literals-are ∙ sym (ap (λ (o : Option ℕ). ruleScan o list) sound)

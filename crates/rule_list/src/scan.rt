@@ -29,6 +29,7 @@ pub fn scan_rules(n: usize, rules: &[i32]) -> RuleScan
     let mut i = 0;
     while i < rules.len() {
         let next = i + 1;
+        // 0 closes a clause and is no variable, so the number is looked at before `v` is one.
         let v = literal::variable_of(rules[i]);
         let number = v.0;
         if number == 0 {

@@ -1,19 +1,17 @@
 -- The call that writes a rule file (document 01, "The rule file").
 use mathlib.Core.List.{List}
-use mathlib.Core.Option.{none}
 use Prim.Native.Nat.{ℕ}
 use lib.IntN.{ℤ}
 use lib.ListN.{length}
 use Rattle.refusal.specs.Reply.{Reply, refusing, answering, unless, filled}
-use Rattle.lent.specs.Lent.{Lent, refusalOf}
+use Rattle.lent.specs.Lent.{Lent, withRoom, plainProblem, refusalOf}
 use Rattle.dimacs.specs.Written.{written}
 use Rattle.rule_writer.specs.declared.WrittenRules.{WrittenRules}
 use Rattle.rule_writer.specs.declared.WrittenRules.the-variants.{Refused, Written}
 
 -- what is lent to the call: n, the rules, and room for so many bytes
 abbrev pub lentToWrite : ℕ → List ℤ → ℕ → Lent
-lentToWrite n rules room =
-    record { n = n; d = 0; rules = rules; row = none; choice = none; needed = length (written n rules); room = room }
+lentToWrite n rules room = withRoom (length (written n rules)) room (plainProblem n rules)
 
 -- the reply of the call: the file's length
 abbrev pub writeReply : ℕ → List ℤ → ℕ → Reply

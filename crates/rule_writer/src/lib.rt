@@ -2,9 +2,8 @@
 mod count;
 mod put;
 
+use admission::Admission;
 use refusal::Refusal;
-use refusal::Verdict;
-use rule_list::RuleScan;
 ghost use mathlib.Core.Path.{_≡_};
 ghost use Prim.Native.Nat.{_≤_};
 ghost use lib.ListN.{length};
@@ -25,15 +24,9 @@ pub fn write_rules(n: usize, rules: &[i32], file: &mut [u8]) -> WrittenRules
     ensures reply { λ r. ⌜ replyOf r ≡ writeReply n (now (rules .entry)) (length (now (file .entry))) ⌝ }
     ensures output { λ r. ⌜ now (file .exit) ≡ writeOutput n (now (rules .entry)) (now (file .entry)) ⌝ }
 {
-    if let Verdict::Refuse(r) = lent::check_range(n, 0) {
-        return WrittenRules::Refused(r);
-    }
-    match rule_list::scan_rules(n, rules) {
-        RuleScan::Unsound(place) => WrittenRules::Refused(Refusal { number: 13, place }),
-        RuleScan::Sound {
-            clauses,
-            literals: _,
-        } => write_sound(n, clauses, rules, file),
+    match admission::admit_rules(n, rules) {
+        Admission::Refused(r) => WrittenRules::Refused(r),
+        Admission::Admitted(counts) => write_sound(n, counts.clauses, rules, file),
     }
 }
 

@@ -11,7 +11,7 @@ use Rattle.distance.specs.Distance.{disagreement}
 use Rattle.refusal.specs.declared.Refusal.{Refusal}
 use Rattle.refusal.specs.Reply.{Reply, refusing, answering, unless}
 use Rattle.choices.specs.Choices.{Model}
-use Rattle.rule_list.specs.Sound.{unread, badRule}
+use Rattle.rule_list.specs.Sound.{SoundList}
 use Rattle.walk.specs.Promises as P
 use Rattle.walk.specs.Walk.{Answer, walk, plainWalk, nearestWalk}
 use Rattle.searches.specs.Meaning.{search-found, search-none, nearest-found, nearest-nothing, plain-found, plain-nothing}
@@ -75,7 +75,7 @@ module _ (n : ℕ) (before : List ℕ) where
   front x e bytes g =
       ap (λ (a : List ℕ). record { choice = a; broken = x .broken }) (sym (take-at (x .choice) (drop n before) n e) ∙ ap (take n) (sym g))
 
-  module _ (rules : List ℤ) (sound : badRule n unread 0 rules ≡ none) (row : List ℕ) (bytes : List ℕ) where
+  module _ (rules : List ℤ) (sound : SoundList n rules) (row : List ℕ) (bytes : List ℕ) where
     pub search-means : (d : ℕ) (o : Option Answer) → walk n (clauses rules) row d .answer ≡ o → bytes ≡ choiceAfter none o n before
         → SearchMeans n rules row d bytes (searchedOf (brokenBy o))
     search-means d none e g = search-none n rules sound row d .0 e
@@ -90,7 +90,7 @@ module _ (n : ℕ) (before : List ℕ) where
         let w : P.Closest n (clauses rules) row x = nearest-found n rules sound row x e in
         subst (P.Closest n (clauses rules) row) (front x (w .model .choice .size) bytes g) w
 
-  pub plain-means : (rules : List ℤ) → badRule n unread 0 rules ≡ none → (bytes : List ℕ) (o : Option Answer) → plainWalk n (clauses rules) .answer ≡ o
+  pub plain-means : (rules : List ℤ) → SoundList n rules → (bytes : List ℕ) (o : Option Answer) → plainWalk n (clauses rules) .answer ≡ o
       → bytes ≡ choiceAfter none o n before → PlainMeans n rules bytes (searchedOf (brokenBy o))
   plain-means rules sound bytes none e g = plain-nothing n rules sound .0 e
   plain-means rules sound bytes (some x) e g =

@@ -10,7 +10,7 @@ use lib.IntN.{ℤ}
 use borrow.Author.Tests.{eqb-false, not-true, lt-ltb}
 use Rattle.literal.specs.Literal.{variable}
 use Rattle.formula.specs.Formula.{all, clauses, closes}
-use Rattle.rule_list.specs.Sound.{unread, badRule, mayJoin}
+use Rattle.rule_list.specs.Sound.{mayJoin, SoundList}
 use Rattle.soundness.specs.Flat.{joining}
 use Rattle.soundness.specs.Laws.{and-left, and-right, and-both, all-weaken}
 use Rattle.soundness.specs.Soundness.{sound}
@@ -26,5 +26,5 @@ within n read (x ∷ c) e =
     (and-both (ltb 0 (variable x)) (leb (variable x) n) (lt-ltb 0 (variable x) (omega arith)) inside)
     (within n (x ∷ read) c (and-right (not (closes x) && (leb (variable x) n && mayJoin read x)) (joining n (x ∷ read) c) e))
 
-pub sound-fits : (n : ℕ) (list : List ℤ) → badRule n unread 0 list ≡ none → fits n (clauses list) ≡ true
+pub sound-fits : (n : ℕ) (list : List ℤ) → SoundList n list → fits n (clauses list) ≡ true
 sound-fits n list e = all-weaken (joining n []) (all (isWithin n)) (within n []) (clauses list) (sound n list e .formed)

@@ -1,4 +1,3 @@
-pub mod Admitted
 pub mod Answers
 pub mod Exact
 pub mod Fits

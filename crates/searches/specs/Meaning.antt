@@ -11,14 +11,14 @@ use Rattle.formula.specs.Formula.{clauses}
 use Rattle.wish.specs.Wish.{freeByte}
 use Rattle.distance.specs.Distance.{disagreement, nearest}
 use Rattle.choices.specs.Choices.{Model, nearest-none}
-use Rattle.rule_list.specs.Sound.{unread, badRule}
+use Rattle.rule_list.specs.Sound.{SoundList}
 use Rattle.walk.specs.Promises.{ModelWithin, Closest}
 use Rattle.walk.specs.Theorems.{walk-sound, walk-none, plain-none, nearest-sound, nearest-count}
 use Rattle.walk.specs.Walk.{Answer, walk, plainWalk, nearestWalk}
 use Rattle.searches.specs.Fits.{sound-fits}
 use Rattle.searches.specs.Searches.{brokenBy}
 
-module _ (n : ℕ) (rules : List ℤ) (sound : badRule n unread 0 rules ≡ none) (row : List ℕ) where
+module _ (n : ℕ) (rules : List ℤ) (sound : SoundList n rules) (row : List ℕ) where
   -- the wish search, whatever the row: a found choice is a model within the limit, with its own count
   pub search-found : (d : ℕ) (x : Answer) → walk n (clauses rules) row d .answer ≡ some x → ModelWithin n (clauses rules) row d x
   search-found d x e = walk-sound n (clauses rules) (sound-fits n rules sound) row d x e
@@ -41,10 +41,10 @@ module _ (n : ℕ) (rules : List ℤ) (sound : badRule n unread 0 rules ≡ none
   nearest-nothing e = nearest-none n rules row .0 (sym nearest-is ∙ ap brokenBy e)
 
 -- plain search
-pub plain-found : (n : ℕ) (rules : List ℤ) → badRule n unread 0 rules ≡ none → (x : Answer) → plainWalk n (clauses rules) .answer ≡ some x → (x .broken ≡ 0) × Model n (clauses rules) (x .choice)
+pub plain-found : (n : ℕ) (rules : List ℤ) → SoundList n rules → (x : Answer) → plainWalk n (clauses rules) .answer ≡ some x → (x .broken ≡ 0) × Model n (clauses rules) (x .choice)
 plain-found n rules sound x e =
     let w : ModelWithin n (clauses rules) (replicate n freeByte) 0 x = walk-sound n (clauses rules) (sound-fits n rules sound) (replicate n freeByte) 0 x e in
     (omega (arith, w .limited), w .model)
 
-pub plain-nothing : (n : ℕ) (rules : List ℤ) → badRule n unread 0 rules ≡ none → (plainWalk n (clauses rules) .answer ≡ none) ↔ ((a : List ℕ) → Model n (clauses rules) a → ⊥)
+pub plain-nothing : (n : ℕ) (rules : List ℤ) → SoundList n rules → (plainWalk n (clauses rules) .answer ≡ none) ↔ ((a : List ℕ) → Model n (clauses rules) a → ⊥)
 plain-nothing n rules sound = plain-none n (clauses rules) (sound-fits n rules sound)

@@ -8,7 +8,7 @@ use Rattle.formula.specs.Formula.{clauses}
 use Rattle.distance.specs.Distance.{nearest}
 use Rattle.refusal.specs.declared.Refusal.{Refusal}
 use Rattle.refusal.specs.Reply.{Reply, answering, unless}
-use Rattle.lent.specs.Lent.{Lent, refusalOf}
+use Rattle.lent.specs.Lent.{Lent, withRoom, plainProblem, problem, refusalOf}
 use Rattle.walk.specs.Walk.{Answer, walk, plainWalk, nearestWalk}
 
 -- found, with the number of broken wishes, or none
@@ -28,7 +28,7 @@ choiceAfter none (some x) n choice = x .choice ++ drop n choice
 
 -- The wish search: n, the rules, the row, the limit and the choice's room.
 abbrev pub lentToSearch : ℕ → List ℤ → List ℕ → ℕ → ℕ → Lent
-lentToSearch n rules row d room = record { n = n; d = d; rules = rules; row = some row; choice = none; needed = n; room = room }
+lentToSearch n rules row d room = withRoom n room (problem n rules row d)
 
 abbrev pub searchReply : ℕ → List ℤ → List ℕ → ℕ → ℕ → Reply
 searchReply n rules row d room = unless (refusalOf (lentToSearch n rules row d room)) (found (brokenBy (walk n (clauses rules) row d .answer)))
@@ -39,7 +39,7 @@ searchChoice n rules row d choice =
 
 -- "Plain search is this with no wishes and d = 0, up to the file's limits."
 abbrev pub lentToPlain : ℕ → List ℤ → ℕ → Lent
-lentToPlain n rules room = record { n = n; d = 0; rules = rules; row = none; choice = none; needed = n; room = room }
+lentToPlain n rules room = withRoom n room (plainProblem n rules)
 
 abbrev pub plainReply : ℕ → List ℤ → ℕ → Reply
 plainReply n rules room = unless (refusalOf (lentToPlain n rules room)) (found (brokenBy (plainWalk n (clauses rules) .answer)))

@@ -12,10 +12,7 @@ use borrow.Author.Tests.{leb-true}
 use Rattle.literal.specs.Literal.{variable, holds, value}
 use Rattle.distance.specs.Distance.{disagreement}
 use Rattle.wish.specs.Wish.{weight, cost, breaking, isWish, totalWeight}
-use Rattle.wish.specs.Laws.{weight-free, cost-free, breaking-variable, breaking-wanted}
-use Rattle.limits.specs.Limits.{maxWishes}
-use Rattle.lent.specs.Sound.{badWish}
-use Rattle.soundness.specs.Laws.{and-right}
+use Rattle.wish.specs.Laws.{weight-free, breaking-variable, breaking-wanted}
 use Rattle.totalizer.specs.Totalizer.{leavesFrom, leaves}
 use Rattle.wish.specs.UnitWeights.{unit-weight}
 use Rattle.totalizer.specs.Trees.{held, held-append, Within}

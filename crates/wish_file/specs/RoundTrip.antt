@@ -21,7 +21,7 @@ use Rattle.lent.specs.Sound.{badWish}
 use Rattle.wish_file.specs.Format.{headerColumns, wishColumns, fields, wishOf, wishLines, written, fileSize, outside, misfit, badLine, wishAt, badLines, wishesIn, refuses, gives, readLines, readHeader, reading}
 use Rattle.wish_file.specs.Layout.{line, lineSize, lineNumbers}
 use Rattle.wish_file.specs.LayoutLaws.{Fit, Begins, line-length, line-read, line-written}
-use Rattle.wish_file.specs.WishLaws.{Bytes, sound-whole, list-length, list-rising, row-list, list-row, row-length, row-bytes, sound-bytes}
+use Rattle.wish_file.specs.WishLaws.{sound-whole, list-length, list-rising, row-list, list-row, row-length, row-bytes, sound-bytes}
 use Rattle.wish_file.specs.Wishes.{Wish, wishList, rowOf, Rising}
 
 -- a wish fits where its variable rises to n at most, and its mark is 0 or 1

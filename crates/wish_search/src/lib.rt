@@ -1,5 +1,5 @@
 // The wish search: a choice that meets all rules and breaks at most d wishes, or none.
-use refusal::Verdict;
+use admission::Admission;
 use searches::Searched;
 ghost use mathlib.Core.Path.{_≡_};
 ghost use lib.ListN.{length};
@@ -12,8 +12,9 @@ pub fn search(n: usize, rules: &[i32], row: &[u8], d: usize, choice: &mut [u8]) 
     ensures output { λ r. ⌜ now (choice .exit) ≡ searchChoice n (now (rules .entry)) (now (row .entry)) d (now (choice .entry)) ⌝ }
     ensures meaning { λ r. ⌜ SearchMeans n (now (rules .entry)) (now (row .entry)) d (now (choice .exit)) r ⌝ }
 {
-    if let Verdict::Refuse(r) = admission::check_wished(n, d, rules, row, choice.len()) {
-        return Searched::Refused(r);
+    let admitted = admission::admit_wishes(n, rules, row, d);
+    match admission::with_room(admitted, n, choice.len()) {
+        Admission::Refused(r) => Searched::Refused(r),
+        Admission::Admitted(_) => root::answer_of(root::walk_into(n, rules, row, d, choice)),
     }
-    root::answer_of(root::walk_into(n, rules, row, d, choice))
 }

@@ -5,92 +5,96 @@ use mathlib.Core.Option.{Option, none, some}
 use Prim.Native.Nat.{ℕ, _-_, _≤_, zero-le}
 use native.Mathlib.Omega.{arith}
 use lib.ListN.{length}
-use borrow.Author.Needs.{needs}
 use Rattle.formula.specs.Formula.{clauses}
 use Rattle.walk.specs.Walk.{Answer, walk, climb as walks, nearestWalk}
 use Rattle.searches.specs.Answers.{searchedOf}
 use Rattle.searches.specs.Searches.{brokenBy, choiceAfter}
-use Rattle.admission.specs.Startable.{Startable}
-use Rattle.root.specs.Into.{brokenIn}
+use Rattle.root.specs.Into.{Startable, brokenIn}
 use Rattle.nearest_search.specs.Climb.{climb-start, left-alone, climb-found, climb-on, climb-last}
+use borrow.Author.Needs.{needs}
 use Rattle.nearest_search.proofs.climb.Statement.{statement}
 use Rattle.nearest_search.proofs.climb.Tie as tie
 
 abbrev Inv-loop : tie.InvT-loop
-Inv-loop n rules row choice₀ last d₀ choice d = (d ≤ last) × (choice ≡ choice₀) × (nearestWalk n (clauses rules) row ≡ walks n (clauses rules) row (last - d) d)
+Inv-loop n rules row last choice₀ d₀ choice d = (d ≤ last) × (choice ≡ choice₀) × (nearestWalk n (clauses rules) row ≡ walks n (clauses rules) row (last - d) d)
 
 abbrev μ-loop : tie.MeasureT-loop
-μ-loop n rules row choice₀ last d₀ choice d = last - d
-
-count-wishes-requires : tie.Need-count-wishes-requires Inv-loop μ-loop
-count-wishes-requires c κs = search needs
+μ-loop n rules row last choice₀ d₀ choice d = last - d
 
 loop-holds : tie.Need-loop-holds Inv-loop μ-loop
 loop-holds c =
-    let args = c .before .before .before .args in
-    (zero-le, refl, climb-start (args .n) (clauses (args .rules .now)) (args .row .now) (c .count-wishes .result) (c .count-wishes .ensures))
+    let g = c .before .before in
+    (zero-le, refl, climb-start (g .args .n) (clauses (g .args .rules .now)) (g .args .row .now) (g .args .last) (g .pre .1))
 
 walk-into-requires : tie.Need-walk-into-requires Inv-loop μ-loop
-walk-into-requires c κs = subst (λ (l : List ℕ). Startable (c .before .before .before .before .before .before .args .n) (c .before .before .before .before .before .before .args .rules .now) (length l)) (sym (c .before .before .loop .inv .1)) (c .before .before .before .before .before .before .pre)
+walk-into-requires c κs =
+    let g = c .before .before .before .before .before in
+    subst (λ (l : List ℕ). Startable (g .args .n) (g .args .rules .now) (length l)) (sym (c .before .before .loop .inv .1)) (g .pre .0)
 
 enum-known-broken : tie.Need-enum-known-broken Inv-loop μ-loop
-enum-known-broken c = search needs
+enum-known-broken c =
+    search needs
 
 same-length : tie.Need-same-length Inv-loop μ-loop
-same-length c = c .before .before .before .before .before .walk-into .kept .1 .1 .1 .1 .0 ∙ ap length (c .before .before .before .before .before .before .before .before .loop .inv .1)
+same-length c =
+    c .before .before .before .before .before .walk-into .kept .1 .1 .1 .1 .0 ∙ ap length (c .before .before .before .before .before .before .before .before .loop .inv .1)
 
 returns : tie.Need-returns Inv-loop μ-loop
 returns c =
-    let args = c .before .before .before .before .before .before .before .before .before .before .before .before .args in
+    let args = c .before .before .before .before .before .before .before .before .before .before .before .args in
     let f = clauses (args .rules .now) in
     let at = c .before .before .before .before .before .before .before .before .loop in
     let call = c .before .before .before .before .before .walk-into in
-    let last = c .before .before .before .before .before .before .before .before .before .count-wishes .result in
     let answered : some (c .before .broken .given .0 .0) ≡ brokenBy (walk (args .n) f (args .row .now) (at .d) .answer) = ap brokenIn (sym (c .before .broken .given .1)) ∙ call .ensures .answered in
-    let same = climb-found (args .n) f (args .row .now) last (at .d) (at .inv .2) (c .before .before .before .before .before .before .before .loop-test .taken) (c .before .broken .given .0 .0) answered in (
+    let same = climb-found (args .n) f (args .row .now) (args .last) (at .d) (at .inv .2) (c .before .before .before .before .before .before .before .loop-test .taken) (c .before .broken .given .0 .0) answered in (
       ap searchedOf (answered ∙ ap brokenBy (sym same)),
       call .ensures .output ∙ ap₂ (λ (o : Option Answer) (l : List ℕ). choiceAfter none o (args .n) l) (sym same) (at .inv .1),
     )
 
 enum-told : tie.Need-enum-told Inv-loop μ-loop
-enum-told c = search needs
+enum-told c =
+    search needs
 
 add-d : tie.Need-add-d Inv-loop μ-loop
-add-d c = search needs
+add-d c =
+    search needs
 
 loop-less : tie.Need-loop-less Inv-loop μ-loop
-loop-less c = search needs
+loop-less c =
+    search needs
 
 loop-again : tie.Need-loop-again Inv-loop μ-loop
 loop-again c =
-    let args = c .before .before .before .before .before .before .before .before .before .before .before .args in
+    let args = c .before .before .before .before .before .before .before .before .before .before .args in
     let f = clauses (args .rules .now) in
     let at = c .before .before .before .before .before .before .before .loop in
     let call = c .before .before .before .before .walk-into in
-    let last = c .before .before .before .before .before .before .before .before .count-wishes .result in
     let answered : none ≡ brokenBy (walk (args .n) f (args .row .now) (at .d) .answer) = ap brokenIn (sym (c .enum-told .given .1)) ∙ call .ensures .answered in (
       omega (arith, c .before .before .before .before .before .before .loop-test .taken),
       left-alone (walk (args .n) f (args .row .now) (at .d) .answer) (args .n) (at .choice) (call .last .1 .1 .1 .1 .0) answered (call .ensures .output) ∙ at .inv .1,
-      climb-on (args .n) f (args .row .now) last (at .d) (at .inv .2) (c .before .before .before .before .before .before .loop-test .taken) answered,
+      climb-on (args .n) f (args .row .now) (args .last) (at .d) (at .inv .2) (c .before .before .before .before .before .before .loop-test .taken) answered,
     )
 
 walk-into-requires-2 : tie.Need-walk-into-requires-2 Inv-loop μ-loop
-walk-into-requires-2 c κs = subst (λ (l : List ℕ). Startable (c .before .before .before .before .before .before .args .n) (c .before .before .before .before .before .before .args .rules .now) (length l)) (sym (c .before .before .loop .inv .1)) (c .before .before .before .before .before .before .pre)
+walk-into-requires-2 c κs =
+    let g = c .before .before .before .before .before in
+    subst (λ (l : List ℕ). Startable (g .args .n) (g .args .rules .now) (length l)) (sym (c .before .before .loop .inv .1)) (g .pre .0)
 
 answer-of-requires : tie.Need-answer-of-requires Inv-loop μ-loop
-answer-of-requires c κs = search needs
+answer-of-requires c κs =
+    search needs
 
 same-length-2 : tie.Need-same-length-2 Inv-loop μ-loop
-same-length-2 c = c .before .before .before .walk-into2 .kept .1 .1 .1 .1 .0 ∙ ap length (c .before .before .before .before .before .before .loop .inv .1)
+same-length-2 c =
+    c .before .before .before .walk-into2 .kept .1 .1 .1 .1 .0 ∙ ap length (c .before .before .before .before .before .before .loop .inv .1)
 
 returns-2 : tie.Need-returns-2 Inv-loop μ-loop
 returns-2 c =
-    let args = c .before .before .before .before .before .before .before .before .before .before .args in
+    let args = c .before .before .before .before .before .before .before .before .before .args in
     let f = clauses (args .rules .now) in
     let at = c .before .before .before .before .before .before .loop in
     let call = c .before .before .before .walk-into2 in
-    let last = c .before .before .before .before .before .before .before .count-wishes .result in
-    let same = climb-last (args .n) f (args .row .now) last (at .d) (at .inv .2) (c .before .before .before .before .before .loop-test .left) in (
+    let same = climb-last (args .n) f (args .row .now) (args .last) (at .d) (at .inv .2) (c .before .before .before .before .before .loop-test .left) in (
       c .answer-of .ensures ∙ ap searchedOf (call .ensures .answered ∙ ap brokenBy (sym same)),
       call .ensures .output ∙ ap₂ (λ (o : Option Answer) (l : List ℕ). choiceAfter none o (args .n) l) (sym same) (at .inv .1),
     )
@@ -101,7 +105,6 @@ climb-spec =
     (tie.spec
     Inv-loop
     μ-loop
-    count-wishes-requires
     loop-holds
     walk-into-requires
     enum-known-broken

@@ -1,6 +1,7 @@
 -- `rewriting::write` meets its contract: the leaves are found, the rules copied, and the clauses over the leaves put after them.
 use native.Mathlib.Omega.{arith}
 use lib.ListN.{length-take}
+use Rattle.rewriting.specs.Causes.{few-leaves}
 use Rattle.rewriting.specs.Writing.{rules-room, found-room, own-asks, all-written}
 use borrow.Author.Needs.{needs}
 use Rattle.rewriting.proofs.write.Statement.{statement}
@@ -13,7 +14,10 @@ slice-aggregate-put-leaves : tie.Need-slice-aggregate-put-leaves
 slice-aggregate-put-leaves c = search needs
 
 put-leaves-requires : tie.Need-put-leaves-requires
-put-leaves-requires c κs = search needs
+put-leaves-requires c κs =
+    let start = c .before .before .before in
+    let few = few-leaves (start .args .n) (start .args .rules .now) (start .args .row .now) (start .args .d) (start .pre .0) in
+    (omega (arith, start .pre .0 .longRow, start .pre .0 .most), omega (arith, few, c .before .no-leaves .ensures))
 
 put-all-requires : tie.Need-put-all-requires
 put-all-requires c κs =
@@ -21,7 +25,12 @@ put-all-requires c κs =
     rules-room (start .args .n) (start .args .rules .now) (start .args .row .now) (start .args .d) (start .args .out .now) (start .pre)
 
 array-share-prefix-found : tie.Need-array-share-prefix-found
-array-share-prefix-found c = search needs
+array-share-prefix-found c =
+    let start = c .before .before .before .before .before .before .before .before in
+    omega (
+      arith,
+      found-room (start .args .n) (start .args .rules .now) (start .args .row .now) (start .args .d) (start .args .out .now) (start .pre) (c .before .before .before .before .before .before .no-leaves .ensures) (c .before .before .before .before .put-leaves .ensures),
+    )
 
 slice-aggregate-put-at-most : tie.Need-slice-aggregate-put-at-most
 slice-aggregate-put-at-most c =

@@ -9,8 +9,7 @@ use borrow.Author.Needs.{needs}
 use Rattle.literal.specs.Laws.{as-read}
 use Rattle.literal.specs.Literal.{variable, wanted}
 use Rattle.formula.specs.Formula.{clauses}
-use Rattle.walk.specs.State.{fits, assign}
-use Rattle.wish.specs.Wish.{cost}
+use Rattle.walk.specs.State.{fits}
 use Rattle.propagation.specs.Propagated.{Propagating, propagating-start, over, conflict, settled, low, high, room, literal}
 use Rattle.propagation.specs.declared.unit.Unit.the-variants.{Literal}
 use Rattle.propagation.specs.Unit.{scan}

@@ -1,10 +1,10 @@
 -- `rule_list::scan::scan_rules` meets its contract: each turn is one of the laws of `Scanning`.
 use mathlib.Core.Path.{_≡_, sym, ap, subst, _∙_}
-use mathlib.Core.Bool.{true}
+use mathlib.Core.Bool.{Bool, true}
 use mathlib.Core.List.{List}
-use Prim.Native.Nat.{ℕ, _+_, _-_}
+use Prim.Native.Nat.{ℕ, _+_, _-_, _≤_, _<_}
 use native.Mathlib.Omega.{arith}
-use lib.IntN.{pos}
+use lib.IntN.{ℤ, pos}
 use lib.ListN.{length, getD}
 use borrow.Author.Needs.{needs}
 use borrow.Author.Tests.{eqb-true, eqb-false}
@@ -38,24 +38,72 @@ shared-slice-copy-out-variable-of c = search needs
 variable-of-requires : tie.Need-variable-of-requires Inv-loop μ-loop
 variable-of-requires c κs = search needs
 
--- the callee's variable is that of the list's element
-handed : (c : tie.After-variable-of Inv-loop μ-loop)
-    → c .variable-of .result .0 ≡ variable (getD (c .before .before .before .before .before .args .rules .now) (c .before .before .before .loop .i) (pos 0))
-handed c =
-    c .variable-of .ensures
-    ∙ ap variable (as-read (getD (c .before .before .before .before .before .args .rules .now) (c .before .before .before .loop .i) (pos 0)) (c .before .variable-of-arg .given))
+-- The points of a turn. After the call: the values at the turn's start, and its element's variable.
+module _ (c : tie.After-variable-of Inv-loop μ-loop) where
+  abbrev n : ℕ
+  n = c .before .before .before .before .before .args .n
+
+  abbrev list : List ℤ
+  list = c .before .before .before .before .before .args .rules .now
+
+  abbrev stamps : List ℕ
+  stamps = c .before .before .before .loop .stamps
+
+  abbrev k : ℕ
+  k = c .before .before .before .loop .clauses
+
+  abbrev m : ℕ
+  m = c .before .before .before .loop .literals
+
+  abbrev is-open : Bool
+  is-open = c .before .before .before .loop .is-open
+
+  abbrev i : ℕ
+  i = c .before .before .before .loop .i
+
+  abbrev v : ℕ
+  v = c .variable-of .result .0
+
+  at : Scanning n list stamps k m is-open i
+  at = c .before .before .before .loop .inv
+
+  inside : i < length list
+  inside = c .before .before .loop-test .taken
+
+  handed : v ≡ variable (getD list i (pos 0))
+  handed = c .variable-of .ensures ∙ ap variable (as-read (getD list i (pos 0)) (c .before .variable-of-arg .given))
+
+-- After the look at the stamp, of a literal that is within the limits.
+module _ (c : tie.After-is-stamped Inv-loop μ-loop) where
+  abbrev turn : tie.After-variable-of Inv-loop μ-loop
+  turn = c .before .before .before .before .before
+
+  literal : v turn ≡ 0 → ⊥
+  literal = c .before .before .before .before .if1 .left
+
+  within : v turn ≤ n turn
+  within = c .before .before .before .if3 .left
+
+  below : m turn ≡ 31000 → ⊥
+  below = c .before .before .if4 .left
 
 returns : tie.Need-returns Inv-loop μ-loop
-returns c = clauses-over (c .before .before .before .before .before .before .before .args .n) (c .before .before .before .before .before .before .before .args .rules .now) (c .before .before .before .before .before .loop .stamps) (c .before .before .before .before .before .loop .clauses) (c .before .before .before .before .before .loop .literals) (c .before .before .before .before .before .loop .is-open) (c .before .before .before .before .before .loop .i) (c .before .before .before .before .before .loop .inv) (c .before .before .before .before .loop-test .taken) (c .before .before .variable-of .result .0) (handed (c .before .before)) (c .before .if1 .taken) (c .if2 .taken)
+returns c =
+    let t = c .before .before in
+    clauses-over (n t) (list t) (stamps t) (k t) (m t) (is-open t) (i t) (at t) (inside t) (v t) (handed t) (c .before .if1 .taken) (c .if2 .taken)
 
 add-clauses : tie.Need-add-clauses Inv-loop μ-loop
-add-clauses c = omega (arith, c .before .before .before .before .before .loop .inv .few)
+add-clauses c = omega (arith, at (c .before .before) .few)
 
 returns-2 : tie.Need-returns-2 Inv-loop μ-loop
-returns-2 c = outside (c .before .before .before .before .before .before .before .args .n) (c .before .before .before .before .before .before .before .args .rules .now) (c .before .before .before .before .before .loop .stamps) (c .before .before .before .before .before .loop .clauses) (c .before .before .before .before .before .loop .literals) (c .before .before .before .before .before .loop .is-open) (c .before .before .before .before .before .loop .i) (c .before .before .before .before .before .loop .inv) (c .before .before .before .before .loop-test .taken) (c .before .before .variable-of .result .0) (handed (c .before .before)) (c .before .if1 .left) (c .if3 .taken)
+returns-2 c =
+    let t = c .before .before in
+    outside (n t) (list t) (stamps t) (k t) (m t) (is-open t) (i t) (at t) (inside t) (v t) (handed t) (c .before .if1 .left) (c .if3 .taken)
 
 returns-3 : tie.Need-returns-3 Inv-loop μ-loop
-returns-3 c = literals-over (c .before .before .before .before .before .before .before .before .args .n) (c .before .before .before .before .before .before .before .before .args .rules .now) (c .before .before .before .before .before .before .loop .stamps) (c .before .before .before .before .before .before .loop .clauses) (c .before .before .before .before .before .before .loop .literals) (c .before .before .before .before .before .before .loop .is-open) (c .before .before .before .before .before .before .loop .i) (c .before .before .before .before .before .before .loop .inv) (c .before .before .before .before .before .loop-test .taken) (c .before .before .before .variable-of .result .0) (handed (c .before .before .before)) (c .before .before .if1 .left) (c .before .if3 .left) (c .if4 .taken)
+returns-3 c =
+    let t = c .before .before .before in
+    literals-over (n t) (list t) (stamps t) (k t) (m t) (is-open t) (i t) (at t) (inside t) (v t) (handed t) (c .before .before .if1 .left) (c .before .if3 .left) (c .if4 .taken)
 
 add-t19 : tie.Need-add-t19 Inv-loop μ-loop
 add-t19 c = search needs
@@ -64,35 +112,49 @@ is-stamped-requires : tie.Need-is-stamped-requires Inv-loop μ-loop
 is-stamped-requires c κs = omega (arith, c .before .before .before .before .before .before .before .before .before .pre)
 
 returns-4 : tie.Need-returns-4 Inv-loop μ-loop
-returns-4 c = twice (c .before .before .before .before .before .before .before .before .before .before .before .args .n) (c .before .before .before .before .before .before .before .before .before .before .before .args .rules .now) (c .before .before .before .before .before .before .before .before .before .loop .stamps) (c .before .before .before .before .before .before .before .before .before .loop .clauses) (c .before .before .before .before .before .before .before .before .before .loop .literals) (c .before .before .before .before .before .before .before .before .before .loop .is-open) (c .before .before .before .before .before .before .before .before .before .loop .i) (c .before .before .before .before .before .before .before .before .before .loop .inv) (c .before .before .before .before .before .before .before .before .loop-test .taken) (c .before .before .before .before .before .before .variable-of .result .0) (handed (c .before .before .before .before .before .before)) (c .before .before .before .before .before .if1 .left) (c .before .before .before .before .if3 .left) (c .before .before .before .if4 .left)
-    (eqb-true (getD (c .before .before .before .before .before .before .before .before .before .loop .stamps) (c .before .before .before .before .before .before .variable-of .result .0) 0) (c .before .before .before .before .before .before .before .before .before .loop .clauses + 1) (sym (c .before .is-stamped .ensures) ∙ c .if5 .taken))
+returns-4 c =
+    let p = c .before in
+    let t = turn p in
+    twice (n t) (list t) (stamps t) (k t) (m t) (is-open t) (i t) (at t) (inside t) (v t) (handed t) (literal p) (within p) (below p)
+    (eqb-true (getD (stamps t) (v t) 0) (k t + 1) (sym (p .is-stamped .ensures) ∙ c .if5 .taken))
 
 stamp-requires : tie.Need-stamp-requires Inv-loop μ-loop
-stamp-requires c κs = (omega (arith, c .before .before .before .before .before .before .before .before .before .before .before .before .pre), omega (arith, c .before .before .before .before .before .before .before .before .before .before .loop .inv .few))
+stamp-requires c κs = (omega (arith, c .before .before .before .before .before .before .before .before .before .before .before .before .pre), omega (arith, at (c .before .before .before .before .before .before .before) .few))
 
 add-literals : tie.Need-add-literals Inv-loop μ-loop
-add-literals c = omega (arith, c .before .before .before .before .before .before .before .before .before .before .before .loop .inv .many)
+add-literals c = omega (arith, at (c .before .before .before .before .before .before .before .before) .many)
 
 loop-less : tie.Need-loop-less Inv-loop μ-loop
 loop-less c = search needs
 
 loop-again : tie.Need-loop-again Inv-loop μ-loop
-loop-again c = closed (c .before .before .before .before .before .before .before .args .n) (c .before .before .before .before .before .before .before .args .rules .now) (c .before .before .before .before .before .loop .stamps) (c .before .before .before .before .before .loop .clauses) (c .before .before .before .before .before .loop .literals) (c .before .before .before .before .before .loop .is-open) (c .before .before .before .before .before .loop .i) (c .before .before .before .before .before .loop .inv) (c .before .before .before .before .loop-test .taken) (c .before .before .variable-of .result .0) (handed (c .before .before)) (c .before .if1 .taken) (c .if2 .left)
+loop-again c =
+    let t = c .before .before in
+    closed (n t) (list t) (stamps t) (k t) (m t) (is-open t) (i t) (at t) (inside t) (v t) (handed t) (c .before .if1 .taken) (c .if2 .left)
 
 loop-less-2 : tie.Need-loop-less-2 Inv-loop μ-loop
 loop-less-2 c = search needs
 
 loop-again-2 : tie.Need-loop-again-2 Inv-loop μ-loop
 loop-again-2 c =
-    subst (λ (l : List ℕ). Scanning (c .before .before .before .before .before .before .before .before .before .before .before .before .before .args .n) (c .before .before .before .before .before .before .before .before .before .before .before .before .before .args .rules .now) l (c .before .before .before .before .before .before .before .before .before .before .before .loop .clauses) (c .before .before .before .before .before .before .before .before .before .before .before .loop .literals + 1) true (c .before .before .before .before .before .before .before .before .before .before .before .loop .i + 1)) (sym (c .stamp .ensures))
-    (joined (c .before .before .before .before .before .before .before .before .before .before .before .before .before .args .n) (c .before .before .before .before .before .before .before .before .before .before .before .before .before .args .rules .now) (c .before .before .before .before .before .before .before .before .before .before .before .loop .stamps) (c .before .before .before .before .before .before .before .before .before .before .before .loop .clauses) (c .before .before .before .before .before .before .before .before .before .before .before .loop .literals) (c .before .before .before .before .before .before .before .before .before .before .before .loop .is-open) (c .before .before .before .before .before .before .before .before .before .before .before .loop .i) (c .before .before .before .before .before .before .before .before .before .before .before .loop .inv) (c .before .before .before .before .before .before .before .before .before .before .loop-test .taken) (c .before .before .before .before .before .before .before .before .variable-of .result .0) (handed (c .before .before .before .before .before .before .before .before)) (c .before .before .before .before .before .before .before .if1 .left) (c .before .before .before .before .before .before .if3 .left) (c .before .before .before .before .before .if4 .left) (c .before .before .before .before .before .before .before .before .before .before .before .before .before .pre)
-    (eqb-false (getD (c .before .before .before .before .before .before .before .before .before .before .before .loop .stamps) (c .before .before .before .before .before .before .before .before .variable-of .result .0) 0) (c .before .before .before .before .before .before .before .before .before .before .before .loop .clauses + 1) (sym (c .before .before .before .is-stamped .ensures) ∙ c .before .before .if5 .left)))
+    let p = c .before .before .before in
+    let t = turn p in
+    subst (λ (l : List ℕ). Scanning (n t) (list t) l (k t) (m t + 1) true (i t + 1)) (sym (c .stamp .ensures))
+    (joined (n t) (list t) (stamps t) (k t) (m t) (is-open t) (i t) (at t) (inside t) (v t) (handed t) (literal p) (within p) (below p) (c .before .before .before .before .before .before .before .before .before .before .before .before .before .pre)
+    (eqb-false (getD (stamps t) (v t) 0) (k t + 1) (sym (p .is-stamped .ensures) ∙ c .before .before .if5 .left)))
 
+-- past the loop
 returns-5 : tie.Need-returns-5 Inv-loop μ-loop
-returns-5 c = left-open (c .before .before .before .before .args .n) (c .before .before .before .before .args .rules .now) (c .before .before .loop .stamps) (c .before .before .loop .clauses) (c .before .before .loop .literals) (c .before .before .loop .is-open) (c .before .before .loop .i) (c .before .before .loop .inv) (c .before .loop-test .left) (c .if6 .taken)
+returns-5 c =
+    let g = c .before .before .before .before .args in
+    let e = c .before .before .loop in
+    left-open (g .n) (g .rules .now) (e .stamps) (e .clauses) (e .literals) (e .is-open) (e .i) (e .inv) (c .before .loop-test .left) (c .if6 .taken)
 
 returns-6 : tie.Need-returns-6 Inv-loop μ-loop
-returns-6 c = complete (c .before .before .before .before .args .n) (c .before .before .before .before .args .rules .now) (c .before .before .loop .stamps) (c .before .before .loop .clauses) (c .before .before .loop .literals) (c .before .before .loop .is-open) (c .before .before .loop .i) (c .before .before .loop .inv) (c .before .loop-test .left) (c .if6 .left)
+returns-6 c =
+    let g = c .before .before .before .before .args in
+    let e = c .before .before .loop in
+    complete (g .n) (g .rules .now) (e .stamps) (e .clauses) (e .literals) (e .is-open) (e .i) (e .inv) (c .before .loop-test .left) (c .if6 .left)
 
 pub scan-rules-spec : {M : Type 1} → statement M
 scan-rules-spec =

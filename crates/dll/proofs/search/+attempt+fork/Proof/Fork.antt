@@ -8,7 +8,6 @@ use borrow.Author.Needs.{needs}
 use Rattle.formula.specs.Formula.{clauses}
 use Rattle.walk.specs.Promises.{Branches}
 use Rattle.walk.specs.Walk.{Outcome, walkFrom, fork as forkOf}
-use Rattle.tally.specs.declared.Tally.{Tally}
 use Rattle.propagation.specs.Searching.{Searching}
 use Rattle.dll.specs.declared.tried.Tried.{Tried}
 use Rattle.dll.specs.declared.tried.Tried.the-variants.{Found, Nothing}

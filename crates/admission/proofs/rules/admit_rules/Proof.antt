@@ -1,0 +1,78 @@
+-- `admission::rules::admit_rules` meets its contract: refused for the range or for the list, or admitted.
+use mathlib.Core.Path.{_≡_, sym, ap, _∙_}
+use mathlib.Core.List.{List}
+use mathlib.Core.Option.{none}
+use Prim.Native.Nat.{ℕ}
+use lib.IntN.{ℤ}
+use Rattle.refusal.specs.Laws.{cause-none}
+use Rattle.refusal.specs.Reply.{refused, given}
+use Rattle.rule_list.specs.ScanLaws.{rules-unsound, rules-sound}
+use Rattle.rule_list.specs.Sound.{unread, badRule}
+use Rattle.lent.specs.Laws.{in-range}
+use Rattle.lent.specs.Lent.{plainProblem, outOfRange, rangeCause}
+use Rattle.admission.specs.Order.{plain-range, plain-rules, plain-admitted}
+use borrow.Author.Needs.{needs}
+use Rattle.admission.proofs.rules.admit_rules.Statement.{statement}
+use Rattle.admission.proofs.rules.admit_rules.Tie as tie
+
+-- past the range
+module _ (c : tie.After-enum-told) where
+  abbrev n : ℕ
+  n = c .before .before .before .args .n
+
+  abbrev rules : List ℤ
+  rules = c .before .before .before .args .rules .now
+
+  range : given (rangeCause (plainProblem n rules)) ≡ none
+  range = sym (c .before .before .check-range .ensures) ∙ ap refused (c .enum-told .given .1)
+
+check-range-requires : tie.Need-check-range-requires
+check-range-requires c κs = search needs
+
+enum-known-r : tie.Need-enum-known-r
+enum-known-r c = search needs
+
+returns : tie.Need-returns
+returns c =
+    let args = c .before .before .before .before .args in
+    plain-range (args .n) (args .rules .now) (c .before .r .given .0 .0) (sym (c .before .before .before .check-range .ensures) ∙ ap refused (c .before .r .given .1))
+
+enum-told : tie.Need-enum-told
+enum-told c = search needs
+
+scan-rules-requires : tie.Need-scan-rules-requires
+scan-rules-requires c κs =
+    in-range (n c) 0 (cause-none (outOfRange (n c) 0) 14 0 (range c)) .1
+
+enum-known-place : tie.Need-enum-known-place
+enum-known-place c = search needs
+
+enum-known-clauses : tie.Need-enum-known-clauses
+enum-known-clauses c = search needs
+
+returns-2 : tie.Need-returns-2
+returns-2 c =
+    let p = c .before .before .before .before in
+    let place = c .before .place .given .0 .0 in
+    plain-rules (n p) (rules p) (range p) place (rules-unsound (badRule (n p) unread 0 (rules p)) (rules p) place (sym (c .before .before .before .scan-rules .ensures) ∙ c .before .place .given .1))
+
+returns-3 : tie.Need-returns-3
+returns-3 c =
+    let p = c .before .before .before .before in
+    let held = c .before .clauses .given in
+    let sound = rules-sound (badRule (n p) unread 0 (rules p)) (rules p) (held .0 .0) (held .0 .1 .0) (sym (c .before .before .before .scan-rules .ensures) ∙ held .1) in
+    plain-admitted (n p) (rules p) (range p) (sound .0) (held .0 .0) (held .0 .1 .0) (sound .1) (sound .2)
+
+pub admit-rules-spec : {M : Type 1} → statement M
+admit-rules-spec =
+    tie.close
+    (tie.spec
+    check-range-requires
+    enum-known-r
+    returns
+    enum-told
+    scan-rules-requires
+    enum-known-place
+    enum-known-clauses
+    returns-2
+    returns-3)

@@ -1,0 +1,44 @@
+// A call that is lent a choice besides rules and a wish row.
+use crate::Admission;
+use crate::Counts;
+use lent::RowScan;
+use refusal::Refusal;
+use refusal::Verdict;
+use rule_list::RuleScan;
+ghost use mathlib.Core.Path.{_≡_};
+ghost use Rattle.lent.specs.Lent.{chosenProblem};
+ghost use Rattle.admission.specs.Admission.{admission};
+
+// n, the rules, the row and a given choice.
+pub fn admit_choice(n: usize, rules: &[i32], row: &[u8], choice: &[u8]) -> Admission
+    ensures { λ r. ⌜ r ≡ admission (chosenProblem n (now (rules .entry)) (now (row .entry)) (now (choice .entry))) ⌝ }
+{
+    if let Verdict::Refuse(r) = lent::check_range(n, 0) {
+        return Admission::Refused(r);
+    }
+    match rule_list::scan_rules(n, rules) {
+        RuleScan::Unsound(place) => Admission::Refused(Refusal { number: 13, place }),
+        RuleScan::Sound { clauses, literals } => match lent::scan_row(row) {
+            RowScan::Unsound(place) => Admission::Refused(Refusal { number: 13, place }),
+            RowScan::Sound(weight) => {
+                if let Verdict::Refuse(r) = lent::scan_choice(choice) {
+                    return Admission::Refused(r);
+                }
+                if let Verdict::Refuse(r) = lent::check_length(n, row.len()) {
+                    return Admission::Refused(r);
+                }
+                if let Verdict::Refuse(r) = lent::check_length(n, choice.len()) {
+                    return Admission::Refused(r);
+                }
+                if let Verdict::Refuse(r) = lent::check_size(n, clauses, literals) {
+                    return Admission::Refused(r);
+                }
+                Admission::Admitted(Counts {
+                    clauses,
+                    literals,
+                    weight,
+                })
+            }
+        },
+    }
+}
