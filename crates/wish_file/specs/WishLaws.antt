@@ -11,7 +11,7 @@ use lib.ListN.{length, set, replicate, length-append, length-set, length-replica
 use lib.Seq.{set-at, append-snoc}
 use borrow.Author.Tests.{le-leb}
 use Rattle.wish.specs.Wish.{isRowByte, freeByte, isWish, weight, wishCount, totalWeight}
-use Rattle.wish.specs.Laws.{free-byte, no-wish-free, for-byte, for-wish, for-wished, wished-for, wished-bit}
+use Rattle.wish.specs.Laws.{free-byte, free-no-wish, no-wish-free, for-byte, for-wish, for-wished, wished-for, wished-bit}
 use Rattle.lent.specs.Limits.{maxWishes}
 use Rattle.lent.specs.Sound.{badWish}
 use Rattle.wish_file.specs.Wishes.{Wish, wishAs, byteOf, wishList, marked, rowOf}
@@ -105,7 +105,9 @@ list-append v (w ∷ p) q = go (isWish w) (list-append (suc v) p q ∙ ap (λ (k
 
 list-free : (k v : ℕ) → wishList v (replicate k freeByte) ≡ []
 list-free zero v = refl
-list-free (suc k) v = list-free k (suc v)
+list-free (suc k) v =
+    ap (λ (t : Bool). cond t (wishAs v freeByte ∷ wishList (suc v) (replicate k freeByte)) (wishList (suc v) (replicate k freeByte))) free-no-wish
+    ∙ list-free k (suc v)
 
 -- a byte put into the free part of a row
 put-free : (p : List ℕ) (gap left b : ℕ)
