@@ -12,9 +12,9 @@ use lib.Seq.{set-at, append-snoc}
 use borrow.Author.Tests.{lt-ltb, le-leb, ltb-true, ltb-false, leb-true}
 use Rattle.wish.specs.Wish.{weight, isRowByte, freeByte, isWish, wishCount, totalWeight}
 use Rattle.limits.specs.Limits.{maxWishes}
+use Rattle.wish.specs.Laws.{free-byte, free-no-wish, no-wish-free, for-byte, for-wish, for-wished, wished-for, wished-bit}
 use Rattle.lent.specs.Sound.{badWish}
 use Rattle.wish_file.specs.Wishes.{Wish, wishList, marked, rowOf, Rising, wishAs, byteOf}
-use Rattle.wish.specs.Laws.{free-byte, no-wish-free, for-byte, for-wish, for-wished, wished-for, wished-bit}
 
 -- every number of a list may stand in a row
 abbrev pub Bytes : List ℕ → Type 0
@@ -100,7 +100,9 @@ list-append v (w ∷ p) q = go (isWish w) (list-append (suc v) p q ∙ ap (λ (k
 
 list-free : (k v : ℕ) → wishList v (replicate k freeByte) ≡ []
 list-free zero v = refl
-list-free (suc k) v = list-free k (suc v)
+list-free (suc k) v =
+    ap (λ (t : Bool). cond t (wishAs v freeByte ∷ wishList (suc v) (replicate k freeByte)) (wishList (suc v) (replicate k freeByte))) free-no-wish
+    ∙ list-free k (suc v)
 
 -- a byte put into the free part of a row
 put-free : (p : List ℕ) (gap left b : ℕ)
