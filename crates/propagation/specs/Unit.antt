@@ -31,6 +31,7 @@ abbrev pub unitBy : Standing → ℤ → Unit
 unitBy Satisfied x = U.the-variants.Nothing
 unitBy (Open k) x = cond (eqb k 0) U.the-variants.Conflict (cond (eqb k 1) (U.the-variants.Literal x) U.the-variants.Nothing)
 
+-- which is what the pass finds in that clause alone
 pub scan-by : (a : List ℕ) (c : List ℤ) (s : Standing) (x : ℤ) → s ≡ standingOf a c → (s ≡ Open 1 → find (isUnassigned a) c ≡ some x) → unitBy s x ≡ scan a (c ∷ [])
 scan-by a c s x e h = ap (λ (t : Standing). unitBy t x) e ∙ go (satisfied a c) refl (eqb (unassignedIn a c) 1) refl
   where

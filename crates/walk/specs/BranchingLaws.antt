@@ -123,12 +123,6 @@ fewer none k = k
 fewer (some j) none = some j
 fewer (some j) (some k) = some (min j k)
 
-pub fewer-assoc : (i j k : Option ℕ) → fewer (fewer i j) k ≡ fewer i (fewer j k)
-fewer-assoc none j k = refl
-fewer-assoc (some i) none k = refl
-fewer-assoc (some i) (some j) none = refl
-fewer-assoc (some i) (some j) (some k) = let e : min (min i j) k ≡ min i (min j k) = omega arith in ap {B = Option ℕ} some e
-
 -- the shorter of two clauses has the fewer unassigned literals
 pub shorter-fewer : (a : List ℕ) (c e : List ℤ) → unassignedIn a (shorter a c e) ≡ min (unassignedIn a c) (unassignedIn a e)
 shorter-fewer a c e = go (ltb (unassignedIn a e) (unassignedIn a c)) refl

@@ -2,13 +2,12 @@
 use mathlib.Core.Path.{_≡_}
 use mathlib.Core.Bool.{Bool, true, false}
 use mathlib.Core.List.{List}
-use mathlib.Core.Option.{none, some}
 use Prim.Native.Nat.{ℕ, suc, _+_, _≤_, _<_}
 use native.Mathlib.Numerals.{add-one}
 use lib.ListN.{length, getD, drop, drop-of-length-le}
 use lib.Seq.{drop-cons}
 use Rattle.formula.specs.Formula.{all}
-use Rattle.walk.specs.State.{count, find}
+use Rattle.walk.specs.State.{count}
 
 module _ {ℓ} {A : Type ℓ} (p : A → Bool) (l : List A) (i : ℕ) (z : A) where
   pub count-here : i < length l → p (getD l i z) ≡ true → count p (drop i l) ≡ suc (count p (drop (i + 1) l))
@@ -16,12 +15,6 @@ module _ {ℓ} {A : Type ℓ} (p : A → Bool) (l : List A) (i : ℕ) (z : A) wh
 
   pub count-later : i < length l → p (getD l i z) ≡ false → count p (drop i l) ≡ count p (drop (i + 1) l)
   count-later h e = rw (drop-cons l i z h, e, add-one i)
-
-  pub find-here : i < length l → p (getD l i z) ≡ true → find p (drop i l) ≡ some (getD l i z)
-  find-here h e = rw (drop-cons l i z h, e)
-
-  pub find-later : i < length l → p (getD l i z) ≡ false → find p (drop i l) ≡ find p (drop (i + 1) l)
-  find-later h e = rw (drop-cons l i z h, e, add-one i)
 
   pub all-here : i < length l → p (getD l i z) ≡ true → all p (drop i l) ≡ all p (drop (i + 1) l)
   all-here h e = rw (drop-cons l i z h, e, add-one i)
@@ -32,9 +25,6 @@ module _ {ℓ} {A : Type ℓ} (p : A → Bool) (l : List A) (i : ℕ) (z : A) wh
 module _ {ℓ} {A : Type ℓ} (p : A → Bool) (l : List A) (i : ℕ) where
   pub count-past : length l ≤ i → count p (drop i l) ≡ 0
   count-past h = rw (drop-of-length-le l h)
-
-  pub find-past : length l ≤ i → find p (drop i l) ≡ none
-  find-past h = rw (drop-of-length-le l h)
 
   pub all-past : length l ≤ i → all p (drop i l) ≡ true
   all-past h = rw (drop-of-length-le l h)

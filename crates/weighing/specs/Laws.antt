@@ -21,12 +21,12 @@ use Rattle.weighing.specs.Weights.{slot, isAt, isMarked, distinct}
 
 -- the literals of c before index k have been added to the weights: what is there and what is still to come is what was there and all of it
 pub record Adding (c : List ℤ) (w : ℕ) (before now : List ℕ) (k : ℕ) : Type 0 where
-  pub size : length now ≡ length before
+  pub lengths : length now ≡ length before
   pub once : distinct (drop k c) ≡ true
   pub sums : (i : ℕ) → getD now i 0 + cond (any (isAt i) (drop k c)) w 0 ≡ getD before i 0 + cond (any (isAt i) c) w 0
 
 pub adding-start : (c : List ℤ) (w : ℕ) (before : List ℕ) → distinct c ≡ true → Adding c w before before 0
-adding-start c w before h = record { size = refl; once = h; sums = λ i. refl }
+adding-start c w before h = record { lengths = refl; once = h; sums = λ i. refl }
 
 module _ (c : List ℤ) (w : ℕ) (before now : List ℕ) (k : ℕ) (s : Adding c w before now k) (h : k < length c) where
   abbrev x : ℤ
@@ -56,7 +56,7 @@ module _ (c : List ℤ) (w : ℕ) (before now : List ℕ) (k : ℕ) (s : Adding 
   pub adding-next : slot x < length now → Adding c w before (set now (slot x) (getD now (slot x) 0 + w)) (k + 1)
   adding-next l =
       record {
-        size = length-set now (slot x) (getD now (slot x) 0 + w) ∙ s .size;
+        lengths = length-set now (slot x) (getD now (slot x) 0 + w) ∙ s .lengths;
         once = parts .1;
         sums = λ i. elim (ℕ-discrete i (slot x)) [ yes e ↦ same i e | no e ↦ other i e ];
       }
@@ -86,11 +86,11 @@ adding-end c w before now k s h i =
 
 -- the variables of c before index k have been marked
 pub record Marking (c : List ℤ) (before now : List ℕ) (k : ℕ) : Type 0 where
-  pub size : length now ≡ length before
+  pub lengths : length now ≡ length before
   pub marks : (v : ℕ) → isMarked now v || mentions v (drop k c) ≡ isMarked before v || mentions v c
 
 pub marking-start : (c : List ℤ) (before : List ℕ) → Marking c before before 0
-marking-start c before = record { size = refl; marks = λ v. refl }
+marking-start c before = record { lengths = refl; marks = λ v. refl }
 
 module _ (c : List ℤ) (before now : List ℕ) (k : ℕ) (s : Marking c before now k) (h : k < length c) where
   abbrev y : ℤ
@@ -99,7 +99,7 @@ module _ (c : List ℤ) (before now : List ℕ) (k : ℕ) (s : Marking c before 
   pub marking-next : variable y < length now → Marking c before (set now (variable y) 1) (k + 1)
   marking-next l =
       record {
-        size = length-set now (variable y) 1 ∙ s .size;
+        lengths = length-set now (variable y) 1 ∙ s .lengths;
         marks = λ v. elim (ℕ-discrete v (variable y)) [ yes e ↦ same v e | no e ↦ other v e ];
       }
     where
@@ -145,16 +145,16 @@ variable-most (negsuc n) h = omega arith
 
 -- the numbers before index i are 0
 pub record Clearing (before now : List ℕ) (i : ℕ) : Type 0 where
-  pub size : length now ≡ length before
+  pub lengths : length now ≡ length before
   pub zeros : (k : ℕ) → k < i → getD now k 0 ≡ 0
 
 pub clearing-start : (before : List ℕ) → Clearing before before 0
-clearing-start before = record { size = refl; zeros = λ k h. absurd (omega arith) }
+clearing-start before = record { lengths = refl; zeros = λ k h. absurd (omega arith) }
 
 pub clearing-next : (before now : List ℕ) (i : ℕ) → Clearing before now i → i < length now → Clearing before (set now i 0) (i + 1)
 clearing-next before now i s h =
     record {
-      size = length-set now i 0 ∙ s .size;
+      lengths = length-set now i 0 ∙ s .lengths;
       zeros = λ k l. elim (ℕ-discrete k i) [ yes e ↦ ap (λ (j : ℕ). getD (set now i 0) j 0) e ∙ getD-set-same now i 0 0 h | no e ↦ getD-set-other now i k 0 0 e ∙ s .zeros k (omega arith) ];
     }
 

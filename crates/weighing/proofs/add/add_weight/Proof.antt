@@ -1,8 +1,8 @@
 -- `weighing::add_weight` meets its contract. The loop's invariant: the weight is added at the literals passed.
 use mathlib.Core.Path.{_≡_, sym, ap, subst, _∙_}
-use Prim.Native.Nat.{ℕ, _+_, _-_}
+use Prim.Native.Nat.{ℕ, _+_, _-_, _<_}
 use native.Mathlib.Omega.{arith}
-use lib.IntN.{pos}
+use lib.IntN.{ℤ, pos}
 use lib.ListN.{length, getD, set}
 use Rattle.literal.specs.Laws.{as-read}
 use Rattle.weighing.specs.Weights.{slot}
@@ -20,6 +20,17 @@ abbrev μ-loop : tie.MeasureT-loop
 loop-holds : tie.Need-loop-holds Inv-loop μ-loop
 loop-holds c = adding-start (c .before .args .clause .now) (c .before .args .weight) (c .before .args .weights .now) (c .before .pre .once)
 
+-- Points of the program: the entry; the loop's head; the literal's slot known.
+abbrev entry : tie.At-loop Inv-loop μ-loop → tie.Start Inv-loop μ-loop
+entry c = c .before .before
+
+abbrev head : tie.After-slot-of Inv-loop μ-loop → tie.At-loop Inv-loop μ-loop
+head c = c .before .before .before
+
+-- the literal that is added
+abbrev literal : tie.After-slot-of Inv-loop μ-loop → ℤ
+literal c = getD (entry (head c) .args .clause .now) (head c .loop .k) (pos 0)
+
 mul-slot-of : tie.Need-mul-slot-of Inv-loop μ-loop
 mul-slot-of c = search needs
 
@@ -30,26 +41,36 @@ slot-of-requires : tie.Need-slot-of-requires Inv-loop μ-loop
 slot-of-requires c κs = search needs
 
 -- the callee's slot is that of the clause's literal
-handed : (c : tie.After-slot-of Inv-loop μ-loop) → c .slot-of .result ≡ slot (getD (c .before .before .before .before .before .args .clause .now) (c .before .before .before .loop .k) (pos 0))
-handed c = c .slot-of .ensures ∙ ap slot (as-read (getD (c .before .before .before .before .before .args .clause .now) (c .before .before .before .loop .k) (pos 0)) (c .before .slot-of-arg .given))
+handed : (c : tie.After-slot-of Inv-loop μ-loop) → c .slot-of .result ≡ slot (literal c)
+handed c = c .slot-of .ensures ∙ ap slot (as-read (literal c) (c .before .slot-of-arg .given))
 
-handed-sum : (c : tie.After-slot-of Inv-loop μ-loop) → getD (c .before .before .before .loop .weights) (c .slot-of .result) 0 ≡ getD (c .before .before .before .loop .weights) (slot (getD (c .before .before .before .before .before .args .clause .now) (c .before .before .before .loop .k) (pos 0))) 0
-handed-sum c = ap (λ (i : ℕ). getD (c .before .before .before .loop .weights) i 0) (handed c)
+handed-sum : (c : tie.After-slot-of Inv-loop μ-loop) → getD (head c .loop .weights) (c .slot-of .result) 0 ≡ getD (head c .loop .weights) (slot (literal c)) 0
+handed-sum c = ap (λ (i : ℕ). getD (head c .loop .weights) i 0) (handed c)
+
+-- and it is there
+inside : (c : tie.After-slot-of Inv-loop μ-loop) → slot (literal c) < length (head c .loop .weights)
+inside c =
+    let top = head c in
+    omega (arith, entry top .pre .inside (top .loop .k) (c .before .before .loop-test .taken), top .loop .inv .lengths)
 
 mul-weights : tie.Need-mul-weights Inv-loop μ-loop
-mul-weights c = omega (arith, c .before .before .before .before .before .pre .inside (c .before .before .before .loop .k) (c .before .before .loop-test .taken), c .before .before .before .loop .inv .size, handed c, c .before .before .before .before .before .good)
+mul-weights c = omega (arith, inside c, head c .loop .inv .lengths, handed c, entry (head c) .good)
 
 slice-read-weights : tie.Need-slice-read-weights Inv-loop μ-loop
-slice-read-weights c = omega (arith, c .before .before .before .before .before .before .pre .inside (c .before .before .before .before .loop .k) (c .before .before .before .loop-test .taken), c .before .before .before .before .loop .inv .size, handed (c .before))
+slice-read-weights c = omega (arith, inside (c .before), handed (c .before))
 
 add-weights : tie.Need-add-weights Inv-loop μ-loop
-add-weights c = omega (arith, handed-sum (c .before), c .before .before .before .before .before .before .pre .fits (slot (getD (c .before .before .before .before .before .before .args .clause .now) (c .before .before .before .before .loop .k) (pos 0))), adding-fits (c .before .before .before .before .before .before .args .clause .now) (c .before .before .before .before .before .before .args .weight) (c .before .before .before .before .before .before .args .weights .now) (c .before .before .before .before .loop .weights) (c .before .before .before .before .loop .k) (c .before .before .before .before .loop .inv) (c .before .before .before .loop-test .taken))
+add-weights c =
+    let known = c .before in
+    let top = head known in
+    let args = entry top .args in
+    omega (arith, handed-sum known, entry top .pre .fits (slot (literal known)), adding-fits (args .clause .now) (args .weight) (args .weights .now) (top .loop .weights) (top .loop .k) (top .loop .inv) (known .before .before .loop-test .taken))
 
 mul-weights-2 : tie.Need-mul-weights-2 Inv-loop μ-loop
-mul-weights-2 c = omega (arith, c .before .before .before .before .before .before .pre .inside (c .before .before .before .before .loop .k) (c .before .before .before .loop-test .taken), c .before .before .before .before .loop .inv .size, handed (c .before), c .before .before .before .before .before .before .good)
+mul-weights-2 c = let known = c .before in omega (arith, inside known, head known .loop .inv .lengths, handed known, entry (head known) .good)
 
 slice-write-weights : tie.Need-slice-write-weights Inv-loop μ-loop
-slice-write-weights c = omega (arith, c .before .before .before .before .before .before .pre .inside (c .before .before .before .before .loop .k) (c .before .before .before .loop-test .taken), c .before .before .before .before .loop .inv .size, handed (c .before))
+slice-write-weights c = omega (arith, inside (c .before), handed (c .before))
 
 add-k : tie.Need-add-k Inv-loop μ-loop
 add-k c = search needs
@@ -59,15 +80,22 @@ loop-less c = search needs
 
 loop-again : tie.Need-loop-again Inv-loop μ-loop
 loop-again c =
-    let l = c .before .before .before .before .before .before .args .clause .now in
-    let next = adding-next l (c .before .before .before .before .before .before .args .weight) (c .before .before .before .before .before .before .args .weights .now) (c .before .before .before .before .loop .weights) (c .before .before .before .before .loop .k) (c .before .before .before .before .loop .inv) (c .before .before .before .loop-test .taken) (omega (arith, c .before .before .before .before .before .before .pre .inside (c .before .before .before .before .loop .k) (c .before .before .before .loop-test .taken), c .before .before .before .before .loop .inv .size, handed (c .before))) in
-    subst (λ (i : ℕ). Adding l (c .before .before .before .before .before .before .args .weight) (c .before .before .before .before .before .before .args .weights .now) (set (c .before .before .before .before .loop .weights) i (getD (c .before .before .before .before .loop .weights) i 0 + c .before .before .before .before .before .before .args .weight)) (c .before .before .before .before .loop .k + 1)) (sym (handed (c .before))) next
+    let known = c .before in
+    let top = head known in
+    let args = entry top .args in
+    let l = args .clause .now in
+    let weights = top .loop .weights in
+    let next = adding-next l (args .weight) (args .weights .now) weights (top .loop .k) (top .loop .inv) (known .before .before .loop-test .taken) (inside known) in
+    subst (λ (i : ℕ). Adding l (args .weight) (args .weights .now) (set weights i (getD weights i 0 + args .weight)) (top .loop .k + 1)) (sym (handed known)) next
 
 same-length : tie.Need-same-length Inv-loop μ-loop
-same-length c = c .before .loop .inv .size
+same-length c = c .before .loop .inv .lengths
 
 returns : tie.Need-returns Inv-loop μ-loop
-returns c = adding-end (c .before .before .before .args .clause .now) (c .before .before .before .args .weight) (c .before .before .before .args .weights .now) (c .before .loop .weights) (c .before .loop .k) (c .before .loop .inv) (c .loop-test .left)
+returns c =
+    let top = c .before in
+    let args = entry top .args in
+    adding-end (args .clause .now) (args .weight) (args .weights .now) (top .loop .weights) (top .loop .k) (top .loop .inv) (c .loop-test .left)
 
 pub add-weight-spec : {M : Type 1} → statement M
 add-weight-spec =
