@@ -35,9 +35,11 @@ returns c =
 
 judge-requires : tie.Need-judge-requires
 judge-requires c κs =
-    let known = c .before .before .before in
-    let args = known .before .before .before .before .before .before .args in
-    light (args .n) (args .rules .now) (args .row .now) (args .choice .now) (sound known .0)
+    let args = c .before .before .before .before .before .args in
+    let s = lent (c .before .before) in
+    let held = c .enum-told .given in
+    let known = admitted-by (unadmitted s) (countsOf s) (held .0 .0) (sym (c .before .before .admit-choice .ensures) ∙ held .1) in
+    sound-weight (args .row .now) (admitted s (known .0) .soundRow)
 
 returns-2 : tie.Need-returns-2
 returns-2 c =
