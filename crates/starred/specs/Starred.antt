@@ -7,7 +7,6 @@ use lib.ListN.{take}
 use Rattle.refusal.specs.Reply.{Reply, refusal, refusing, answering}
 use Rattle.searches.specs.Searches.{searchReply, nearestReply}
 use Rattle.dimacs.specs.Class.{classOf}
-use Rattle.dimacs.specs.Format.{reading}
 use Rattle.wish_file.specs.Examples as example
 use Rattle.rule_reader.specs.Read as rule
 use Rattle.wish_reader.specs.Read as wish
@@ -26,7 +25,7 @@ searchOf n rules row d = searchReply n rules row d n
 
 -- the readers, where no room is lent: the starred files are refused for causes that come before that of the room
 abbrev ruleFile : List ℕ → Reply
-ruleFile file = rule.readReply (reading file) []
+ruleFile file = rule.readReply file 0
 
 abbrev wishFile : List ℕ → Reply
 wishFile file = wish.readReply file 0
