@@ -1,51 +1,58 @@
+-- `cases::forks_case::walk` is safe: the walk is lent what was admitted.
+use mathlib.Core.Path.{_≡_, sym, _∙_}
+use lib.ListN.{length}
 use borrow.Author.Needs.{needs}
+use Rattle.lent.specs.Admitted.{unrefused}
+use Rattle.lent.specs.Lent.{Lent, problem, withRoom, refusalOf}
+use Rattle.admission.specs.Admission.{countsOf, start}
+use Rattle.admission.specs.Laws.{admitted-by}
+use Rattle.root.specs.Into.{startable}
 use Rattle.cases.proofs.forks_case.walk.Statement.{statement}
 use Rattle.cases.proofs.forks_case.walk.Tie as tie
-use Rattle.cases.proofs.forks_case.walk.Reads as reads
-use Rattle.cases.proofs.forks_case.walk.Lts as lts
-use Rattle.admission.proofs.with_room.Reads as with-room-reads
-use Rattle.admission.proofs.admit_wishes.Reads as admit-wishes-reads
-use Rattle.cases.proofs.forks_case.show.Reads as show-reads
-use Rattle.cases.proofs.report.refused.Reads as refused-reads
-use Rattle.root.proofs.walk_into.Reads as walk-into-reads
 
--- src/forks_case.rt:13:9
+-- after the checks: what was lent, without and with the room, and what they say of it
+module _ (c : tie.After-with-room) where
+  abbrev problem-of : Lent
+  problem-of = problem (c .before .before .before .before .args .n) (c .before .before .before .before .args .rules .now) (c .before .before .before .before .args .row .now) (c .before .before .before .before .args .d)
+
+  abbrev lent : Lent
+  lent = withRoom (c .before .before .before .before .args .n) (length (c .before .before .before .before .args .choice .now)) problem-of
+
+  told : c .with-room .result ≡ start lent
+  told = c .with-room .ensures problem-of (c .before .admit-wishes .ensures)
+
 admit-wishes-requires : tie.Need-admit-wishes-requires
 admit-wishes-requires c κs = search needs
 
--- src/forks_case.rt:14:11
 with-room-requires : tie.Need-with-room-requires
 with-room-requires c κs = search needs
 
--- src/forks_case.rt:15:28
 enum-known-r : tie.Need-enum-known-r
 enum-known-r c = search needs
 
--- src/forks_case.rt:15:34
 refused-requires : tie.Need-refused-requires
 refused-requires c κs = search needs
 
--- src/forks_case.rt:16:74
 enum-told : tie.Need-enum-told
 enum-told c = search needs
 
--- src/forks_case.rt:16:40
 walk-into-requires : tie.Need-walk-into-requires
-walk-into-requires c κs = ?
+walk-into-requires c κs =
+    let past = c .before in
+    let checked = past .before .before in
+    let args = checked .before .before .before .before .args in
+    let passed = admitted-by (refusalOf (lent checked)) (countsOf (lent checked)) (past .enum-told .given .0 .0) (sym (told checked) ∙ past .enum-told .given .1) .0 in
+    startable (problem-of checked) (length (args .choice .now)) (unrefused (problem-of checked) (args .n) (length (args .choice .now)) passed)
 
--- src/forks_case.rt:16:35
 show-requires : tie.Need-show-requires
 show-requires c κs = search needs
 
--- src/forks_case.rt:12:1
 returns : tie.Need-returns
 returns c = search needs
 
--- src/forks_case.rt:12:1
 same-length : tie.Need-same-length
 same-length c = search needs
 
--- src/forks_case.rt:12:1
 returns-2 : tie.Need-returns-2
 returns-2 c = search needs
 
