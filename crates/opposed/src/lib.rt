@@ -9,5 +9,3 @@ pub use fewest::Fewest;
 pub use fewest::fewest_opposed;
 pub use pair::shorter;
 pub use pair::unassigned_in;
-pub use shortest::first_opposed;
-pub use shortest::shortest_opposed;
