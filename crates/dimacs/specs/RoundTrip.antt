@@ -8,7 +8,7 @@ use native.Mathlib.Nat.{zero-add, not-suc-le-zero}
 use native.Mathlib.Omega.{arith}
 use lib.Dec.{ltb, leb}
 use lib.IntN.{ℤ, pos, negsuc}
-use lib.ListN.{length, drop, length-append}
+use lib.ListN.{length, getD, drop, length-append}
 use lib.Seq.{drop-append-seam}
 use borrow.Author.Tests.{ne-eqb, le-ltb, lt-ltb, lt-leb, leb-true, ltb-true, eqb-true}
 use Rattle.literal.specs.Literal.{variable}
@@ -22,8 +22,8 @@ use Rattle.text.specs.Text.{numeral}
 use Rattle.dimacs.specs.Class.{classOf}
 use Rattle.dimacs.specs.Format.{header, numbered, outside, preamble, positive, signed, element, badToken, badTokens, gives, reading, readFrom}
 use Rattle.dimacs.specs.Laws.{digit-class, digit-in-token, all-digits, before-digits, beyond-digits}
-use Rattle.dimacs.specs.TokenLaws.{kept-outside, tokens-token, blank-outside}
-use Rattle.dimacs.specs.Tokens.{inToken, Token, Position, isWithin, within, step, tokens, positionAt, tokensFrom}
+use Rattle.dimacs.specs.TokenLaws.{token-begins, kept-outside, tokens-token, blank-outside}
+use Rattle.dimacs.specs.Tokens.{inToken, Token, Position, isWithin, within, step, begins, tokens, positionAt, tokensFrom}
 use Rattle.dimacs.specs.Sizes.{sound-step, zeros-some, sound-clauses}
 use Rattle.dimacs.specs.Written.{separator, body, headerText, written}
 
@@ -54,6 +54,14 @@ separator-blank x = go (closes x)
     go true = refl
     go false = refl
 
+-- and it begins where a token may
+numeral-begins : (p : Position) (x : ℤ) → isWithin p ≡ false → begins p (getD (numeral x) 0 0) ≡ true
+numeral-begins p x o = token-begins p (getD (numeral x) 0 0) o (first-byte (numeral x) (numeral-some x) (numeral-token x))
+  where
+    first-byte : (w : List ℕ) → 0 < length w → all inToken w ≡ true → inToken (getD w 0 0) ≡ true
+    first-byte [] l h = absurd (not-suc-le-zero l)
+    first-byte (b ∷ w) l h = and-eq-true-iff (inToken b) (all inToken w) .0 h .0
+
 -- the tokens of a written list
 abbrev pub tokensOf : ℕ → List ℤ → List Token
 tokensOf at [] = []
@@ -62,7 +70,7 @@ tokensOf at (x ∷ l) = record { place = at; bytes = numeral x } ∷ tokensOf (s
 tokens-body : (l : List ℤ) (p : Position) (at : ℕ) → isWithin p ≡ false → tokens p at (body l) ≡ tokensOf at l
 tokens-body [] p at o = refl
 tokens-body (x ∷ l) p at o =
-    tokens-token (numeral x) (separator x) (body l) p at o (numeral-some x) (numeral-token x) (separator-blank x)
+    tokens-token (numeral x) (separator x) (body l) p at (numeral-some x) (numeral-begins p x o) (numeral-token x) (separator-blank x)
     ∙ ap (λ (ts : List Token). record { place = at; bytes = numeral x } ∷ ts)
     (tokens-body l (step within (separator x)) (suc (at + length (numeral x))) (blank-outside (separator x) (separator-blank x)))
 

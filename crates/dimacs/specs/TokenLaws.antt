@@ -12,7 +12,7 @@ use lib.Seq.{drop-cons, drop-drop, getD-drop}
 use borrow.Author.Tests.{not-true, not-false, ltb-true, ltb-false, eqb-true}
 use Rattle.formula.specs.Formula.{all}
 use Rattle.dimacs.specs.Class.{classOf}
-use Rattle.dimacs.specs.Tokens.{leading, isGap, inToken, Token, Position, lineStart, between, within, isWithin, step, tokens, positionAt, tokensFrom}
+use Rattle.dimacs.specs.Tokens.{leading, isGap, inToken, Token, Position, lineStart, between, within, isWithin, step, begins, starting, tokens, positionAt, tokensFrom}
 use Rattle.dimacs.specs.Laws.{leading-seam, run-byte, run-inside, run-more}
 
 -- a line feed is blank, so a byte of a token is none
@@ -24,7 +24,7 @@ no-line-feed b e = go (eqb b 10) refl
     go true f = absurd (true≢false (sym e ∙ ap inToken (eqb-true b 10 f)))
     go false f = f
 
--- behind a byte of a token stands one within it, and behind a blank none does
+-- What a byte does to a position. At each, one behind a byte of a token stands within it, one behind a blank does not, and only a byte of a token has one within behind it.
 step-token : (p : Position) (b : ℕ) → inToken b ≡ true → step p b ≡ within
 step-token p b e = rw (no-line-feed b e, not-true (isGap b) e)
 
@@ -34,6 +34,31 @@ outside-line false = refl
 
 step-blank : (p : Position) (b : ℕ) → isGap b ≡ true → isWithin (step p b) ≡ false
 step-blank p b e = rw (e) (outside-line (eqb b 10))
+
+step-inside : (p : Position) (b : ℕ) → isWithin (step p b) ≡ true → inToken b ≡ true
+step-inside p b e = go (isGap b) refl
+  where
+    go : (t : Bool) → isGap b ≡ t → inToken b ≡ true
+    go true f = absurd (true≢false (sym e ∙ step-blank p b f))
+    go false f = ap not f
+
+-- so where a token may begin, a byte of one begins it, and a blank none
+pub token-begins : (p : Position) (b : ℕ) → isWithin p ≡ false → inToken b ≡ true → begins p b ≡ true
+token-begins p b o e = rw (o, step-token p b e)
+
+blank-begins : (p : Position) (b : ℕ) → isGap b ≡ true → begins p b ≡ false
+blank-begins p b e = rw (step-blank p b e) (and-false (not (isWithin p)))
+
+-- the byte that begins a token is one's, and stands where none is going on
+is-within : (p : Position) → isWithin p ≡ true → p ≡ within
+is-within lineStart e = absurd (true≢false (sym e))
+is-within between e = absurd (true≢false (sym e))
+is-within within e = refl
+
+begun : (p : Position) (b : ℕ) → begins p b ≡ true → (step p b ≡ within) × (inToken b ≡ true)
+begun p b e =
+    let inside : isWithin (step p b) ≡ true = and-eq-true-iff (not (isWithin p)) (isWithin (step p b)) .0 e .1 in
+    (is-within (step p b) inside, step-inside p b inside)
 
 -- no kept offset stands within a token
 pub kept-outside : (s : List ℕ) (i : ℕ) → isWithin (positionAt s i) ≡ false
@@ -73,28 +98,28 @@ module _ (s : List ℕ) (i : ℕ) (h : i < length s) where
   pub tokens-blank : isGap b ≡ true → tokensFrom s i ≡ tokensFrom s (i + 1)
   tokens-blank e =
       let next : step (positionAt s i) b ≡ positionAt s (suc i) = rw (e) in
-      let none : tokens (positionAt s i) i (b ∷ drop (suc i) s) ≡ tokens (step (positionAt s i) b) (suc i) (drop (suc i) s) =
-      rw (step-blank (positionAt s i) b e, and-false (not (isWithin (positionAt s i)))) in
-      from-here ∙ none
+      from-here
+      ∙ ap (λ (t : Bool). starting t (record { place = i; bytes = b ∷ leading inToken (drop (suc i) s) }) (tokens (step (positionAt s i) b) (suc i) (drop (suc i) s))) (blank-begins (positionAt s i) b e)
       ∙ ap (λ (p : Position). tokens p (suc i) (drop (suc i) s)) next
       ∙ ap (tokensFrom s) (sym (add-one i))
 
-  pub tokens-here : isGap b ≡ false → tokensFrom s i ≡ record { place = i; bytes = leading inToken (drop i s) } ∷ tokensFrom s (i + length (leading inToken (drop i s)))
+  pub tokens-here : begins (positionAt s i) b ≡ true
+      → tokensFrom s i ≡ record { place = i; bytes = leading inToken (drop i s) } ∷ tokensFrom s (i + length (leading inToken (drop i s)))
   tokens-here e =
-      let within-here : step (positionAt s i) b ≡ within = step-token (positionAt s i) b (ap not e) in
-      let run : leading inToken (drop i s) ≡ b ∷ leading inToken (drop (suc i) s) = rw (drop-cons s i 0 h, e) in
+      let here = begun (positionAt s i) b e in
+      let run : leading inToken (drop i s) ≡ b ∷ leading inToken (drop (suc i) s) = rw (drop-cons s i 0 h, here .1) in
       let size : ℕ = length (leading inToken (drop (suc i) s)) in
       let long : length (leading inToken (drop i s)) ≡ suc size = ap length run in
       let last : inToken (getD s (i + size) 0) ≡ true =
       ap inToken (sym (getD-drop i s size 0)) ∙ run-byte inToken (drop i s) size (omega (arith, long)) in
       let end : i + length (leading inToken (drop i s)) ≡ suc (i + size) = omega (arith, long) in
       let past : positionAt s (suc (i + size)) ≡ between = rw (no-line-feed (getD s (i + size) 0) last) in
-      let begun : tokens (positionAt s i) i (b ∷ drop (suc i) s) ≡ record { place = i; bytes = b ∷ leading inToken (drop (suc i) s) } ∷ tokens within (suc i) (drop (suc i) s) =
-      rw (within-here, kept-outside s i) in
       let same : suc i + size ≡ suc (i + size) = omega arith in
-      from-here ∙ begun
+      from-here
+      ∙ ap (λ (t : Bool). starting t (record { place = i; bytes = b ∷ leading inToken (drop (suc i) s) }) (tokens (step (positionAt s i) b) (suc i) (drop (suc i) s))) e
       ∙ ap₂ (λ (w : List ℕ) (ts : List Token). record { place = i; bytes = w } ∷ ts) (sym run)
-      (tokens-rest (drop (suc i) s) (suc i)
+      (ap (λ (p : Position). tokens p (suc i) (drop (suc i) s)) (here .0)
+      ∙ tokens-rest (drop (suc i) s) (suc i)
       ∙ ap₂ (λ (k : ℕ) (r : List ℕ). tokens between k r) same (drop-drop size (suc i) s ∙ ap (λ (k : ℕ). drop k s) same)
       ∙ ap (λ (p : Position). tokens p (suc (i + size)) (drop (suc (i + size)) s)) (sym past)
       ∙ ap (tokensFrom s) (sym end))
@@ -122,7 +147,7 @@ shaped-within (suc k) s i h = go (ltb i (length s)) refl (shaped-within k s (i +
     byte : i < length s → (t : Bool) → isGap (getD s i 0) ≡ t → Shaped s (i + 1) (tokensFrom s (i + 1)) → Shaped s i (tokensFrom s i)
     byte l true e ih = subst (Shaped s i) (sym (tokens-blank s i l e)) (sooner s i (tokensFrom s (i + 1)) ih)
     byte l false e ih =
-        subst (Shaped s i) (sym (tokens-here s i l e))
+        subst (Shaped s i) (sym (tokens-here s i l (token-begins (positionAt s i) (getD s i 0) (kept-outside s i) (ap not e))))
         (record {
           later = omega arith;
           run = refl;
@@ -148,15 +173,15 @@ past-token (x ∷ w) b r at h =
     ∙ past-token w b r (suc at) (parts .1)
     ∙ ap (λ (k : ℕ). tokens (step within b) (suc k) r) same
 
-pub tokens-token : (w : List ℕ) (b : ℕ) (r : List ℕ) (p : Position) (at : ℕ) → isWithin p ≡ false → 0 < length w → all inToken w ≡ true → inToken b ≡ false
+pub tokens-token : (w : List ℕ) (b : ℕ) (r : List ℕ) (p : Position) (at : ℕ) → 0 < length w → begins p (getD w 0 0) ≡ true → all inToken w ≡ true → inToken b ≡ false
     → tokens p at (w ++ b ∷ r) ≡ record { place = at; bytes = w } ∷ tokens (step within b) (suc (at + length w)) r
-tokens-token [] b r p at o l h e = absurd (not-suc-le-zero l)
-tokens-token (x ∷ w) b r p at o l h e =
-    let parts = and-eq-true-iff (inToken x) (all inToken w) .0 h in
+tokens-token [] b r p at l o h e = absurd (not-suc-le-zero l)
+tokens-token (x ∷ w) b r p at l o h e =
+    let rest : all inToken w ≡ true = and-eq-true-iff (inToken x) (all inToken w) .0 h .1 in
     let same : suc at + length w ≡ at + suc (length w) = omega arith in
-    rw (o, step-token p x (parts .0), leading-seam inToken w b r (parts .1) e)
+    rw (o, begun p x o .0, leading-seam inToken w b r rest e)
     (ap (λ (ts : List Token). record { place = at; bytes = x ∷ w } ∷ ts)
-    (past-token w b r (suc at) (parts .1) ∙ ap (λ (k : ℕ). tokens (step within b) (suc k) r) same))
+    (past-token w b r (suc at) rest ∙ ap (λ (k : ℕ). tokens (step within b) (suc k) r) same))
 
 -- behind that blank no byte stands within a token
 pub blank-outside : (b : ℕ) → inToken b ≡ false → isWithin (step within b) ≡ false

@@ -1,8 +1,9 @@
 -- `rule_header::header_at` meets its contract: no preamble, no line feed, a malformed number, or both numbers.
 use mathlib.Core.Path.{_≡_, sym, ap, _∙_}
 use mathlib.Core.Bool.{true}
+use mathlib.Core.List.{List}
 use mathlib.Core.Option.{some}
-use Prim.Native.Nat.{_+_, _-_}
+use Prim.Native.Nat.{ℕ, _+_, _-_}
 use native.Mathlib.Omega.{arith}
 use lib.ListN.{take, drop}
 use borrow.Author.Tests.{not-true, not-false}
@@ -62,33 +63,48 @@ enum-known-variables c = search needs
 enum-told : tie.Need-enum-told
 enum-told c = search needs
 
--- past the two fields: the header is their two numbers
-fields : (c : tie.Else2)
-    → header (drop (c .before .before .before .before .before .before .args .at) (c .before .before .before .before .before .before .args .file .now))
-    ≡ numbered
-    (number (take (c .before .before .field-end .result - (c .before .before .before .before .before .before .args .at + 6)) (drop (c .before .before .before .before .before .before .args .at + 6) (c .before .before .before .before .before .before .args .file .now))))
-    (number (take (c .before .field-end2 .result - (c .before .before .field-end .result + 1)) (drop (c .before .before .field-end .result + 1) (c .before .before .before .before .before .before .args .file .now))))
-    (c .before .field-end2 .result + 1 - c .before .before .before .before .before .before .args .at)
-fields c =
-    let starts : startsWith preamble (drop (c .before .before .before .before .before .before .args .at) (c .before .before .before .before .before .before .args .file .now)) ≡ true = sym (c .before .before .before .before .has-preamble .ensures) ∙ not-false (c .before .before .before .before .has-preamble .result) (c .before .before .before .if1 .left) in
-    header-at (c .before .before .before .before .before .before .args .file .now) (c .before .before .before .before .before .before .args .at) (c .before .before .field-end .result) (c .before .field-end2 .result) (c .before .before .field-end .ensures) (c .before .field-end2 .ensures) starts (c .if2 .left)
+-- Past the tests of the two fields: what was lent, where the fields end, and their bytes.
+abbrev file : tie.Else2 → List ℕ
+file c = c .before .before .before .before .before .before .args .file .now
 
-n-read : (c : tie.After-known-told)
-    → number (take (c .before .before .before .before .before .before .before .field-end .result - (c .before .before .before .before .before .before .before .before .before .before .before .args .at + 6)) (drop (c .before .before .before .before .before .before .before .before .before .before .before .args .at + 6) (c .before .before .before .before .before .before .before .before .before .before .before .args .file .now))) ≡ some (c .before .variables .given .0 .0)
-n-read c =
-    number-some (number (take (c .before .before .before .before .before .before .before .field-end .result - (c .before .before .before .before .before .before .before .before .before .before .before .args .at + 6)) (drop (c .before .before .before .before .before .before .before .before .before .before .before .args .at + 6) (c .before .before .before .before .before .before .before .before .before .before .before .args .file .now)))) (c .before .variables .given .0 .0)
-    (sym (c .before .before .before .number-of .ensures) ∙ c .before .variables .given .1)
+abbrev at : tie.Else2 → ℕ
+at c = c .before .before .before .before .before .before .args .at
+
+abbrev n-end : tie.Else2 → ℕ
+n-end c = c .before .before .field-end .result
+
+abbrev c-end : tie.Else2 → ℕ
+c-end c = c .before .field-end2 .result
+
+abbrev n-field : tie.Else2 → List ℕ
+n-field c = take (n-end c - (at c + 6)) (drop (at c + 6) (file c))
+
+abbrev c-field : tie.Else2 → List ℕ
+c-field c = take (c-end c - (n-end c + 1)) (drop (n-end c + 1) (file c))
+
+-- the header is their two numbers
+fields : (c : tie.Else2) → header (drop (at c) (file c)) ≡ numbered (number (n-field c)) (number (c-field c)) (c-end c + 1 - at c)
+fields c =
+    let test = c .before .before .before .before in
+    let starts : startsWith preamble (drop (at c) (file c)) ≡ true = sym (test .has-preamble .ensures) ∙ not-false (test .has-preamble .result) (c .before .before .before .if1 .left) in
+    header-at (file c) (at c) (n-end c) (c-end c) (c .before .before .field-end .ensures) (c .before .field-end2 .ensures) starts (c .if2 .left)
+
+-- past the first number
+abbrev fielded : tie.After-known-told → tie.Else2
+fielded c = c .before .before .before .before .before
+
+abbrev variables : tie.After-known-told → ℕ
+variables c = c .before .variables .given .0 .0
+
+n-read : (c : tie.After-known-told) → number (n-field (fielded c)) ≡ some (variables c)
+n-read c = number-some (number (n-field (fielded c))) (variables c) (sym (c .before .before .before .number-of .ensures) ∙ c .before .variables .given .1)
 
 returns-3 : tie.Need-returns-3
 returns-3 c =
-    let s = c .before .before .before .before .before .before .before .before .before .before .args .file .now in
-    let at = c .before .before .before .before .before .before .before .before .before .before .args .at in
-    let n-end = c .before .before .before .before .before .before .field-end .result in
-    let c-end = c .before .before .before .before .before .field-end2 .result in
-    let n = take (n-end - (at + 6)) (drop (at + 6) s) in
+    let here = c .before .before .before .before in
     sym
-    (ap (headerAs at) (fields (c .before .before .before .before))
-    ∙ n-malformed at (c-end + 1 - at) n (take (c-end - (n-end + 1)) (drop (n-end + 1) s)) (number-none (number n) (sym (c .before .before .number-of .ensures) ∙ c .enum-told .given .1)))
+    (ap (headerAs (at here)) (fields here)
+    ∙ n-malformed (at here) (c-end here + 1 - at here) (n-field here) (c-field here) (number-none (number (n-field here)) (sym (c .before .before .number-of .ensures) ∙ c .enum-told .given .1)))
 
 sub-number-of-2 : tie.Need-sub-number-of-2
 sub-number-of-2 c = search needs
@@ -110,34 +126,27 @@ enum-told-2 c = search needs
 
 returns-4 : tie.Need-returns-4
 returns-4 c =
-    let s = c .before .before .before .before .before .before .before .before .before .before .before .before .before .before .before .args .file .now in
-    let at = c .before .before .before .before .before .before .before .before .before .before .before .before .before .before .before .args .at in
-    let n-end = c .before .before .before .before .before .before .before .before .before .before .before .field-end .result in
-    let c-end = c .before .before .before .before .before .before .before .before .before .before .field-end2 .result in
-    let n = take (n-end - (at + 6)) (drop (at + 6) s) in
-    let k = take (c-end - (n-end + 1)) (drop (n-end + 1) s) in
+    let known = c .before .before .before .before in
+    let here = fielded known in
     sym
-    (ap (headerAs at) (fields (c .before .before .before .before .before .before .before .before .before))
-    ∙ c-malformed at (c-end + 1 - at) n k (c .before .before .before .before .before .variables .given .0 .0) (n-read (c .before .before .before .before)) (number-none (number k) (sym (c .before .before .number-of2 .ensures) ∙ c .enum-told2 .given .1)))
+    (ap (headerAs (at here)) (fields here)
+    ∙ c-malformed (at here) (c-end here + 1 - at here) (n-field here) (c-field here) (variables known) (n-read known)
+    (number-none (number (c-field here)) (sym (c .before .before .number-of2 .ensures) ∙ c .enum-told2 .given .1)))
 
 add-t11 : tie.Need-add-t11
 add-t11 c = search needs
 
 returns-5 : tie.Need-returns-5
 returns-5 c =
-    let s = c .before .before .before .before .before .before .before .before .before .before .before .before .before .before .before .before .args .file .now in
-    let at = c .before .before .before .before .before .before .before .before .before .before .before .before .before .before .before .before .args .at in
-    let n-end = c .before .before .before .before .before .before .before .before .before .before .before .before .field-end .result in
-    let c-end = c .before .before .before .before .before .before .before .before .before .before .before .field-end2 .result in
-    let n = take (n-end - (at + 6)) (drop (at + 6) s) in
-    let k = take (c-end - (n-end + 1)) (drop (n-end + 1) s) in
+    let known = c .before .before .before .before .before in
+    let here = fielded known in
     let clauses = c .before .clauses .given .0 .0 in
-    let variables = c .before .before .before .before .before .before .variables .given .0 .0 in
-    let next : at + (c-end + 1 - at) ≡ c-end + 1 = omega (arith, c .before .before .before .before .before .before .before .before .before .before .before .field-end2 .ensures, c .before .before .before .before .before .before .before .before .before .before .before .before .field-end .ensures) in
+    let next : at here + (c-end here + 1 - at here) ≡ c-end here + 1 = omega (arith, here .before .field-end2 .ensures, here .before .before .field-end .ensures) in
     sym
-    (ap (headerAs at) (fields (c .before .before .before .before .before .before .before .before .before .before))
-    ∙ both-read at (c-end + 1 - at) n k variables clauses (n-read (c .before .before .before .before .before)) (number-some (number k) clauses (sym (c .before .before .before .number-of2 .ensures) ∙ c .before .clauses .given .1))
-    ∙ ap (D.the-variants.Found variables clauses) next)
+    (ap (headerAs (at here)) (fields here)
+    ∙ both-read (at here) (c-end here + 1 - at here) (n-field here) (c-field here) (variables known) clauses (n-read known)
+    (number-some (number (c-field here)) clauses (sym (c .before .before .before .number-of2 .ensures) ∙ c .before .clauses .given .1))
+    ∙ ap (D.the-variants.Found (variables known) clauses) next)
 
 pub header-at-spec : {M : Type 1} → statement M
 header-at-spec =

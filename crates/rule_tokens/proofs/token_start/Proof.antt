@@ -1,12 +1,13 @@
 -- `rule_tokens::token_start` meets its contract. The loop's invariant: the tokens from here on are those from the start on.
 use mathlib.Core.Path.{_≡_, sym, ap, _∙_}
+use mathlib.Core.Bool.{not}
 use Prim.Native.Nat.{_-_}
 use lib.ListN.{length, getD}
 use borrow.Author.Tests.{eq-eqb, ne-eqb}
 use borrow.Author.Needs.{needs}
 use Rattle.dimacs.specs.Class.{blank, classOf}
-use Rattle.dimacs.specs.TokenLaws.{tokens-none, tokens-blank, tokens-here}
-use Rattle.dimacs.specs.Tokens.{tokensFrom}
+use Rattle.dimacs.specs.TokenLaws.{token-begins, kept-outside, tokens-none, tokens-blank, tokens-here}
+use Rattle.dimacs.specs.Tokens.{positionAt, tokensFrom}
 use Rattle.rule_tokens.specs.NextToken.{firstPlace}
 use Rattle.rule_tokens.proofs.token_start.Statement.{statement}
 use Rattle.rule_tokens.proofs.token_start.Tie as tie
@@ -31,7 +32,8 @@ returns c =
     let s = c .before .before .before .before .before .before .args .file .now in
     let loop = c .before .before .before .before .loop in
     sym (ap (firstPlace (length s))
-    (loop .inv ∙ tokens-here s (loop .i) (c .before .before .before .loop-test .taken) (ne-eqb (classOf (getD s (loop .i) 0)) blank (λ e. c .if1 .taken (c .before .class-of .ensures ∙ e)))))
+    (loop .inv ∙ tokens-here s (loop .i) (c .before .before .before .loop-test .taken)
+    (token-begins (positionAt s (loop .i)) (getD s (loop .i) 0) (kept-outside s (loop .i)) (ap not (ne-eqb (classOf (getD s (loop .i) 0)) blank (λ e. c .if1 .taken (c .before .class-of .ensures ∙ e)))))))
 
 add-i : tie.Need-add-i Inv-loop μ-loop
 add-i c = search needs
