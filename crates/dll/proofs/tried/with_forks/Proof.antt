@@ -1,6 +1,5 @@
 -- `dll::tried::with_forks` meets its contract.
 use mathlib.Core.Path.{sym, ap, _∙_}
-use Prim.Native.Nat.{ℕ}
 use Rattle.dll.specs.declared.tried.Tried.the-variants.{Found, Nothing}
 use Rattle.dll.specs.Tried.{withForks}
 use borrow.Author.Needs.{needs}

@@ -7,7 +7,7 @@ use native.Mathlib.Omega.{arith}
 use lib.ListN.{length}
 use borrow.Author.Needs.{needs}
 use borrow.Author.Tests.{not-true, not-false}
-use Rattle.wish.specs.Wish.{isWish, wishedValue}
+use Rattle.wish.specs.Wish.{wishedValue}
 use Rattle.text.specs.Text.{column}
 use Rattle.writing.specs.Wrote.{wrote-none, wrote-more, wrote-as}
 use Rattle.wish_file.specs.Format.{wishLines}

@@ -2,7 +2,7 @@
 use mathlib.Core.Path.{_≡_, refl, sym, subst, _∙_}
 use mathlib.Core.List.{List}
 use mathlib.Core.Bool.{true, false}
-use Prim.Native.Nat.{ℕ, _<_}
+use Prim.Native.Nat.{ℕ}
 use native.Mathlib.Omega.{arith}
 use lib.IntN.{ℤ}
 use lib.ListN.{length}
@@ -106,11 +106,11 @@ module _ (t : ℕ) where
     abbrev tally : Tally
     tally = c .before .t .given .0 .0
 
-    told : PropagatedBy (n start) (f start) (start .args .row .now) (start .args .d) (start .args .tally .settled) (start .args .a .now) (start .args .trail .now) (a (propagation c)) (trail (propagation c)) (Settled tally)
-    told = told-as (propagation c) (Settled tally) (c .before .t .given .1)
+    lives : laws.Alive (n start) (f start) (start .args .row .now) (start .args .d) (start .args .tally .settled) (start .args .tally .broken) (start .args .a .now) (start .args .trail .now) (a (propagation c)) (trail (propagation c)) tally
+    lives = record { given = given start; fit = fit start; told = told-as (propagation c) (Settled tally) (c .before .t .given .1) }
 
     state : Searching (n start) (start .args .row .now) (a (propagation c)) (trail (propagation c)) (tally .settled) (tally .broken)
-    state = told .3
+    state = laws.propagated lives
 
     -- what is lent serves the propagated state too, while the tables keep their lengths
     ready-there : {weights marks : ℕ} → weights ≡ length (start .args .weights .now) → marks ≡ length (start .args .marks .now) → Ready (start .args .list .now) (length (a (propagation c))) weights marks
@@ -165,10 +165,7 @@ module _ (t : ℕ) where
   returns c =
       let filled = c .before .before in
       let tested = filled .before .before .before in
-      let alive = alive tested in
-      let start = start alive in
-      laws.by-completion (given start) (f start) (fit start) (start .args .d) (trail (propagation alive)) (a (propagation alive)) (tally alive) (told alive)
-      (filled .fill-completion .last .1 .0) (filled .fill-completion .ensures) (sym (tested .completes .ensures) ∙ filled .before .before .if1 .taken)
+      laws.by-completion (lives (alive tested)) (filled .fill-completion .last .1 .0) (filled .fill-completion .ensures) (sym (tested .completes .ensures) ∙ filled .before .before .if1 .taken)
 
   pub pick-branch-requires : lts.Need-pick-branch-requires (attempt-claims t) (attempt-at t) attempt.Post
   pick-branch-requires c κs =
@@ -187,10 +184,10 @@ module _ (t : ℕ) where
       let branching = c .before .before .before .before in
       let kept = picked branching .pick-branch .kept in
       let alive = from branching in
-      let start = start alive in
-      let fewer = laws.propagated-fewer (given start) (f start) (fit start) (start .args .d) (trail (propagation alive)) (a (propagation alive)) (tally alive) (told alive) in
-      let b = laws.branches (given start) (f start) (fit start) (start .args .d) (trail (propagation alive)) (a (propagation alive)) (tally alive) (told alive) (incomplete branching) (v branching) (value branching) (chosen branching) in
-      (omega (arith, fewer, start .pre .0), (long-searching (state alive), (ready-there alive (kept .1 .1 .1 .1 .1 .0) (kept .1 .1 .1 .1 .1 .1 .0), (long-branches (state alive) (b .0), b .1))))
+      let b = laws.branches (lives alive) (incomplete branching) (v branching) (value branching) (chosen branching) in (
+        omega (arith, laws.propagated-fewer (lives alive), start alive .pre .0),
+        (long-searching (state alive), (ready-there alive (kept .1 .1 .1 .1 .1 .0) (kept .1 .1 .1 .1 .1 .1 .0), (long-branches (state alive) (b .0), b .1))),
+      )
 
   pub same-length-3 : lts.Need-same-length-3 (attempt-claims t) (attempt-at t) attempt.Post
   same-length-3 c = search needs
@@ -222,10 +219,7 @@ module _ (t : ℕ) where
   returns-3 c =
       let picked = c .before .before .before .before .before .before in
       let tested = tested picked in
-      let alive = alive tested in
-      let start = start alive in
-      laws.by-exhaustion (given start) (f start) (fit start) (start .args .d) (trail (propagation alive)) (a (propagation alive)) (tally alive) (told alive)
-      (sym (tested .completes .ensures) ∙ picked .before .before .before .before .if1 .left) (sym (picked .pick-branch .ensures) ∙ c .enum-told2 .given .1)
+      laws.by-exhaustion (lives (alive tested)) (sym (tested .completes .ensures) ∙ picked .before .before .before .before .if1 .left) (sym (picked .pick-branch .ensures) ∙ c .enum-told2 .given .1)
 
   pub same-length-9 : lts.Need-same-length-9 (attempt-claims t) (attempt-at t) attempt.Post
   same-length-9 c =
@@ -248,7 +242,5 @@ module _ (t : ℕ) where
   returns-4 c =
       let forked = c .before .before .before .before .before .before .before .before in
       let branching = branching forked in
-      let alive = from branching in
-      let start = start alive in
-      laws.by-fork (given start) (f start) (fit start) (start .args .d) (trail (propagation alive)) (a (propagation alive)) (tally alive) (told alive) (incomplete branching) (v branching) (value branching) (chosen branching)
+      laws.by-fork (lives (from branching)) (incomplete branching) (v branching) (value branching) (chosen branching)
       (forked .fork .last .1 .1 .1 .1 .1 .1 .1 .0) (forked .fork .last .1 .1 .1 .1 .1 .1 .0) (forked .fork .result) (forked .fork .ensures)

@@ -1,12 +1,11 @@
 -- The needs of `fork`, at the measure t: it tries the state with the first value, undoes it, and tries the state with the other (`ForkLaws`).
 use mathlib.Core.Path.{_≡_, refl, sym, subst, _∙_}
 use mathlib.Core.List.{List}
-use Prim.Native.Nat.{ℕ, _+_, _<_}
+use Prim.Native.Nat.{ℕ}
 use native.Mathlib.Omega.{arith}
 use lib.ListN.{length}
 use borrow.Author.Needs.{needs}
 use Rattle.formula.specs.Formula.{clauses}
-use Rattle.walk.specs.Promises.{Branches}
 use Rattle.walk.specs.Walk.{Outcome, walkFrom, fork as forkOf}
 use Rattle.propagation.specs.Searching.{Searching}
 use Rattle.dll.specs.declared.tried.Tried.{Tried}
@@ -68,16 +67,13 @@ module _ (t : ℕ) where
     ready : Ready (c .args .list .now) n (length (c .args .weights .now)) (length (c .args .marks .now))
     ready = c .pre .1 .1 .0
 
-    branches : Branches (c .args .a .now) n (c .args .v .0)
-    branches = c .pre .1 .1 .1 .0
-
-    bit : c .args .value < 2
-    bit = c .pre .1 .1 .1 .1
+    forks : laws.Forks n (c .args .row .now) (c .args .a .now) (c .args .trail .now) (c .args .tally) (c .args .v .0) (c .args .value)
+    forks = record { state = given; branch = c .pre .1 .1 .1 .0; bit = c .pre .1 .1 .1 .1 }
 
   -- the first value
   module _ (c : First) where
     first-state : Searching (n (call c)) (call c .args .row .now) (c .assign-to .last .1 .1 .1 .1 .0) (c .assign-to .last .1 .1 .1 .1 .1 .0) (c .assign-to .result .settled) (c .assign-to .result .broken)
-    first-state = laws.first-searching (call c .args .tally) (given (call c)) (branches (call c)) (bit (call c)) (try (call c)) (c .assign-to .ensures)
+    first-state = laws.first-searching (forks (call c)) (c .assign-to .ensures)
 
   -- tried
   module _ (c : FirstTried) where
@@ -104,17 +100,13 @@ module _ (t : ℕ) where
     abbrev before : Call
     before = start (first-tried c)
 
-    abbrev forks : ℕ
-    forks = c .before .before .before .before .before2 .given .0 .0
+    abbrev forks-before : ℕ
+    forks-before = c .before .before .before .before .before2 .given .0 .0
 
-    nothing : TriedBy (try before (first (first-tried c) .assign-to .last .1 .1 .1 .1 .0)) (first (first-tried c) .assign-to .result .settled) (first (first-tried c) .assign-to .last .1 .1 .1 .1 .1 .0) (first (first-tried c) .assign-to .last .1 .1 .1 .1 .0) (tried-trail (first-tried c)) (tried-a (first-tried c)) (Nothing forks)
-    nothing = said (first-tried c) (Nothing forks) (c .before .before .before .before .before2 .given .1)
-
-    back-state : Searching (n before) (before .args .row .now) (c .undo .last .1 .1 .0) (tried-trail (first-tried c)) (before .args .tally .settled) (before .args .tally .broken)
-    back-state = laws.back-searching (before .args .tally) (given before) (branches before) (bit before) (try before) (first (first-tried c) .assign-to .ensures) (tried-trail (first-tried c)) (tried-a (first-tried c)) (tried-long (first-tried c)) forks nothing (c .undo .ensures)
-
-    back-branches : Branches (c .undo .last .1 .1 .0) (n before) (before .args .v .0)
-    back-branches = laws.back-branches (before .args .tally) (given before) (branches before) (bit before) (try before) (first (first-tried c) .assign-to .ensures) (tried-trail (first-tried c)) (tried-a (first-tried c)) (tried-long (first-tried c)) forks nothing (c .undo .ensures)
+    undoes : laws.Undone (try before) (n before) (before .args .row .now) (before .args .a .now) (before .args .trail .now) (before .args .tally) (before .args .v .0) (before .args .value) (tried-trail (first-tried c)) (c .undo .last .1 .1 .0) forks-before
+    undoes =
+        laws.first-undone (forks before) (first (first-tried c) .assign-to .ensures) (try before) (tried-trail (first-tried c)) (tried-a (first-tried c)) (c .undo .last .1 .1 .0) forks-before
+        (said (first-tried c) (Nothing forks-before) (c .before .before .before .before .before2 .given .1)) (tried-long (first-tried c)) (c .undo .ensures)
 
   -- the other value
   module _ (c : Second) where
@@ -125,7 +117,7 @@ module _ (t : ℕ) where
     one = first-tried (undone c)
 
     second-state : Searching (n origin) (origin .args .row .now) (c .assign-to2 .last .1 .1 .1 .1 .0) (c .assign-to2 .last .1 .1 .1 .1 .1 .0) (c .assign-to2 .result .settled) (c .assign-to2 .result .broken)
-    second-state = laws.second-searching (origin .args .tally) (given origin) (branches origin) (bit origin) (try origin) (first one .assign-to .ensures) (tried-trail one) (tried-a one) (tried-long one) (forks (undone c)) (nothing (undone c)) (undone c .undo .ensures) (c .assign-to2 .ensures)
+    second-state = laws.second-searching (undoes (undone c)) (c .assign-to2 .ensures)
 
   -- tried
   module _ (c : SecondTried) where
@@ -154,16 +146,17 @@ module _ (t : ℕ) where
   assign-to-requires c κs =
       let call = c .before .before .before .before .before .before .before in
       let h = given call in
-      let k = branches call in
-      let room = laws.branch-room (call .args .tally) h k (bit call) (try call) in
+      let k = forks call .branch in
+      let room = laws.branch-room (forks call) in
       ((k .above, k .upTo, h .long), (omega (arith, room, ready call .few), omega (arith, h .few, room, ready call .few)))
 
   pub attempt-requires : lts.Need-attempt-requires (fork-claims t) (fork-at t) fork.Post
   attempt-requires c κs =
       let first = c .before .before .before .before .before .before .before .before in
-      let call = call first in
-      let fewer = laws.first-fewer (call .args .tally) (given call) (branches call) (bit call) (try call) (first .assign-to .ensures) in
-      (omega (arith, fewer, call .pre .0), (long-searching (first-state first), ready-still (first-state first .state .size) refl refl (ready call)))
+      let call = call first in (
+        omega (arith, laws.first-fewer (forks call) (first .assign-to .ensures), call .pre .0),
+        (long-searching (first-state first), ready-still (first-state first .state .size) refl refl (ready call)),
+      )
 
   pub enum-known-broken : lts.Need-enum-known-broken (fork-claims t) (fork-at t) fork.Post
   enum-known-broken c = search needs
@@ -180,24 +173,25 @@ module _ (t : ℕ) where
       tried-long tried ∙ given (start tried) .long ∙ sym (tried .attempt .kept .1 .1 .1 .1 .0 ∙ first-state (first tried) .state .size)
 
   pub sub-assign-to : lts.Need-sub-assign-to (fork-claims t) (fork-at t) fork.Post
-  sub-assign-to c = omega (arith, bit (before (c .before .before)))
+  sub-assign-to c = omega (arith, forks (before (c .before .before)) .bit)
 
   pub assign-to-requires-2 : lts.Need-assign-to-requires-2 (fork-claims t) (fork-at t) fork.Post
   assign-to-requires-2 c κs =
       let undone = c .before .before .before .before in
       let call = before undone in
-      let h = back-state undone in
-      let k = back-branches undone in
-      let room = laws.branch-room (call .args .tally) (given call) (branches call) (bit call) (try call) in
+      let h = undoes undone .state in
+      let k = undoes undone .branch in
+      let room = laws.branch-room (forks call) in
       ((k .above, omega (arith, k .upTo, h .state .size), h .long ∙ sym (h .state .size)), (omega (arith, room, ready call .few), omega (arith, h .few, room, ready call .few)))
 
   pub attempt-requires-2 : lts.Need-attempt-requires-2 (fork-claims t) (fork-at t) fork.Post
   attempt-requires-2 c κs =
       let second = c .before .before .before .before .before .before .before .before in
       let call = origin second in
-      let one = one second in
-      let fewer = laws.second-fewer (call .args .tally) (given call) (branches call) (bit call) (try call) (first one .assign-to .ensures) (tried-trail one) (tried-a one) (tried-long one) (forks (undone second)) (nothing (undone second)) (undone second .undo .ensures) (second .assign-to2 .ensures) in
-      (omega (arith, fewer, call .pre .0), (long-searching (second-state second), ready-still (second-state second .state .size) (one .attempt .kept .1 .1 .1 .1 .1 .1 .0) (one .attempt .kept .1 .1 .1 .1 .1 .1 .1 .0) (ready call)))
+      let kept = one second .attempt .kept in (
+        omega (arith, laws.second-fewer (undoes (undone second)) (second .assign-to2 .ensures), call .pre .0),
+        (long-searching (second-state second), ready-still (second-state second .state .size) (kept .1 .1 .1 .1 .1 .1 .0) (kept .1 .1 .1 .1 .1 .1 .1 .0) (ready call)),
+      )
 
   pub with-forks-requires : lts.Need-with-forks-requires (fork-claims t) (fork-at t) fork.Post
   with-forks-requires c κs = search needs
@@ -220,7 +214,7 @@ module _ (t : ℕ) where
       let tried = c .before .before .before .before .before .before .before .before .before .before .before .before in
       let call = start tried in
       let found = c .before .before .broken .given in
-      laws.first-found (call .args .tally) (given call) (branches call) (bit call) (try call) (first tried .assign-to .ensures) (tried-trail tried) (tried-a tried) (found .0 .0) (found .0 .1 .0) (c .add-forks .result)
+      laws.first-found (forks call) (first tried .assign-to .ensures) (try call) (tried-trail tried) (tried-a tried) (found .0 .0) (found .0 .1 .0) (c .add-forks .result)
       (said tried (Found (found .0 .0) (found .0 .1 .0)) (found .1)) (c .add-forks .ensures)
 
   pub same-length-5 : lts.Need-same-length-5 (fork-claims t) (fork-at t) fork.Post
@@ -239,9 +233,6 @@ module _ (t : ℕ) where
   pub returns-2 : lts.Need-returns-2 (fork-claims t) (fork-at t) fork.Post
   returns-2 c =
       let tried = c .before .before .before .before .before .before .before .before .before in
-      let second = second tried in
-      let call = origin second in
-      let one = one second in
+      let call = root tried in
       subst (TriedBy (forkOf (try call) (call .args .a .now) (call .args .v .0) (call .args .value)) (call .args .tally .settled) (call .args .trail .now) (call .args .a .now) (last-trail tried) (last-a tried)) (sym (c .with-forks .ensures))
-      (laws.second-said (call .args .tally) (given call) (branches call) (bit call) (try call) (first one .assign-to .ensures) (tried-trail one) (tried-a one) (tried-long one) (forks (undone second)) (nothing (undone second)) (undone second .undo .ensures) (second .assign-to2 .ensures)
-      (last-trail tried) (last-a tried) (tried .attempt2 .result) (tried .attempt2 .ensures))
+      (laws.second-said (undoes (undone (second tried))) (second tried .assign-to2 .ensures) (last-trail tried) (last-a tried) (tried .attempt2 .result) (tried .attempt2 .ensures))
