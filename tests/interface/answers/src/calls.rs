@@ -58,35 +58,35 @@ fn written(a: Answer) -> String {
 }
 
 fn check(mut v: Values, _: usize) -> Option<String> {
-    let (n, rules, row, choice) = (v.number()?, v.numbers()?, v.bytes()?, v.bytes()?);
+    let (n, rules, row, choice) = (v.number()?, v.numbers()?, v.row()?, v.bytes()?);
     v.end()?;
     let met = |a: Answer| format!("{} {}", if a.verdict == 1 { "met" } else { "unmet" }, a.value[0]);
     Some(said(reference::check(n, &rules, &row, &choice), met))
 }
 
 fn read_rules(mut v: Values, short: usize) -> Option<String> {
-    let (file, mut rules) = (v.file()?, v.numbers()?);
+    let (file, mut rules) = (v.bytes()?, v.numbers()?);
     v.end()?;
     let words = said(reference::read_rules(&file, &mut rules), read);
     Some(format!("{words}\n{}", held(&rules, short)))
 }
 
 fn write_rules(mut v: Values, short: usize) -> Option<String> {
-    let (n, rules, mut file) = (v.number()?, v.numbers()?, v.file()?);
+    let (n, rules, mut file) = (v.number()?, v.numbers()?, v.bytes()?);
     v.end()?;
     let words = said(reference::write_rules(n, &rules, &mut file), written);
     Some(format!("{words}\n{}", held(&file, short)))
 }
 
 fn read_wishes(mut v: Values, short: usize) -> Option<String> {
-    let (file, mut row) = (v.bytes()?, v.bytes()?);
+    let (file, mut row) = (v.row()?, v.bytes()?);
     v.end()?;
     let words = said(reference::read_wishes(&file, &mut row), read);
     Some(format!("{words}\n{}", held(&row, short)))
 }
 
 fn write_wishes(mut v: Values, short: usize) -> Option<String> {
-    let (n, row, d, mut file) = (v.number()?, v.bytes()?, v.number()?, v.bytes()?);
+    let (n, row, d, mut file) = (v.number()?, v.row()?, v.number()?, v.bytes()?);
     v.end()?;
     let words = said(reference::write_wishes(n, &row, d, &mut file), written);
     Some(format!("{words}\n{}", held(&file, short)))
@@ -109,7 +109,7 @@ fn sure(a: Answer, n: u64, rules: &[i32], row: &[u8], d: u64, buffer: &[u8]) {
 }
 
 fn search(mut v: Values, short: usize) -> Option<String> {
-    let (n, rules, row, d, mut choice) = (v.number()?, v.numbers()?, v.bytes()?, v.number()?, v.bytes()?);
+    let (n, rules, row, d, mut choice) = (v.number()?, v.numbers()?, v.row()?, v.number()?, v.bytes()?);
     v.end()?;
     let a = reference::search(n, &rules, &row, d, &mut choice);
     sure(a, n, &rules, &row, d, &choice);
@@ -125,7 +125,7 @@ fn plain(mut v: Values, short: usize) -> Option<String> {
 }
 
 fn nearest(mut v: Values, short: usize) -> Option<String> {
-    let (n, rules, row, mut choice) = (v.number()?, v.numbers()?, v.bytes()?, v.bytes()?);
+    let (n, rules, row, mut choice) = (v.number()?, v.numbers()?, v.row()?, v.bytes()?);
     v.end()?;
     let a = reference::nearest(n, &rules, &row, &mut choice);
     sure(a, n, &rules, &row, 64, &choice);
@@ -133,7 +133,7 @@ fn nearest(mut v: Values, short: usize) -> Option<String> {
 }
 
 fn rewrite(mut v: Values, short: usize) -> Option<String> {
-    let (n, rules, row, d, mut list) = (v.number()?, v.numbers()?, v.bytes()?, v.number()?, v.numbers()?);
+    let (n, rules, row, d, mut list) = (v.number()?, v.numbers()?, v.row()?, v.number()?, v.numbers()?);
     v.end()?;
     let sizes = |a: Answer| format!(" {} rewritten to {}", a.value[0], a.value[1]);
     let words = said(reference::rewrite(n, &rules, &row, d, &mut list), sizes);
@@ -141,7 +141,7 @@ fn rewrite(mut v: Values, short: usize) -> Option<String> {
 }
 
 fn forks(mut v: Values, _: usize) -> Option<String> {
-    let (n, rules, row, d) = (v.number()?, v.numbers()?, v.bytes()?, v.number()?);
+    let (n, rules, row, d) = (v.number()?, v.numbers()?, v.row()?, v.number()?);
     v.end()?;
     let count = |a: Answer| {
         let answer = if a.verdict == 1 { "found" } else { "none" };

@@ -4,10 +4,10 @@
 
 use std::str::Split;
 
-/// The longest lists that the program takes: of numbers, of a rule file's bytes, and of any other bytes.
+/// The longest lists that the program takes: of numbers; a row, or a wish file that is read; any other bytes.
 const NUMBERS: usize = 40_960;
-const FILE: usize = 262_144;
-const BYTES: usize = 1_024;
+const ROW: usize = 1_024;
+const BYTES: usize = 262_144;
 
 pub struct Values<'a>(Split<'a, char>);
 
@@ -26,8 +26,8 @@ impl<'a> Values<'a> {
         self.list(NUMBERS)
     }
 
-    pub fn file(&mut self) -> Option<Vec<u8>> {
-        self.narrow(FILE)
+    pub fn row(&mut self) -> Option<Vec<u8>> {
+        self.narrow(ROW)
     }
 
     pub fn bytes(&mut self) -> Option<Vec<u8>> {
