@@ -31,7 +31,7 @@ fn put_up(g: Adder, i: usize, j: usize, out: &mut [i32], from: usize) -> usize
     let right = g.right;
     let middle = put_lower(left, i, out, from);
     let at = put_lower(right, j, out, middle);
-    emit::put_closed(literal::literal_of(Variable(g.base + sum), true), out, at)
+    list_output::put_closed(literal::literal_of(Variable(g.base + sum), true), out, at)
 }
 
 // Writes the clause down, unless i = p and j = q.
@@ -47,7 +47,7 @@ fn put_down(g: Adder, i: usize, j: usize, out: &mut [i32], from: usize) -> usize
     let right = g.right;
     let middle = put_upper(left, g.p, i, out, from);
     let at = put_upper(right, g.q, j, out, middle);
-    emit::put_closed(
+    list_output::put_closed(
         literal::literal_of(Variable(g.base + sum + 1), false),
         out,
         at,

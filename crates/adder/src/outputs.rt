@@ -33,7 +33,7 @@ pub fn put_lower(a: Outputs, i: usize, out: &mut [i32], at: usize) -> usize
     if i == 0 {
         return at;
     }
-    emit::put(literal::negate(output_of(a, i)), out, at)
+    list_output::put(literal::negate(output_of(a, i)), out, at)
 }
 
 // Writes a(i+1), leaving out a(p+1).
@@ -42,7 +42,7 @@ pub fn put_upper(a: Outputs, p: usize, i: usize, out: &mut [i32], at: usize) -> 
     ensures { λ r. ⌜ Wrote (upper (outputs a) p i) (now (out .entry)) at (now (out .exit)) r ⌝ }
 {
     if i < p {
-        return emit::put(output_of(a, i + 1), out, at);
+        return list_output::put(output_of(a, i + 1), out, at);
     }
     at
 }

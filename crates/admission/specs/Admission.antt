@@ -6,7 +6,7 @@ use lib.ListN.{length}
 use Rattle.formula.specs.Formula as formula
 use Rattle.wish.specs.Wish.{totalWeight}
 use Rattle.refusal.specs.declared.Refusal.{Refusal}
-use Rattle.lent.specs.Lent.{Lent, unadmitted, refusalOf}
+use Rattle.causes.specs.Lent.{Lent, unadmitted, refusalOf}
 use Rattle.admission.specs.declared.Counts.{Counts}
 use Rattle.admission.specs.declared.Admission as A
 use Rattle.admission.specs.declared.Admission.{Admission}

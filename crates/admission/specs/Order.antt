@@ -10,8 +10,8 @@ use Rattle.wish.specs.Wish.{totalWeight}
 use Rattle.refusal.specs.declared.Refusal.{Refusal}
 use Rattle.refusal.specs.Reply.{refusal, cause, given}
 use Rattle.rule_list.specs.Sound.{SoundList, unread, badRule}
-use Rattle.lent.specs.Lent.{Lent, plainProblem, problem, wishesAlone, chosenProblem, rangeCause, choiceCause, rowLengthCause, choiceLengthCause, sizeCause, oversized}
-use Rattle.lent.specs.Sound.{badWish}
+use Rattle.causes.specs.Lent.{Lent, plainProblem, problem, wishesAlone, chosenProblem, rangeCause, choiceCause, rowLengthCause, choiceLengthCause, sizeCause, oversized}
+use Rattle.causes.specs.Sound.{badWish}
 use Rattle.admission.specs.declared.Counts.{Counts}
 use Rattle.admission.specs.declared.Admission.the-variants.{Refused, Admitted}
 use Rattle.admission.specs.Admission.{admission}

@@ -3,7 +3,7 @@ use crate::Admission;
 use refusal::Verdict;
 ghost use mathlib.Core.Path.{_≡_};
 ghost use Rattle.refusal.specs.Reply.{refused, tooShort};
-ghost use Rattle.lent.specs.Lent.{Lent, withRoom};
+ghost use Rattle.causes.specs.Lent.{Lent, withRoom};
 ghost use Rattle.admission.specs.Admission.{admission, start};
 
 // Whether there is room for all that is needed.

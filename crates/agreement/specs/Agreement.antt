@@ -12,8 +12,8 @@ use Rattle.refusal.specs.declared.Refusal.{Refusal}
 use Rattle.refusal.specs.Laws.{room-enough}
 use Rattle.refusal.specs.Reply.{Reply, unless, tooShort}
 use Rattle.limits.specs.Limits.{maxLimit}
-use Rattle.lent.specs.Admitted.{Admitted, admitted-room}
-use Rattle.lent.specs.Lent.{problem}
+use Rattle.causes.specs.Admitted.{Admitted, admitted-room}
+use Rattle.causes.specs.Lent.{problem}
 use Rattle.walk.specs.Walk.{walk}
 use Rattle.totalizer.specs.Totalizer.{rewrittenVariables}
 use Rattle.searches.specs.Searches.{found, brokenBy}

@@ -10,11 +10,11 @@ use lib.ListN.{length}
 use Rattle.refusal.specs.declared.Refusal.{Refusal}
 use Rattle.refusal.specs.Reply.{Reply, cause, tooShort, answering, unless}
 use Rattle.limits.specs.Limits.{maxLimit}
-use Rattle.lent.specs.Admitted as lent
-use Rattle.lent.specs.Admitted.{Admitted, at-limit, refused-lent, lent-number}
-use Rattle.lent.specs.Lent.{problem, unadmitted, refusalOf}
+use Rattle.causes.specs.Admitted as lent
+use Rattle.causes.specs.Admitted.{Admitted, at-limit, refused-lent, lent-number}
+use Rattle.causes.specs.Lent.{problem, unadmitted, refusalOf}
 use Rattle.totalizer.specs.Totalizer.{rewrittenVariables, rewritten}
-use Rattle.rewriting.specs.Rewrite.{lentToRewrite}
+use Rattle.encoding.specs.Rewrite.{lentToRewrite}
 use Rattle.second_route.specs.Routes.{Answered, Passes}
 use Rattle.agreement.specs.Claim.{Admissible}
 

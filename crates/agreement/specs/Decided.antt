@@ -14,8 +14,8 @@ use Rattle.walk.specs.Walk.{Answer, walk, plainWalk}
 use Rattle.totalizer.specs.Completion.{completion-choice}
 use Rattle.totalizer.specs.Totalizer.{rewrittenVariables, rewritten, completion}
 use Rattle.totalizer.specs.Theorems.{found-within, within-found}
-use Rattle.lent.specs.Admitted.{Admitted}
-use Rattle.lent.specs.Lent.{problem}
+use Rattle.causes.specs.Admitted.{Admitted}
+use Rattle.causes.specs.Lent.{problem}
 use Rattle.searches.specs.Meaning.{search-found, search-none, plain-nothing}
 use Rattle.searches.specs.Searches.{found, brokenBy}
 use Rattle.agreement.specs.Second.{outcome, sound}

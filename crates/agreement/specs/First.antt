@@ -13,9 +13,9 @@ use Rattle.refusal.specs.Reply.{Reply}
 use Rattle.limits.specs.Limits.{maxLimit}
 use Rattle.wish.specs.Wish.{totalWeight}
 use Rattle.distance.specs.Laws.{disagreement-most}
-use Rattle.lent.specs.Laws.{sound-weight}
-use Rattle.lent.specs.Admitted.{Admitted}
-use Rattle.lent.specs.Lent.{problem}
+use Rattle.causes.specs.Laws.{sound-weight}
+use Rattle.causes.specs.Admitted.{Admitted}
+use Rattle.causes.specs.Lent.{problem}
 use Rattle.searches.specs.Searches.{found}
 use Rattle.agreement.specs.Claim.{Finds, FindsNone, First, CountsUp}
 use Rattle.agreement.specs.Decided.{Reached, Decided, yes, no, plain-decides}

@@ -12,8 +12,8 @@ use Rattle.formula.specs.Formula.{clauses}
 use Rattle.refusal.specs.declared.Refusal.{Refusal}
 use Rattle.refusal.specs.Laws.{room-enough}
 use Rattle.refusal.specs.Reply.{Reply, answering, unless, filled, tooShort}
-use Rattle.lent.specs.Admitted.{Admitted, admitted-room, plain-admitted}
-use Rattle.lent.specs.Lent.{plainProblem, problem, refusalOf}
+use Rattle.causes.specs.Admitted.{Admitted, admitted-room, plain-admitted}
+use Rattle.causes.specs.Lent.{plainProblem, problem, refusalOf}
 use Rattle.limits.specs.Limits.{maxVariables}
 use Rattle.rule_list.specs.Sound.{SoundList}
 use Rattle.walk.specs.Walk.{plainWalk}
@@ -23,7 +23,7 @@ use Rattle.dimacs.specs.Format.{Reading}
 use Rattle.dimacs.specs.RoundTrip.{read-written}
 use Rattle.dimacs.specs.Written.{written}
 use Rattle.searches.specs.Searches.{found, brokenBy}
-use Rattle.rewriting.specs.Rewrite.{lentToRewrite, rewriteOutput}
+use Rattle.encoding.specs.Rewrite.{lentToRewrite, rewriteOutput}
 use Rattle.rule_writer.specs.Write.{lentToWrite, writeOutput}
 use Rattle.rule_reader.specs.Read.{replying, leaving}
 use Rattle.agreement.specs.Causes.{short-fine, fine-passes, answered-past}

@@ -2,11 +2,11 @@
 use crate::numbers;
 use crate::numbers::Answer;
 use checking::Checked;
-use rewriting::Rewritten;
+use encoding::Rewritten;
 use searches::Searched;
 ghost use mathlib.Core.Path.{_≡_};
 ghost use Rattle.checking.specs.Check as check;
-ghost use Rattle.rewriting.specs.Rewrite as rewrite;
+ghost use Rattle.encoding.specs.Rewrite as rewrite;
 ghost use Rattle.searches.specs.Answers as search;
 ghost use Rattle.answers.specs.Answers.{answerOf};
 

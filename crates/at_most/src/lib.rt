@@ -36,7 +36,7 @@ pub fn put_limit(s: Outputs, m: usize, d: usize, out: &mut [i32], at: usize) -> 
 {
     if d < m {
         let last = literal::negate(adder::output_of(s, d + 1));
-        return emit::put_closed(last, out, at);
+        return list_output::put_closed(last, out, at);
     }
     at
 }

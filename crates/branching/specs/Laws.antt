@@ -12,7 +12,7 @@ use lib.ListN.{length}
 use borrow.Author.Tests.{eq-eqb, ne-eqb, eqb-true, eqb-false, lt-ltb, le-ltb, le-leb, not-true}
 use Rattle.literal.specs.Literal.{variable, wanted, value}
 use Rattle.formula.specs.Formula.{any, all, clauses}
-use Rattle.rule_list.specs.Sound.{unread, badRule}
+use Rattle.rule_list.specs.Sound.{SoundList}
 use Rattle.soundness.specs.Flat.{joining}
 use Rattle.soundness.specs.Laws.{Joined, joined, all-weaken}
 use Rattle.soundness.specs.Soundness.{sound}
@@ -125,7 +125,7 @@ clean n read (x ∷ c) e =
     )
 
 -- a sound list can be weighed
-pub sound-ready : (n : ℕ) (list : List ℤ) (weights marks : List ℕ) → badRule n unread 0 list ≡ none → 2 * n + 1 < length weights → n < length marks → Ready n list weights marks
+pub sound-ready : (n : ℕ) (list : List ℤ) (weights marks : List ℕ) → SoundList n list → 2 * n + 1 < length weights → n < length marks → Ready n list weights marks
 sound-ready n list weights marks e h k =
     let s = sound n list e in
     record {

@@ -3,11 +3,10 @@ use crate::best::Branch;
 use crate::best::best_variable;
 use opposed::Fewest;
 ghost use mathlib.Core.Path.{_≡_};
-ghost use mathlib.Core.Option.{none};
 ghost use Prim.Native.Nat.{_+_, _*_, _<_};
 ghost use lib.ListN.{length};
 ghost use Rattle.formula.specs.Formula.{clauses};
-ghost use Rattle.rule_list.specs.Sound.{unread, badRule};
+ghost use Rattle.rule_list.specs.Sound.{SoundList};
 ghost use Rattle.walk.specs.Branching.{fewest, branchingVariable};
 ghost use Rattle.opposed.specs.Opposed.{sizeOf};
 ghost use Rattle.branching.specs.Branch.{variableOf};
@@ -22,7 +21,7 @@ pub fn branching_variable(
     weights: &mut [u64],
     marks: &mut [u64],
 ) -> Branch
-    requires { ⌜ badRule (length (now assignment)) unread 0 (now list) ≡ none ⌝ }
+    requires { ⌜ SoundList (length (now assignment)) (now list) ⌝ }
     requires { ⌜ sizeOf size ≡ fewest (now row) (now assignment) (clauses (now list)) ⌝ }
     requires { ⌜ (2 * length (now assignment) + 1 < length (now weights)) × (length (now assignment) < length (now marks)) ⌝ }
     ensures { λ r. ⌜ variableOf r ≡ branchingVariable (now (row .entry)) (now (assignment .entry)) (clauses (now (list .entry))) ⌝ }

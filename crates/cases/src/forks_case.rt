@@ -2,7 +2,7 @@
 // below the public calls, which do not tell them.
 use crate::report;
 use admission::Admission;
-use dll::Tried;
+use try_and_fork::Tried;
 
 pub fn answer(n: usize, rules: &[i32], row: &[u8], d: usize) {
     let mut choice = casefile::bytes();
@@ -13,7 +13,7 @@ fn walk(n: usize, rules: &[i32], row: &[u8], d: usize, choice: &mut [u8]) {
     let admitted = admission::admit_wishes(n, rules, row, d);
     match admission::with_room(admitted, n, choice.len()) {
         Admission::Refused(r) => report::refused(r.number, r.place),
-        Admission::Admitted(_) => show(root::walk_into(n, rules, row, d, choice)),
+        Admission::Admitted(_) => show(root_walk::walk_into(n, rules, row, d, choice)),
     }
 }
 

@@ -28,7 +28,7 @@ fn judge(n: usize, rules: &[i32], choice: &[u8]) {
         report::words(b"no room");
         return;
     }
-    if let Verdict::Refuse(r) = lent::scan_choice(&choice[0..n]) {
+    if let Verdict::Refuse(r) = causes::scan_choice(&choice[0..n]) {
         report::refused(r.number, r.place);
     }
     if formula::is_model(rules, &choice[0..n]) {

@@ -1,10 +1,10 @@
 // `rewrite N RULES ROW D BUFFER`: rewriting into plain rules.
 use crate::held;
 use crate::report;
-use rewriting::Rewritten;
+use encoding::Rewritten;
 
 pub fn answer(n: usize, rules: &[i32], row: &[u8], d: usize, out: &mut [i32]) {
-    show(rewriting::rewrite(n, rules, row, d, out));
+    show(encoding::rewrite(n, rules, row, d, out));
     held::numbers(out);
 }
 

@@ -11,7 +11,7 @@ use Rattle.distance.specs.Distance.{disagreement}
 use Rattle.refusal.specs.declared.Refusal.{Refusal}
 use Rattle.refusal.specs.Laws.{first-or-none}
 use Rattle.refusal.specs.Reply.{Reply, refusing, answering, unless}
-use Rattle.lent.specs.Lent.{unadmitted}
+use Rattle.causes.specs.Lent.{unadmitted}
 use Rattle.checking.specs.declared.Checked.{Checked}
 use Rattle.checking.specs.declared.Checked.the-variants.{Refused, Met, Unmet}
 use Rattle.checking.specs.Check.{lentToCheck, judged, checkReply, replyOf}

@@ -4,7 +4,7 @@ ghost use mathlib.Core.Path.{_≡_};
 ghost use Rattle.literal.specs.Literal.{holds};
 ghost use Rattle.formula.specs.Formula.{clauses, models};
 ghost use Rattle.walk.specs.Walk.{complete};
-ghost use Rattle.standing.specs.Clause.{Tested};
+ghost use Rattle.clause_standing.specs.Clause.{Tested};
 
 // Whether a literal holds in the completion.
 pub fn holds_completed(x: i32, row: &[u8], assignment: &[u8]) -> bool

@@ -17,7 +17,7 @@ use Rattle.refusal.specs.Laws.{first-last, cause-none, no-first, neither}
 use Rattle.refusal.specs.Reply.{refusal, first, cause}
 use Rattle.limits.specs.Limits.{maxVariables, maxClauses, maxLiterals}
 use Rattle.rule_list.specs.Laws.{zeros, zeros-clauses}
-use Rattle.rule_list.specs.Sound.{Scan, unread, mayJoin, stands, after, unclosed, badRule}
+use Rattle.rule_list.specs.Sound.{SoundList, Scan, unread, mayJoin, stands, after, unclosed, badRule}
 use Rattle.decimal.specs.Decimal.{decimal, number}
 use Rattle.decimal.specs.Laws.{decimal-digits, decimal-some, decimal-read}
 use Rattle.text.specs.Text.{numeral}
@@ -118,7 +118,7 @@ pub record Accepted (n c : ℕ) (l : List ℤ) : Type 0 where
   pub least : 1 ≤ n
   pub most : n ≤ maxVariables
   pub few : c ≤ maxClauses
-  pub sound : badRule n unread 0 l ≡ none
+  pub sound : SoundList n l
   pub count : c ≡ length (clauses l)
 
 ranges : (n c : ℕ) → outside n c ≡ false → (1 ≤ n) × (n ≤ maxVariables) × (c ≤ maxClauses)
@@ -181,7 +181,7 @@ accepted file n c l e =
     let p : Parts file n c l = accepted-parts file n c l e in
     let r = ranges n c (p .range) in
     let tokens-sound = sound-tokens (pastHeader file (p .size)) n c (length file) unread 0 (r .2) (omega arith) (p .good) in
-    let sound : badRule n unread 0 l ≡ none = ap (badRule n unread 0) (p .gave) ∙ tokens-sound .0 in
+    let sound : SoundList n l = ap (badRule n unread 0) (p .gave) ∙ tokens-sound .0 in
     let closed : c ≡ 0 + zeros l = tokens-sound .1 ∙ ap (λ (m : List ℤ). 0 + zeros m) (sym (p .gave)) in
     record { least = r .0; most = r .1; few = r .2; sound = sound; count = omega (arith, closed, zeros-clauses n unread 0 l sound .0) }
 

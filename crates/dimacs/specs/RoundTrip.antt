@@ -15,7 +15,7 @@ use Rattle.literal.specs.Literal.{variable}
 use Rattle.formula.specs.Formula.{all, closes, clauses}
 use Rattle.limits.specs.Limits.{maxVariables, maxClauses, maxLiterals}
 use Rattle.rule_list.specs.Laws.{zeros, zeros-clauses}
-use Rattle.rule_list.specs.Sound.{Scan, unread, mayJoin, stands, after, unclosed, badRule}
+use Rattle.rule_list.specs.Sound.{SoundList, Scan, unread, mayJoin, stands, after, unclosed, badRule}
 use Rattle.decimal.specs.Decimal.{decimal, number, onlyDigits, isDigit}
 use Rattle.decimal.specs.Laws.{decimal-digits, decimal-some, number-decimal}
 use Rattle.text.specs.Text.{numeral}
@@ -173,7 +173,7 @@ tokens-written n l at e =
     ∙ tokens-body l (positionAt (written n l) at) at (kept-outside (written n l) at)
 
 -- every sound list, written and read, is that list again
-pub read-written : (n : ℕ) (l : List ℤ) → 1 ≤ n → n ≤ maxVariables → badRule n unread 0 l ≡ none
+pub read-written : (n : ℕ) (l : List ℤ) → 1 ≤ n → n ≤ maxVariables → SoundList n l
     → reading (written n l) ≡ gives n (length (clauses l)) l
 unfolding classOf
 read-written n l h k e =

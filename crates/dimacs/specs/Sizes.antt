@@ -12,7 +12,7 @@ use Rattle.limits.specs.Limits.{maxClauses}
 use Rattle.rule_list.specs.Laws.{zeros, zeros-clauses}
 use Rattle.soundness.specs.Laws.{length-flat}
 use Rattle.soundness.specs.Soundness.{sound}
-use Rattle.rule_list.specs.Sound.{Scan, unread, stands, after, unclosed, badRule}
+use Rattle.rule_list.specs.Sound.{SoundList, Scan, stands, after, unclosed, badRule}
 
 -- an element that stands, and a sound list after it
 pub sound-step : (n : ℕ) (s : Scan) (i : ℕ) (x : ℤ) (l : List ℤ) → badRule n s i (x ∷ l) ≡ none → (stands n s x ≡ true) × (badRule n (after s x) (suc i) l ≡ none)
@@ -31,10 +31,10 @@ zeros-some n s i x l e = go (closes x) refl (zeros-clauses n (after s x) (suc i)
     go false f later = rw (f) ((rw (f) at later) refl)
 
 -- it has at most 9,000 clauses and 31,000 literals
-pub sound-clauses : (n : ℕ) (l : List ℤ) → badRule n unread 0 l ≡ none → length (clauses l) ≤ maxClauses
+pub sound-clauses : (n : ℕ) (l : List ℤ) → SoundList n l → length (clauses l) ≤ maxClauses
 sound-clauses n l e = sound n l e .few
 
-pub sound-length : (n : ℕ) (l : List ℤ) → badRule n unread 0 l ≡ none → length l ≤ 40000
+pub sound-length : (n : ℕ) (l : List ℤ) → SoundList n l → length l ≤ 40000
 sound-length n l e =
     let s = sound n l e in
     omega (arith, s .few, s .small, ap length (s .closed), length-flat (clauses l))

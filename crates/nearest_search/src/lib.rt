@@ -1,14 +1,14 @@
 // Nearest: the least number of broken wishes with a choice that meets all rules, or none when the
 // rules can't be met.
 use admission::Admission;
-use dll::Tried;
 use searches::Searched;
+use try_and_fork::Tried;
 ghost use mathlib.Core.Path.{_≡_};
 ghost use mathlib.Core.Option.{none};
 ghost use lib.ListN.{length};
 ghost use Rattle.formula.specs.Formula.{clauses};
 ghost use Rattle.wish.specs.Wish.{totalWeight};
-ghost use Rattle.root.specs.Into.{Startable};
+ghost use Rattle.root_walk.specs.Into.{Startable};
 ghost use Rattle.searches.specs.Answers.{replyOf, NearestMeans, searchedOf};
 ghost use Rattle.searches.specs.Searches.{nearestReply, nearestChoice, brokenBy, choiceAfter};
 ghost use Rattle.walk.specs.Walk.{nearestWalk};
@@ -35,10 +35,10 @@ fn climb(n: usize, rules: &[i32], row: &[u8], last: usize, choice: &mut [u8]) ->
 {
     let mut d: usize = 0;
     while d < last {
-        if let Tried::Found(broken, _) = root::walk_into(n, rules, row, d, choice) {
+        if let Tried::Found(broken, _) = root_walk::walk_into(n, rules, row, d, choice) {
             return Searched::Found(broken);
         }
         d += 1;
     }
-    root::answer_of(root::walk_into(n, rules, row, d, choice))
+    root_walk::answer_of(root_walk::walk_into(n, rules, row, d, choice))
 }

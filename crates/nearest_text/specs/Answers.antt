@@ -11,8 +11,8 @@ use Rattle.formula.specs.Formula.{clauses}
 use Rattle.distance.specs.Distance.{nearest}
 use Rattle.refusal.specs.declared.Refusal.{Refusal}
 use Rattle.refusal.specs.Reply.{Reply, refusing, answering, unless}
-use Rattle.lent.specs.Admitted.{Admitted}
-use Rattle.lent.specs.Lent.{problem, refusalOf}
+use Rattle.causes.specs.Admitted.{Admitted}
+use Rattle.causes.specs.Lent.{problem, refusalOf}
 use Rattle.walk.specs.Promises.{Closest}
 use Rattle.walk.specs.Walk.{Answer, nearestWalk}
 use Rattle.searches.specs.Meaning as meaning

@@ -9,7 +9,7 @@ use lib.ListN.{replicate}
 use Rattle.literal.specs.Literal.{literal}
 use Rattle.distance.specs.Distance.{nearest}
 use Rattle.refusal.specs.declared.Refusal.{Refusal}
-use Rattle.lent.specs.Lent.{refusalOf}
+use Rattle.causes.specs.Lent.{refusalOf}
 use Rattle.decimal.specs.Decimal.{decimal}
 use Rattle.text.specs.Text.{numeral}
 use Rattle.searches.specs.Searches.{lentToSearch, nearestChoice}

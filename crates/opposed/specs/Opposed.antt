@@ -9,7 +9,7 @@ use lib.ListN.{length, drop}
 use Rattle.literal.specs.Literal.{holds}
 use Rattle.formula.specs.Formula.{clauses}
 use Rattle.walk.specs.Branching.{assignedOrAgainst, isOpposed, shortest}
-use Rattle.standing.specs.Clause.{clauseAt}
+use Rattle.clause_standing.specs.Clause.{clauseAt}
 use Rattle.opposed.specs.declared.fewest.Fewest.{Fewest}
 use Rattle.opposed.specs.declared.fewest.Fewest.the-variants as F
 use Rattle.opposed.specs.declared.shortest.Begins.{Begins}

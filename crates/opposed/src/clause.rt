@@ -10,7 +10,7 @@ pub fn is_opposing(x: i32, row: &[u8], assignment: &[u8]) -> bool
     if literal::holds_in(x, assignment) {
         return false;
     }
-    if standing::is_unassigned(x, assignment) {
+    if clause_standing::is_unassigned(x, assignment) {
         return wish::is_against(x, row);
     }
     true

@@ -10,7 +10,7 @@ pub fn unassigned_in(clause: &[i32], assignment: &[u8]) -> usize
     let mut count: usize = 0;
     let mut i = 0;
     while i < clause.len() {
-        if standing::is_unassigned(clause[i], assignment) {
+        if clause_standing::is_unassigned(clause[i], assignment) {
             count += 1;
         }
         i += 1;

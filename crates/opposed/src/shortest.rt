@@ -8,7 +8,7 @@ ghost use Prim.Native.Nat.{_<_};
 ghost use lib.ListN.{length, drop};
 ghost use Rattle.formula.specs.Formula.{clauses};
 ghost use Rattle.walk.specs.Branching.{isOpposed, shortest};
-ghost use Rattle.standing.specs.Clause.{clauseAt};
+ghost use Rattle.clause_standing.specs.Clause.{clauseAt};
 ghost use Rattle.opposed.specs.Opposed.{IsFirst};
 
 // Where the first opposed clause begins, if there is one.

@@ -4,13 +4,12 @@ use literal::Variable;
 use opposed::Fewest;
 ghost use mathlib.Core.Path.{_≡_};
 ghost use mathlib.Core.Bool.{_&&_};
-ghost use mathlib.Core.Option.{none};
 ghost use Prim.Native.Nat.{_+_, _*_, _<_};
 ghost use lib.Dec.{eqb};
 ghost use lib.ListN.{length};
 ghost use Rattle.formula.specs.Formula.{clauses};
 ghost use Rattle.distance.specs.Distance.{disagreement};
-ghost use Rattle.rule_list.specs.Sound.{unread, badRule};
+ghost use Rattle.rule_list.specs.Sound.{SoundList};
 ghost use Rattle.opposed.specs.Opposed.{sizeOf, isSome};
 ghost use Rattle.walk.specs.Walk.{firstValue};
 ghost use Rattle.pick.specs.Pick.{pickOf};
@@ -32,7 +31,7 @@ pub fn pick_branch(
     weights: &mut [u64],
     marks: &mut [u64],
 ) -> Pick
-    requires { ⌜ (broken ≡ disagreement (now row) (now a)) × (badRule (length (now a)) unread 0 (now list) ≡ none) ⌝ }
+    requires { ⌜ (broken ≡ disagreement (now row) (now a)) × (SoundList (length (now a)) (now list)) ⌝ }
     requires { ⌜ (2 * length (now a) + 1 < length (now weights)) × (length (now a) < length (now marks)) ⌝ }
     ensures { λ r. ⌜ r ≡ pickOf (clauses (now (list .entry))) (now (row .entry)) d (now (a .entry)) ⌝ }
 {

@@ -8,8 +8,8 @@ use native.Mathlib.Omega.{arith}
 use lib.Dec.{ltb}
 use Rattle.refusal.specs.declared.Refusal.{Refusal}
 use Rattle.refusal.specs.Reply.{refusal, first, cause}
-use Rattle.lent.specs.Admitted.{lent-number}
-use Rattle.lent.specs.Lent.{Lent, refusalOf}
+use Rattle.causes.specs.Admitted.{lent-number}
+use Rattle.causes.specs.Lent.{Lent, refusalOf}
 
 -- a cause whose number, if it applies, is not 0
 pub record Numbered (o : Option Refusal) : Type 0 where

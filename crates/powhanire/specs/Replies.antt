@@ -10,7 +10,7 @@ use Rattle.formula.specs.Formula.{clauses, models}
 use Rattle.distance.specs.Distance.{disagreement, nearest}
 use Rattle.refusal.specs.declared.Refusal.{Refusal}
 use Rattle.refusal.specs.Reply.{Reply, refusing, answering, unless}
-use Rattle.lent.specs.Lent.{Lent, refusalOf}
+use Rattle.causes.specs.Lent.{Lent, refusalOf}
 use Rattle.walk.specs.Walk.{walk, plainWalk}
 use Rattle.checking.specs.Check.{lentToCheck, checkReply}
 use Rattle.dimacs.specs.Written as rule-file
@@ -19,7 +19,7 @@ use Rattle.rule_writer.specs.Write as rules
 use Rattle.wish_writer.specs.Write as wishes
 use Rattle.searches.specs.Searches.{found, brokenBy, lentToSearch, lentToPlain, searchReply, plainReply, nearestReply}
 use Rattle.totalizer.specs.Totalizer.{rewrittenVariables, rewritten}
-use Rattle.rewriting.specs.Rewrite.{lentToRewrite, rewriteReply}
+use Rattle.encoding.specs.Rewrite.{lentToRewrite, rewriteReply}
 use Rattle.answers.specs.Answers.{answerOf}
 use Rattle.powhanire.specs.Numbers.{Numbered, lent-numbered}
 

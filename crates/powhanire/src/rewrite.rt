@@ -2,7 +2,7 @@
 use answers::Answer;
 ghost use mathlib.Core.Path.{_≡_};
 ghost use lib.ListN.{length};
-ghost use Rattle.rewriting.specs.Rewrite.{rewriteReply, rewriteOutput};
+ghost use Rattle.encoding.specs.Rewrite.{rewriteReply, rewriteOutput};
 ghost use Rattle.answers.specs.Answers.{answerOf};
 
 // The values are the variables and the length of the rewritten list.
@@ -17,5 +17,5 @@ pub extern "C" fn powhanire_rewrite(
     ensures answer { λ r. ⌜ r ≡ answerOf (rewriteReply n (now (rules .entry)) (now (row .entry)) d (length (now (rewritten .entry)))) ⌝ }
     ensures output { λ r. ⌜ now (rewritten .exit) ≡ rewriteOutput n (now (rules .entry)) (now (row .entry)) d (now (rewritten .entry)) ⌝ }
 {
-    answers::of_rewritten(rewriting::rewrite(n, rules, row, d, rewritten))
+    answers::of_rewritten(encoding::rewrite(n, rules, row, d, rewritten))
 }

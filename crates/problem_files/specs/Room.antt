@@ -7,9 +7,9 @@ use native.Mathlib.Nat.{le-refl}
 use lib.IntN.{ℤ}
 use Rattle.refusal.specs.declared.Refusal.{Refusal}
 use Rattle.refusal.specs.Laws.{room-enough}
-use Rattle.lent.specs.Admitted as lent
-use Rattle.lent.specs.Admitted.{Admitted, admitted, refused-lent, room-decides}
-use Rattle.lent.specs.Lent.{Lent, problem, withRoom, unadmitted, refusalOf}
+use Rattle.causes.specs.Admitted as lent
+use Rattle.causes.specs.Admitted.{Admitted, admitted, refused-lent, room-decides}
+use Rattle.causes.specs.Lent.{Lent, problem, withRoom, unadmitted, refusalOf}
 
 module _ (n : ℕ) (rules : List ℤ) (row : List ℕ) (d : ℕ) where
   abbrev s : Lent

@@ -12,9 +12,9 @@ use Rattle.formula.specs.Formula.{any, satisfied}
 use Rattle.walk.specs.State.{find, isUnassigned, unassignedIn, isOpen, isUnit, isFalsified}
 use Rattle.walk.specs.Propagation.{unitLiteral}
 use Rattle.walk.specs.Counting.{find-some}
-use Rattle.standing.specs.declared.Standing.{Standing}
-use Rattle.standing.specs.declared.Standing.the-variants.{Satisfied, Open}
-use Rattle.standing.specs.Standing.{standingOf}
+use Rattle.clause_standing.specs.declared.Standing.{Standing}
+use Rattle.clause_standing.specs.declared.Standing.the-variants.{Satisfied, Open}
+use Rattle.clause_standing.specs.Standing.{standingOf}
 use Rattle.propagation.specs.declared.unit.Unit as U
 use Rattle.propagation.specs.declared.unit.Unit.{Unit}
 

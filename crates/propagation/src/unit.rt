@@ -1,5 +1,5 @@
 // The next unit clause.
-use standing::Standing;
+use clause_standing::Standing;
 ghost use mathlib.Core.Path.{_≡_};
 ghost use Prim.Native.Nat.{_<_};
 ghost use lib.IntN.{pos};
@@ -20,7 +20,7 @@ pub fn find_unit(list: &[i32], a: &[u8]) -> Unit
 {
     let mut from = 0;
     while from < list.len() {
-        let reading = standing::read_clause(list, from, a);
+        let reading = clause_standing::read_clause(list, from, a);
         let standing = reading.standing;
         let next = reading.end + 1;
         match unit_by(list, standing, reading.last) {

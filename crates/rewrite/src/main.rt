@@ -1,10 +1,10 @@
 // Reads `rules.cnf` and `wish.txt` of the current folder, and prints the rule file of the rewritten
-// rules, or the line of a refusal. What is printed is `printed` in rewritten_file/specs/Printed.antt.
+// rules, or the line of a refusal. What is printed is `printed` in rewrite_text/specs/Printed.antt.
 use input_file::FileRead;
 use libc::STDOUT_FILENO;
 ghost use mathlib.Core.Path.{_≡_};
 ghost use lib.ListN.{length};
-ghost use Rattle.rewritten_file.specs.Printed.{longest};
+ghost use Rattle.rewrite_text.specs.Printed.{longest};
 
 fn main() {
     let mut rules = input_file::space();
@@ -20,7 +20,7 @@ fn main() {
 
 fn show(rules: &[u8], wishes: &[u8]) {
     let mut out = text();
-    let n = rewritten_file::print_rewritten(rules, wishes, &mut out);
+    let n = rewrite_text::print_rewritten(rules, wishes, &mut out);
     if !io::write_all(STDOUT_FILENO, &out[..n]) {
         os::fail(b"standard output");
     }

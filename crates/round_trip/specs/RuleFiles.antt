@@ -11,7 +11,7 @@ use lib.Seq.{take-append-seam}
 use borrow.Author.Tests.{le-ltb, ne-eqb}
 use Rattle.refusal.specs.declared.Refusal.{Refusal}
 use Rattle.refusal.specs.Reply.{answering, unless, tooShort, filled}
-use Rattle.lent.specs.Lent.{refusalOf, outOfRange}
+use Rattle.causes.specs.Lent.{refusalOf, outOfRange}
 use Rattle.limits.specs.Limits.{maxVariables}
 use Rattle.dimacs.specs.Accepted.{accepted, written-read}
 use Rattle.dimacs.specs.Format.{Reading, refuses, gives, reading}

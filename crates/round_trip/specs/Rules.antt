@@ -9,8 +9,8 @@ use lib.Seq.{take-append-seam}
 use borrow.Author.Tests.{le-ltb}
 use Rattle.formula.specs.Formula.{clauses}
 use Rattle.refusal.specs.Reply.{answering}
-use Rattle.lent.specs.Admitted.{unrefused}
-use Rattle.lent.specs.Lent.{plainProblem, refusalOf}
+use Rattle.causes.specs.Admitted.{unrefused}
+use Rattle.causes.specs.Lent.{plainProblem, refusalOf}
 use Rattle.dimacs.specs.Format.{gives, reading}
 use Rattle.dimacs.specs.RoundTrip.{read-written}
 use Rattle.dimacs.specs.Written.{written}

@@ -11,7 +11,7 @@ use lib.Seq.{take-at}
 use borrow.Author.Tests.{le-ltb, ne-eqb, eq-eqb}
 use Rattle.refusal.specs.declared.Refusal.{Refusal}
 use Rattle.refusal.specs.Reply.{answering, unless, tooShort, filled}
-use Rattle.lent.specs.Lent.{refusalOf, outOfRange}
+use Rattle.causes.specs.Lent.{refusalOf, outOfRange}
 use Rattle.limits.specs.Limits.{maxVariables, maxWishVariables, maxLimit}
 use Rattle.wish_file.specs.Format.{Reading, refuses, gives, written, reading}
 use Rattle.wish_file.specs.RoundTrip.{Accepted, accepted}

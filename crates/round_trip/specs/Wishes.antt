@@ -8,8 +8,8 @@ use lib.Seq.{take-append-seam}
 use borrow.Author.Tests.{le-ltb}
 use Rattle.wish.specs.Wish.{wishCount}
 use Rattle.refusal.specs.Reply.{answering}
-use Rattle.lent.specs.Lent.{refusalOf, wishesAlone}
-use Rattle.lent.specs.Admitted.{Admitted, unrefused}
+use Rattle.causes.specs.Lent.{refusalOf, wishesAlone}
+use Rattle.causes.specs.Admitted.{Admitted, unrefused}
 use Rattle.wish_file.specs.Format.{written, gives, reading}
 use Rattle.wish_file.specs.RoundTrip.{read-written}
 use Rattle.wish_writer.specs.Write.{lentToWrite, writeOutput}

@@ -9,9 +9,9 @@ use lib.ListN.{length, drop}
 use borrow.Author.Tests.{lt-ltb, le-ltb}
 use Rattle.refusal.specs.declared.Refusal.{Refusal}
 use Rattle.refusal.specs.Reply.{Reply, refusal, refusing, answering, unless, tooShort, filled}
-use Rattle.lent.specs.Lent.{refusalOf, plainProblem, unadmitted}
+use Rattle.causes.specs.Lent.{refusalOf, plainProblem, unadmitted}
 use Rattle.dimacs.specs.Written.{written}
-use Rattle.lent.specs.Admitted.{refused-lent, room-decides}
+use Rattle.causes.specs.Admitted.{refused-lent, room-decides}
 use Rattle.rule_writer.specs.Write.{lentToWrite}
 
 -- the last cause, of an output that has no room

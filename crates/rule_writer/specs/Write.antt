@@ -4,7 +4,7 @@ use Prim.Native.Nat.{ℕ}
 use lib.IntN.{ℤ}
 use lib.ListN.{length}
 use Rattle.refusal.specs.Reply.{Reply, refusing, answering, unless, filled}
-use Rattle.lent.specs.Lent.{Lent, withRoom, plainProblem, refusalOf}
+use Rattle.causes.specs.Lent.{Lent, withRoom, plainProblem, refusalOf}
 use Rattle.dimacs.specs.Written.{written}
 use Rattle.rule_writer.specs.declared.WrittenRules.{WrittenRules}
 use Rattle.rule_writer.specs.declared.WrittenRules.the-variants.{Refused, Written}

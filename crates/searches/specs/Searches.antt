@@ -8,7 +8,7 @@ use Rattle.formula.specs.Formula.{clauses}
 use Rattle.distance.specs.Distance.{nearest}
 use Rattle.refusal.specs.declared.Refusal.{Refusal}
 use Rattle.refusal.specs.Reply.{Reply, answering, unless}
-use Rattle.lent.specs.Lent.{Lent, withRoom, plainProblem, problem, refusalOf}
+use Rattle.causes.specs.Lent.{Lent, withRoom, plainProblem, problem, refusalOf}
 use Rattle.walk.specs.Walk.{Answer, walk, plainWalk, nearestWalk}
 
 -- found, with the number of broken wishes, or none

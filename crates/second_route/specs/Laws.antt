@@ -8,11 +8,11 @@ use lib.IntN.{ℤ}
 use lib.ListN.{length, take, drop, length-append}
 use Rattle.refusal.specs.declared.Refusal.{Refusal}
 use Rattle.refusal.specs.Reply.{Reply, refusing, answering, unless, tooShort, filled}
-use Rattle.lent.specs.Lent.{refusalOf}
+use Rattle.causes.specs.Lent.{refusalOf}
 use Rattle.dimacs.specs.Format.{Reading, refuses, gives, reading}
 use Rattle.dimacs.specs.Written.{written}
 use Rattle.totalizer.specs.Totalizer.{rewritten}
-use Rattle.rewriting.specs.Rewrite.{lentToRewrite, rewriteReply, rewriteOutput}
+use Rattle.encoding.specs.Rewrite.{lentToRewrite, rewriteReply, rewriteOutput}
 use Rattle.rule_writer.specs.Write.{lentToWrite, writeReply, writeOutput}
 use Rattle.rule_reader.specs.Read.{replying, leaving, readReply, readOutput}
 use Rattle.searches.specs.Searches.{plainReply, plainChoice}

@@ -6,7 +6,7 @@ use lib.IntN.{ℤ}
 use lib.ListN.{length, take}
 use Rattle.refusal.specs.Reply.{Reply, refusing, answering}
 use Rattle.searches.specs.Searches.{searchReply, plainReply, nearestReply}
-use Rattle.rewriting.specs.Rewrite.{rewriteReply, rewriteOutput}
+use Rattle.encoding.specs.Rewrite.{rewriteReply, rewriteOutput}
 use Rattle.rule_writer.specs.Write.{writeReply, writeOutput}
 use Rattle.rule_reader.specs.Read.{readReply, readOutput}
 

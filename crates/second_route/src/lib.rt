@@ -1,7 +1,7 @@
 // The second route of document 01: rewriting, the writer, the reader and plain search, each on exactly
 // what the one before it returned or left in the part it filled. (The first route is one call,
 // wish_search::search.)
-use rewriting::Rewritten;
+use encoding::Rewritten;
 use rule_reader::ReadRules;
 use rule_writer::WrittenRules;
 use searches::Searched;
@@ -26,7 +26,7 @@ pub fn second_route(
     ensures reply { λ r. ⌜ replyOf r ≡ secondRoute n (now (rules .entry)) (now (row .entry)) d (inBuffers (now (rewritten .entry)) (now (file .entry)) (now (list .entry)) (now (choice .entry))) ⌝ }
     ensures buffers { λ r. ⌜ inBuffers (now (rewritten .exit)) (now (file .exit)) (now (list .exit)) (now (choice .exit)) ≡ secondLeaves n (now (rules .entry)) (now (row .entry)) d (inBuffers (now (rewritten .entry)) (now (file .entry)) (now (list .entry)) (now (choice .entry))) ⌝ }
 {
-    match rewriting::rewrite(n, rules, row, d, rewritten) {
+    match encoding::rewrite(n, rules, row, d, rewritten) {
         Rewritten::Refused(r) => Searched::Refused(r),
         Rewritten::Done(sizes) => {
             let k = sizes.length;

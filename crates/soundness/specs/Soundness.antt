@@ -12,7 +12,7 @@ use borrow.Author.Tests.{leb-true, le-leb, ltb-true, lt-ltb, eqb-true}
 use Rattle.literal.specs.Literal.{variable}
 use Rattle.formula.specs.Formula.{closes, onto, clauses, literals}
 use Rattle.limits.specs.Limits.{maxClauses, maxLiterals}
-use Rattle.rule_list.specs.Sound.{mayJoin, Scan, unread, stands, after, unclosed, badRule}
+use Rattle.rule_list.specs.Sound.{SoundList, mayJoin, Scan, unread, stands, after, unclosed, badRule}
 use Rattle.soundness.specs.Flat.{flat, joining, wellFormed}
 use Rattle.soundness.specs.Laws.{and-left, and-right, and-both, Joined, joined, joins, all-append, flat-append, clauses-formed, wellFormed-more}
 
@@ -150,13 +150,13 @@ formula n (d ∷ f) c l i e hc hl =
     (λ (k j : ℕ) (q : k ≡ l + length d). formula n f (suc c) k j (and-right (joining n [] d) (wellFormed n f) e) (omega arith) (omega arith))
 
 -- A list that passes the test is the list form of its clauses, which are well-formed over n and within the limits of the file.
-pub sound : (n : ℕ) (list : List ℤ) → badRule n unread 0 list ≡ none → Sound n list
+pub sound : (n : ℕ) (list : List ℤ) → SoundList n list → Sound n list
 sound n list e =
     let r : Rest n unread list = rest n list unread 0 (omega arith) (omega arith) e in
     record { closed = r .closed; formed = whole n (clauses list) (r .formed); few = omega arith; small = omega arith }
 
 -- And the list form of every formula that is well-formed over n and within those limits passes the test.
-pub flat-sound : (n : ℕ) (f : List (List ℤ)) → wellFormed n f ≡ true → length f ≤ maxClauses → literals f ≤ maxLiterals → badRule n unread 0 (flat f) ≡ none
+pub flat-sound : (n : ℕ) (f : List (List ℤ)) → wellFormed n f ≡ true → length f ≤ maxClauses → literals f ≤ maxLiterals → SoundList n (flat f)
 flat-sound n f e hc hl = formula n f 0 0 0 e (omega arith) (omega arith)
 
 -- A formula behind a sound list: its clauses come after the list's own.

@@ -10,7 +10,7 @@ use lib.ListN.{length, take, length-take}
 use Rattle.literal.specs.Literal.{variable, holds}
 use Rattle.formula.specs.Formula.{clauses, satisfied, models}
 use Rattle.distance.specs.Distance.{disagreement}
-use Rattle.rule_list.specs.Sound.{unread, badRule}
+use Rattle.rule_list.specs.Sound.{SoundList}
 use Rattle.soundness.specs.Flat.{wellFormed}
 use Rattle.soundness.specs.Laws.{and-left, and-right, and-both, all-append, models-by-values}
 use Rattle.soundness.specs.Soundness.{sound, clauses-behind}
@@ -30,7 +30,7 @@ row-within n row long = rw long at (leaves-within row)
 pub row-formed : (n : ℕ) (row : List ℕ) (d : ℕ) → length row ≡ n → wellFormed (rewrittenVariables n row) (atMost n (leaves row) d) ≡ true
 row-formed n row d long = let r : Rising 0 n (leaves row) = rw long at (leaves-rising row) in atMost-formed n (leaves row) d r
 
-module _ (n : ℕ) (list : List ℤ) (row : List ℕ) (d : ℕ) (ok : badRule n unread 0 list ≡ none) (long : length row ≡ n) where
+module _ (n : ℕ) (list : List ℤ) (row : List ℕ) (d : ℕ) (ok : SoundList n list) (long : length row ≡ n) where
   -- "The result holds the given rules, then the groups' rules in that same order, then, if d < m, one rule -s(d+1)."
   pub rewritten-clauses : clauses (rewritten n list row d) ≡ clauses list ++ atMost n (leaves row) d
   rewritten-clauses = clauses-behind n (rewrittenVariables n row) list (atMost n (leaves row) d) (sound n list ok) (omega arith) (row-formed n row d long)

@@ -12,10 +12,10 @@ use Rattle.literal.specs.Literal.{holds}
 use Rattle.formula.specs.Formula.{any, all, clauses, literals, models}
 use Rattle.distance.specs.Distance.{disagreement}
 use Rattle.limits.specs.Limits.{maxVariables, maxClauses, maxLiterals, maxWishVariables, maxWishClauses, maxWishLiterals}
-use Rattle.rule_list.specs.Sound.{unread, badRule}
-use Rattle.lent.specs.Sound.{badWish}
+use Rattle.rule_list.specs.Sound.{SoundList, unread, badRule}
+use Rattle.causes.specs.Sound.{badWish}
 use Rattle.wish.specs.Wish.{totalWeight}
-use Rattle.lent.specs.Laws.{sound-weight}
+use Rattle.causes.specs.Laws.{sound-weight}
 use Rattle.soundness.specs.Flat.{joining, wellFormed}
 use Rattle.soundness.specs.Laws.{and-both, all-append, literals-append, wellFormed-more}
 use Rattle.soundness.specs.Soundness.{sound, flat-sound, behind}
@@ -49,7 +49,7 @@ completion-counts n row a long c =
     segment-right (rewrittenVariables n row) e ch n (tree (leaves row)) (omega arith) (completion-segment n row e ch (row-within n row long) q)
 
 -- Of the completions of a choice, that one meets the rewritten rules exactly when the choice meets the given rules with at most d broken wishes; no other ever does.
-pub completions : (n : ℕ) (list : List ℤ) (row : List ℕ) (d : ℕ) (a e : List ℕ) → badRule n unread 0 list ≡ none → length row ≡ n
+pub completions : (n : ℕ) (list : List ℤ) (row : List ℕ) (d : ℕ) (a e : List ℕ) → SoundList n list → length row ≡ n
     → Choice (rewrittenVariables n row) e → take n e ≡ a
     → (models e (clauses (rewritten n list row d)) ≡ true) ↔ ((models a (clauses list) ≡ true) × (disagreement row a ≤ d) × (e ≡ completion row a))
 completions n list row d a e ok long ch q = rw (← q) (
@@ -59,7 +59,7 @@ completions n list row d a e ok long ch q = rw (← q) (
 )
 
 -- So what a search finds for the rewritten rules has, in its first n variables, a choice that meets the given rules with at most d broken wishes.
-pub found-within : (n : ℕ) (list : List ℤ) (row : List ℕ) (d : ℕ) (e : List ℕ) → badRule n unread 0 list ≡ none → length row ≡ n
+pub found-within : (n : ℕ) (list : List ℤ) (row : List ℕ) (d : ℕ) (e : List ℕ) → SoundList n list → length row ≡ n
     → Choice (rewrittenVariables n row) e → models e (clauses (rewritten n list row d)) ≡ true
     → Choice n (take n e) × (models (take n e) (clauses list) ≡ true) × (disagreement row (take n e) ≤ d)
 found-within n list row d e ok long ch m =
@@ -67,7 +67,7 @@ found-within n list row d e ok long ch m =
     (choice-take n (rewrittenVariables n row) e ch (omega arith), given, near)
 
 -- and every such choice has a completion for it to find
-pub within-found : (n : ℕ) (list : List ℤ) (row : List ℕ) (d : ℕ) (a : List ℕ) → badRule n unread 0 list ≡ none → length row ≡ n
+pub within-found : (n : ℕ) (list : List ℤ) (row : List ℕ) (d : ℕ) (a : List ℕ) → SoundList n list → length row ≡ n
     → Choice n a → models a (clauses list) ≡ true → disagreement row a ≤ d → models (completion row a) (clauses (rewritten n list row d)) ≡ true
 within-found n list row d a ok long c m near =
     completions n list row d a (completion row a) ok long (completion-choice n row a c) (completion-take n row a c) .1 (m, near, refl)
@@ -94,7 +94,7 @@ rewritten-variables n row h w =
     let m : length (leaves row) ≤ 64 = omega (arith, leaves-length row, sound-weight row w) in
     omega (arith, added-most (leaves row) m)
 
-pub rewritten-sizes : (n : ℕ) (list : List ℤ) (row : List ℕ) (d : ℕ) → badRule n unread 0 list ≡ none → length row ≡ n → badWish 0 0 row ≡ none
+pub rewritten-sizes : (n : ℕ) (list : List ℤ) (row : List ℕ) (d : ℕ) → SoundList n list → length row ≡ n → badWish 0 0 row ≡ none
     → length (clauses list) ≤ maxWishClauses → literals (clauses list) ≤ maxWishLiterals
     → (length (clauses (rewritten n list row d)) ≤ maxClauses) × (literals (clauses (rewritten n list row d)) ≤ maxLiterals)
 rewritten-sizes n list row d ok long w few small =
@@ -105,8 +105,8 @@ rewritten-sizes n list row d ok long w few small =
     )
 
 -- The rewritten list is sound for its number of variables: "On admitted input no call named here is refused except with 15."
-pub rewritten-sound : (n : ℕ) (list : List ℤ) (row : List ℕ) (d : ℕ) → badRule n unread 0 list ≡ none → length row ≡ n → badWish 0 0 row ≡ none
-    → length (clauses list) ≤ maxWishClauses → literals (clauses list) ≤ maxWishLiterals → badRule (rewrittenVariables n row) unread 0 (rewritten n list row d) ≡ none
+pub rewritten-sound : (n : ℕ) (list : List ℤ) (row : List ℕ) (d : ℕ) → SoundList n list → length row ≡ n → badWish 0 0 row ≡ none
+    → length (clauses list) ≤ maxWishClauses → literals (clauses list) ≤ maxWishLiterals → SoundList (rewrittenVariables n row) (rewritten n list row d)
 rewritten-sound n list row d ok long w few small =
     let N : ℕ = rewrittenVariables n row in
     let own : List (List ℤ) = atMost n (leaves row) d in

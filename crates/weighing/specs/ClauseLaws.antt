@@ -13,10 +13,10 @@ use borrow.Author.Tests.{eq-eqb, ne-eqb}
 use Rattle.formula.specs.Formula.{any, all, satisfied}
 use Rattle.walk.specs.State.{unassignedIn, isOpen}
 use Rattle.walk.specs.Branching.{assignedOrAgainst, isOpposed, isSource, mentions, offers, clauseWeight}
-use Rattle.standing.specs.declared.Standing.{Standing}
-use Rattle.standing.specs.declared.Standing.the-variants.{Satisfied, Open}
-use Rattle.standing.specs.Standing.{standingOf}
-use Rattle.standing.specs.Laws.{satisfied-stands, open-stands}
+use Rattle.clause_standing.specs.declared.Standing.{Standing}
+use Rattle.clause_standing.specs.declared.Standing.the-variants.{Satisfied, Open}
+use Rattle.clause_standing.specs.Standing.{standingOf}
+use Rattle.clause_standing.specs.Laws.{satisfied-stands, open-stands}
 use Rattle.weighing.specs.Weights.{isAt, isMarked, weightAt, Weighed}
 
 -- the powers of 4 in the code's table

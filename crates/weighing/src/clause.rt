@@ -1,12 +1,12 @@
 // What one clause adds to the weights and the marks.
 use crate::add::add_weight;
 use crate::mark::mark_variables;
+use clause_standing::Standing;
 use opposed::Fewest;
-use standing::Standing;
 ghost use mathlib.Core.Path.{_≡_};
 ghost use Prim.Native.Nat.{_-_, _^_, min};
 ghost use Rattle.walk.specs.Branching.{isSource};
-ghost use Rattle.standing.specs.Standing.{standingOf};
+ghost use Rattle.clause_standing.specs.Standing.{standingOf};
 ghost use Rattle.opposed.specs.Opposed.{sizeOf};
 ghost use Rattle.weighing.specs.Weights.{Weighable, Weighed};
 

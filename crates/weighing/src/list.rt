@@ -23,7 +23,7 @@ pub fn weigh_list(
     clear(&mut *marks);
     let mut from = 0;
     while from < list.len() {
-        let reading = standing::read_clause(list, from, assignment);
+        let reading = clause_standing::read_clause(list, from, assignment);
         let end = reading.end;
         let standing = reading.standing;
         weigh_clause(

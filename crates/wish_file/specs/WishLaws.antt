@@ -13,7 +13,7 @@ use borrow.Author.Tests.{lt-ltb, le-leb, ltb-true, ltb-false, leb-true}
 use Rattle.wish.specs.Wish.{weight, isRowByte, freeByte, isWish, wishCount, totalWeight}
 use Rattle.limits.specs.Limits.{maxWishes}
 use Rattle.wish.specs.Laws.{free-byte, free-no-wish, no-wish-free, for-byte, for-wish, for-wished, wished-for, wished-bit}
-use Rattle.lent.specs.Sound.{badWish}
+use Rattle.causes.specs.Sound.{badWish}
 use Rattle.wish_file.specs.Wishes.{Wish, wishList, marked, rowOf, Rising, wishAs, byteOf}
 
 -- every number of a list may stand in a row

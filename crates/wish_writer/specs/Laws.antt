@@ -7,9 +7,9 @@ use native.Mathlib.Omega.{arith}
 use lib.ListN.{length, drop, length-append}
 use Rattle.refusal.specs.declared.Refusal.{Refusal}
 use Rattle.refusal.specs.Reply.{Reply, tooShort, refusing, answering}
-use Rattle.lent.specs.Admitted as lent
-use Rattle.lent.specs.Admitted.{Admitted}
-use Rattle.lent.specs.Lent.{wishesAlone, unadmitted, refusalOf}
+use Rattle.causes.specs.Admitted as lent
+use Rattle.causes.specs.Admitted.{Admitted}
+use Rattle.causes.specs.Lent.{wishesAlone, unadmitted, refusalOf}
 use Rattle.wish.specs.Wish.{wishCount}
 use Rattle.wish.specs.RowLaws.{count-most}
 use Rattle.wish_file.specs.Format.{written, fileSize, wishLines}

@@ -3,7 +3,7 @@ use mathlib.Core.List.{List}
 use Prim.Native.Nat.{ℕ}
 use lib.ListN.{length}
 use Rattle.refusal.specs.Reply.{Reply, refusing, answering, unless, filled}
-use Rattle.lent.specs.Lent.{Lent, withRoom, wishesAlone, refusalOf}
+use Rattle.causes.specs.Lent.{Lent, withRoom, wishesAlone, refusalOf}
 use Rattle.wish_file.specs.Format.{written}
 use Rattle.wish_writer.specs.declared.WrittenWishes.{WrittenWishes}
 use Rattle.wish_writer.specs.declared.WrittenWishes.the-variants.{Refused, Written}

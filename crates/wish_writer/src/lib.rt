@@ -9,8 +9,8 @@ use wish_file::WISH_SIZE;
 ghost use mathlib.Core.Path.{_≡_};
 ghost use lib.ListN.{length};
 ghost use Rattle.wish.specs.Wish.{wishCount};
-ghost use Rattle.lent.specs.Admitted.{Admitted};
-ghost use Rattle.lent.specs.Lent.{wishesAlone};
+ghost use Rattle.causes.specs.Admitted.{Admitted};
+ghost use Rattle.causes.specs.Lent.{wishesAlone};
 ghost use Rattle.wish_writer.specs.Write.{writeReply, writeOutput, replyOf};
 
 // Refused, or the file's length.

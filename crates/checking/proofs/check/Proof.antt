@@ -1,9 +1,9 @@
 -- `checking::check` meets its contract: refused for what was lent, or answered.
 use mathlib.Core.Path.{_≡_, sym, _∙_}
 use mathlib.Core.Option.{none}
-use Rattle.lent.specs.Admitted.{admitted}
-use Rattle.lent.specs.Laws.{sound-weight}
-use Rattle.lent.specs.Lent.{Lent, unadmitted}
+use Rattle.causes.specs.Admitted.{admitted}
+use Rattle.causes.specs.Laws.{sound-weight}
+use Rattle.causes.specs.Lent.{Lent, unadmitted}
 use Rattle.admission.specs.Admission.{countsOf}
 use Rattle.admission.specs.Laws.{refused-by, admitted-by}
 use Rattle.checking.specs.Check.{lentToCheck}

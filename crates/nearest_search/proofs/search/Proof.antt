@@ -6,8 +6,8 @@ use lib.ListN.{length}
 use Rattle.formula.specs.Formula.{clauses}
 use Rattle.distance.specs.Distance.{nearest}
 use Rattle.refusal.specs.Reply.{unless}
-use Rattle.lent.specs.Admitted.{Admitted, unrefused}
-use Rattle.lent.specs.Lent.{Lent, problem, refusalOf}
+use Rattle.causes.specs.Admitted.{Admitted, unrefused}
+use Rattle.causes.specs.Lent.{Lent, problem, refusalOf}
 use Rattle.admission.specs.declared.Counts.{Counts}
 use Rattle.admission.specs.Admission.{countsOf, start}
 use Rattle.admission.specs.Laws.{refused-by, admitted-by}
@@ -15,7 +15,7 @@ use Rattle.walk.specs.Walk.{nearestWalk}
 use Rattle.searches.specs.Answers.{NearestMeans, refused-reply, refused-answer, given-answer, nearest-means}
 use Rattle.searches.specs.Meaning.{nearest-is}
 use Rattle.searches.specs.Searches.{lentToSearch, found}
-use Rattle.root.specs.Into.{startable}
+use Rattle.root_walk.specs.Into.{startable}
 use borrow.Author.Needs.{needs}
 use Rattle.nearest_search.proofs.search.Statement.{statement}
 use Rattle.nearest_search.proofs.search.Tie as tie

@@ -7,14 +7,14 @@ use native.Mathlib.Omega.{arith}
 use lib.ListN.{length, take, replicate, length-replicate}
 use Rattle.formula.specs.Formula.{clauses}
 use Rattle.wish.specs.Wish.{freeByte}
-use Rattle.lent.specs.Lent.{refusalOf, Lent, plainProblem}
-use Rattle.lent.specs.Admitted.{Admitted, unrefused}
+use Rattle.causes.specs.Lent.{refusalOf, Lent, plainProblem}
+use Rattle.causes.specs.Admitted.{Admitted, unrefused}
 use Rattle.admission.specs.Admission.{countsOf, start}
 use Rattle.admission.specs.Laws.{refused-by, admitted-by}
 use Rattle.walk.specs.Walk.{walk, plainWalk}
 use Rattle.searches.specs.Answers.{PlainMeans, searchedOf, refused-answer, given-answer, plain-means}
 use Rattle.searches.specs.Searches.{lentToPlain, brokenBy}
-use Rattle.root.specs.Into.{Reaches, startable}
+use Rattle.root_walk.specs.Into.{Reaches, startable}
 use borrow.Author.Needs.{needs}
 use Rattle.plain_search.proofs.search.Statement.{statement}
 use Rattle.plain_search.proofs.search.Tie as tie

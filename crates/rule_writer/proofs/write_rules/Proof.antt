@@ -1,8 +1,8 @@
 -- `rule_writer::write_rules` meets its contract: refused for what was lent, or written as `write_sound` does.
 use mathlib.Core.Path.{_≡_, sym, ap, _∙_}
 use mathlib.Core.Option.{none}
-use Rattle.lent.specs.Admitted.{admitted}
-use Rattle.lent.specs.Lent.{Lent, plainProblem, unadmitted}
+use Rattle.causes.specs.Admitted.{admitted}
+use Rattle.causes.specs.Lent.{Lent, plainProblem, unadmitted}
 use Rattle.admission.specs.declared.Counts.{Counts}
 use Rattle.admission.specs.Admission.{countsOf}
 use Rattle.admission.specs.Laws.{refused-by, admitted-by}

@@ -5,7 +5,7 @@ use native.Mathlib.Omega.{arith}
 use lib.ListN.{length, length-take}
 use borrow.Author.Needs.{needs}
 use Rattle.refusal.specs.Reply.{answering}
-use Rattle.rewriting.specs.Rewrite.{rewriteReply, replyOf}
+use Rattle.encoding.specs.Rewrite.{rewriteReply, replyOf}
 use Rattle.searches.specs.Answers as searches
 use Rattle.second_route.specs.Laws.{rewritten-inside, rewriting-refused, rewriting-answered}
 use Rattle.second_route.specs.Routes.{inBuffers}

@@ -4,14 +4,14 @@ use mathlib.Core.Option.{none}
 use Prim.Native.Nat.{_≤_}
 use lib.ListN.{length}
 use Rattle.formula.specs.Formula.{clauses}
-use Rattle.lent.specs.Admitted.{Admitted, unrefused}
-use Rattle.lent.specs.Lent.{Lent, problem, refusalOf}
+use Rattle.causes.specs.Admitted.{Admitted, unrefused}
+use Rattle.causes.specs.Lent.{Lent, problem, refusalOf}
 use Rattle.admission.specs.Admission.{countsOf, start}
 use Rattle.admission.specs.Laws.{refused-by, admitted-by}
 use Rattle.walk.specs.Walk.{walk}
 use Rattle.searches.specs.Answers.{SearchMeans, searchedOf, refused-answer, given-answer, search-means}
 use Rattle.searches.specs.Searches.{lentToSearch, brokenBy}
-use Rattle.root.specs.Into.{startable}
+use Rattle.root_walk.specs.Into.{startable}
 use borrow.Author.Needs.{needs}
 use Rattle.wish_search.proofs.search.Statement.{statement}
 use Rattle.wish_search.proofs.search.Tie as tie

@@ -2,8 +2,8 @@
 use mathlib.Core.Path.{_≡_, sym, ap, _∙_}
 use mathlib.Core.Option.{none}
 use Rattle.wish.specs.UnitWeights.{weight-count}
-use Rattle.lent.specs.Admitted.{admitted}
-use Rattle.lent.specs.Lent.{Lent, wishesAlone, unadmitted}
+use Rattle.causes.specs.Admitted.{admitted}
+use Rattle.causes.specs.Lent.{Lent, wishesAlone, unadmitted}
 use Rattle.admission.specs.declared.Counts.{Counts}
 use Rattle.admission.specs.Admission.{countsOf}
 use Rattle.admission.specs.Laws.{refused-by, admitted-by}

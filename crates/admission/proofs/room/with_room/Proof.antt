@@ -3,7 +3,7 @@ use mathlib.Core.Path.{_≡_, sym, ap, _∙_}
 use mathlib.Core.List.{[], _∷_}
 use Rattle.refusal.specs.Laws.{first-some, first-of-two}
 use Rattle.refusal.specs.Reply.{refused, tooShort}
-use Rattle.lent.specs.Lent.{unadmitted, withRoom, refusalOf}
+use Rattle.causes.specs.Lent.{unadmitted, withRoom, refusalOf}
 use Rattle.admission.specs.Admission.{countsOf}
 use Rattle.admission.specs.Laws.{refuses, admits, refused-by, admitted-by}
 use borrow.Author.Needs.{needs}

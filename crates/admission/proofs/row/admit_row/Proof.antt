@@ -5,9 +5,9 @@ use mathlib.Core.Option.{none}
 use Prim.Native.Nat.{ℕ}
 use Rattle.wish.specs.Wish.{totalWeight}
 use Rattle.refusal.specs.Reply.{refused, given}
-use Rattle.lent.specs.Lent.{wishesAlone, rangeCause, rowLengthCause}
-use Rattle.lent.specs.Scans.{row-unsound, row-sound}
-use Rattle.lent.specs.Sound.{badWish}
+use Rattle.causes.specs.Lent.{wishesAlone, rangeCause, rowLengthCause}
+use Rattle.causes.specs.Scans.{row-unsound, row-sound}
+use Rattle.causes.specs.Sound.{badWish}
 use Rattle.admission.specs.Order.{alone-range, alone-row, alone-length, alone-size, alone-admitted}
 use borrow.Author.Needs.{needs}
 use Rattle.admission.proofs.row.admit_row.Statement.{statement}

@@ -8,8 +8,8 @@ use Rattle.refusal.specs.Laws.{cause-none}
 use Rattle.refusal.specs.Reply.{refused, given}
 use Rattle.rule_list.specs.ScanLaws.{rules-unsound, rules-sound}
 use Rattle.rule_list.specs.Sound.{unread, badRule}
-use Rattle.lent.specs.Laws.{in-range}
-use Rattle.lent.specs.Lent.{plainProblem, outOfRange, rangeCause}
+use Rattle.causes.specs.Laws.{in-range}
+use Rattle.causes.specs.Lent.{plainProblem, outOfRange, rangeCause}
 use Rattle.admission.specs.Order.{plain-range, plain-rules, plain-admitted}
 use borrow.Author.Needs.{needs}
 use Rattle.admission.proofs.rules.admit_rules.Statement.{statement}

@@ -11,10 +11,10 @@ use Rattle.refusal.specs.Laws.{cause-none}
 use Rattle.refusal.specs.Reply.{refused, given}
 use Rattle.rule_list.specs.ScanLaws.{rules-unsound, rules-sound}
 use Rattle.rule_list.specs.Sound.{SoundList, unread, badRule}
-use Rattle.lent.specs.Laws.{in-range}
-use Rattle.lent.specs.Lent.{Lent, problem, outOfRange, rangeCause, rowLengthCause}
-use Rattle.lent.specs.Scans.{row-unsound, row-sound}
-use Rattle.lent.specs.Sound.{badWish}
+use Rattle.causes.specs.Laws.{in-range}
+use Rattle.causes.specs.Lent.{Lent, problem, outOfRange, rangeCause, rowLengthCause}
+use Rattle.causes.specs.Scans.{row-unsound, row-sound}
+use Rattle.causes.specs.Sound.{badWish}
 use Rattle.admission.specs.Order.{counted-size, wished-range, wished-rules, wished-row, wished-length, wished-size, wished-admitted}
 use borrow.Author.Needs.{needs}
 use Rattle.admission.proofs.wishes.admit_wishes.Statement.{statement}

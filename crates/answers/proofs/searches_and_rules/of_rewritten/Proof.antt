@@ -1,6 +1,6 @@
 -- `answers::searches_and_rules::of_rewritten` meets its contract: each answer of the call has its numbers.
 use borrow.Author.Needs.{needs}
-use Rattle.rewriting.specs.Rewrite.{replyOf}
+use Rattle.encoding.specs.Rewrite.{replyOf}
 use Rattle.answers.specs.Laws.{told-of}
 use Rattle.answers.proofs.searches_and_rules.of_rewritten.Statement.{statement}
 use Rattle.answers.proofs.searches_and_rules.of_rewritten.Tie as tie

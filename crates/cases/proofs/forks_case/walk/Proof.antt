@@ -2,11 +2,11 @@
 use mathlib.Core.Path.{_≡_, sym, _∙_}
 use lib.ListN.{length}
 use borrow.Author.Needs.{needs}
-use Rattle.lent.specs.Admitted.{unrefused}
-use Rattle.lent.specs.Lent.{Lent, problem, withRoom, refusalOf}
+use Rattle.causes.specs.Admitted.{unrefused}
+use Rattle.causes.specs.Lent.{Lent, problem, withRoom, refusalOf}
 use Rattle.admission.specs.Admission.{countsOf, start}
 use Rattle.admission.specs.Laws.{admitted-by}
-use Rattle.root.specs.Into.{startable}
+use Rattle.root_walk.specs.Into.{startable}
 use Rattle.cases.proofs.forks_case.walk.Statement.{statement}
 use Rattle.cases.proofs.forks_case.walk.Tie as tie
 

@@ -8,7 +8,7 @@ use lib.ListN.{length, drop}
 use borrow.Author.Tests.{not-true, not-false}
 use Rattle.formula.specs.Formula.{clauses, models}
 use Rattle.formula.specs.Laws.{end-inside, models-past}
-use Rattle.standing.specs.Clause.{tested-models}
+use Rattle.clause_standing.specs.Clause.{tested-models}
 use Rattle.walk.specs.Walk.{complete}
 use borrow.Author.Needs.{needs}
 use Rattle.completion.proofs.model.completes.Statement.{statement}

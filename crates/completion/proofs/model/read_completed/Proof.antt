@@ -7,7 +7,7 @@ use lib.ListN.{length, getD}
 use Rattle.literal.specs.Laws.{as-read}
 use Rattle.literal.specs.Literal.{closes, holds}
 use Rattle.walk.specs.Walk.{complete}
-use Rattle.standing.specs.Clause.{Passing, passing-start, passing-closed, passing-past, passing-found, passing-next}
+use Rattle.clause_standing.specs.Clause.{Passing, passing-start, passing-closed, passing-past, passing-found, passing-next}
 use borrow.Author.Needs.{needs}
 use Rattle.completion.proofs.model.read_completed.Statement.{statement}
 use Rattle.completion.proofs.model.read_completed.Tie as tie

@@ -6,7 +6,7 @@ use lib.ListN.{length, take, drop}
 use Rattle.formula.specs.Formula.{clauses}
 use Rattle.formula.specs.Laws.{end-inside, clauses-step}
 use Rattle.walk.specs.Branching.{isOpposed, shortest}
-use Rattle.standing.specs.Clause.{clause-at}
+use Rattle.clause_standing.specs.Clause.{clause-at}
 use Rattle.opposed.specs.Laws.{shortest-other, shortest-past}
 use borrow.Author.Needs.{needs}
 use Rattle.opposed.proofs.shortest.first_opposed.Statement.{statement}

@@ -10,7 +10,7 @@ use lib.ListN.{length, take, drop}
 use Rattle.formula.specs.Formula.{clauses}
 use Rattle.formula.specs.Laws.{end-inside, clauses-step}
 use Rattle.walk.specs.Branching.{isOpposed, shorterOf, shortest}
-use Rattle.standing.specs.Clause.{clause-at}
+use Rattle.clause_standing.specs.Clause.{clause-at}
 use Rattle.opposed.specs.Laws.{shortest-first, kept-other, kept-shorter, shortest-past}
 use denote.Ref.{now}
 use borrow.Author.Needs.{needs}

@@ -9,7 +9,7 @@ use borrow.Author.Needs.{needs}
 use Rattle.literal.specs.Laws.{as-read}
 use Rattle.formula.specs.Formula.{clauses}
 use Rattle.formula.specs.Laws.{end-inside}
-use Rattle.standing.specs.Clause.{clauseAt, clauses-at}
+use Rattle.clause_standing.specs.Clause.{clauseAt, clauses-at}
 use Rattle.propagation.specs.declared.unit.Unit.{Unit}
 use Rattle.propagation.specs.declared.unit.Unit.the-variants.{Conflict, Literal, Nothing}
 use Rattle.propagation.specs.Unit.{scan, scan-by, scan-pass, scan-stop, conflict-some, literal-some}

@@ -7,8 +7,8 @@ use borrow.Author.Needs.{needs}
 use borrow.Author.Tests.{ne-eqb}
 use Prim.Native.Nat.{_<_}
 use Rattle.literal.specs.Laws.{as-read}
-use Rattle.standing.specs.declared.Standing.{Standing}
-use Rattle.standing.specs.declared.Standing.the-variants.{Open}
+use Rattle.clause_standing.specs.declared.Standing.{Standing}
+use Rattle.clause_standing.specs.declared.Standing.the-variants.{Open}
 use Rattle.propagation.specs.declared.unit.Unit.the-variants.{Literal}
 use Rattle.propagation.specs.Unit.{unitBy}
 use Rattle.propagation.proofs.unit.unit_by.Statement.{statement}

@@ -3,7 +3,7 @@ use mathlib.Core.Path.{_≡_, sym, ap, _∙_}
 use native.Mathlib.Omega.{arith}
 use Rattle.walk.specs.Branching.{isSource}
 use Rattle.walk.specs.State.{unassignedIn}
-use Rattle.standing.specs.Laws.{open-stands}
+use Rattle.clause_standing.specs.Laws.{open-stands}
 use Rattle.opposed.specs.Opposed.{sizeOf}
 use Rattle.opposed.specs.declared.fewest.Fewest.{Fewest}
 use Rattle.weighing.specs.ClauseLaws.{open-source, size-source, other-source}

@@ -4,8 +4,8 @@ use Prim.Native.Nat.{_-_, _≤_}
 use native.Mathlib.Omega.{arith}
 use lib.ListN.{length}
 use Rattle.formula.specs.Laws.{end-inside}
-use Rattle.standing.specs.Clause.{clause-at}
-use Rattle.standing.specs.Standing.{standingOf}
+use Rattle.clause_standing.specs.Clause.{clause-at}
+use Rattle.clause_standing.specs.Standing.{standingOf}
 use Rattle.opposed.specs.Opposed.{sizeOf}
 use Rattle.weighing.specs.Weights.{Ready}
 use Rattle.weighing.specs.ListLaws.{Weighing, weighing-start, weighing-clause, weighing-next, weighing-end, ready-kept}

@@ -1,0 +1,179 @@
+-- What holds of lent values that are admitted: none of the causes before 15 applies to them. Here alone the causes are told apart by their place in the list; all else cites the facts by name.
+use mathlib.Core.Path.{_≡_, refl, ap}
+use mathlib.Core.Bool.{Bool, false, not, _||_}
+use mathlib.Core.List.{List, [], _∷_}
+use mathlib.Core.Option.{Option, none, some}
+use Prim.Native.Nat.{ℕ, _≤_, _<_, zero-le}
+use native.Mathlib.Omega.{arith}
+use lib.Dec.{eqb, ltb}
+use lib.IntN.{ℤ}
+use lib.ListN.{length}
+use borrow.Author.Tests.{eqb-true, eqb-false, not-true, not-false, ltb-true, ltb-false, le-ltb, eq-eqb, ne-eqb}
+use Rattle.formula.specs.Formula.{clauses, literals}
+use Rattle.refusal.specs.declared.Refusal.{Refusal}
+use Rattle.refusal.specs.Laws.{no-first, first-some, first-of-two, placeIf-none, none-found, each-unfound, first-number, enough-room, neither}
+use Rattle.refusal.specs.Reply.{placeIf, tooShort}
+use Rattle.limits.specs.Limits.{maxVariables, maxLimit, maxWishVariables, maxWishClauses, maxWishLiterals}
+use Rattle.rule_list.specs.Sound.{SoundList}
+use Rattle.causes.specs.Laws.{in-range}
+use Rattle.causes.specs.Lent.{Lent, plainProblem, withLimit, withRoom, ofPart, outOfRange, wrongLength, oversized, causes, unadmitted, refusalOf}
+use Rattle.causes.specs.Sound.{badWish, badChoice}
+
+-- what holds of a part, if the call takes it
+abbrev pub InPart : Option (List ℕ) → (List ℕ → Type 0) → Type 0
+InPart none F = Unit {0}
+InPart (some part) F = F part
+
+-- what 12 lets pass
+pub record Small (n k m : ℕ) : Type 0 where
+  pub variables : n ≤ maxWishVariables
+  pub few : k ≤ maxWishClauses
+  pub short : m ≤ maxWishLiterals
+
+abbrev pub SmallProblem : ℕ → List ℤ → Type 0
+SmallProblem n rules = Small n (length (clauses rules)) (literals (clauses rules))
+
+pub record Admitted (s : Lent) : Type 0 where
+  pub positive : 0 < s .n
+  pub most : s .n ≤ maxVariables
+  pub limited : s .d ≤ maxLimit
+  pub soundRules : SoundList (s .n) (s .rules)
+  pub soundRow : InPart (s .row) (λ (row : List ℕ). badWish 0 0 row ≡ none)
+  pub soundChoice : InPart (s .choice) (λ (choice : List ℕ). badChoice 0 choice ≡ none)
+  pub longRow : InPart (s .row) (λ (row : List ℕ). length row ≡ s .n)
+  pub longChoice : InPart (s .choice) (λ (choice : List ℕ). length choice ≡ s .n)
+  pub small : InPart (s .row) (λ (row : List ℕ). SmallProblem (s .n) (s .rules))
+
+-- a cause of a part does not apply exactly when the part, if there is one, is as it must be
+in-part : (o : Option (List ℕ)) (f : List ℕ → Option ℕ) (F : List ℕ → Type 0) → ((part : List ℕ) → f part ≡ none → F part) → ofPart o f ≡ none → InPart o F
+in-part none f F g e = tt
+in-part (some part) f F g e = g part e
+
+of-part : (o : Option (List ℕ)) (f : List ℕ → Option ℕ) (F : List ℕ → Type 0) → ((part : List ℕ) → F part → f part ≡ none) → InPart o F → ofPart o f ≡ none
+of-part none f F g a = refl
+of-part (some part) f F g a = g part a
+
+-- each test that says no, and the fact that it stands for
+length-right : (n : ℕ) (part : List ℕ) → placeIf (wrongLength n part) 0 ≡ none → length part ≡ n
+length-right n part e = eqb-true (length part) n (not-false (eqb (length part) n) (placeIf-none (wrongLength n part) 0 e))
+
+right-length : (n : ℕ) (part : List ℕ) → length part ≡ n → placeIf (wrongLength n part) 0 ≡ none
+right-length n part e = ap (λ (b : Bool). placeIf (not b) 0) (eq-eqb (length part) n e)
+
+size-small : (n k m : ℕ) → placeIf (oversized n k m) 0 ≡ none → Small n k m
+size-small n k m e =
+    let one = neither (ltb maxWishVariables n) (ltb maxWishClauses k || ltb maxWishLiterals m) (placeIf-none (oversized n k m) 0 e) in
+    let two = neither (ltb maxWishClauses k) (ltb maxWishLiterals m) (one .1) in
+    record {
+      variables = ltb-false maxWishVariables n (one .0);
+      few = ltb-false maxWishClauses k (two .0);
+      short = ltb-false maxWishLiterals m (two .1);
+    }
+
+small-size : (n k m : ℕ) → Small n k m → placeIf (oversized n k m) 0 ≡ none
+small-size n k m a = rw (le-ltb maxWishVariables n (a .variables), le-ltb maxWishClauses k (a .few), le-ltb maxWishLiterals m (a .short))
+
+range-in : (n d : ℕ) → 0 < n → n ≤ maxVariables → d ≤ maxLimit → placeIf (outOfRange n d) 0 ≡ none
+range-in n d p h k = rw (ne-eqb n 0 (λ e. omega arith), le-ltb maxVariables n h, le-ltb maxLimit d k)
+
+-- where no cause before 15 applies, all of this holds; and where it holds, none applies
+module _ (s : Lent) where
+  abbrev sized : List ℕ → Option ℕ
+  sized part = placeIf (oversized (s .n) (length (clauses (s .rules))) (literals (clauses (s .rules)))) 0
+
+  abbrev wrong : List ℕ → Option ℕ
+  wrong part = placeIf (wrongLength (s .n) part) 0
+
+  abbrev Long : List ℕ → Type 0
+  Long part = length part ≡ s .n
+
+  pub admitted : unadmitted s ≡ none → Admitted s
+  admitted e =
+      let (range, (rules, (row, (choice, (rowLength, (choiceLength, (size, end))))))) = none-found (causes s) e in
+      let numbers = in-range (s .n) (s .d) (placeIf-none (outOfRange (s .n) (s .d)) 0 range) in
+      record {
+        positive = numbers .0;
+        most = numbers .1;
+        limited = numbers .2;
+        soundRules = rules;
+        soundRow = in-part (s .row) (badWish 0 0) (λ (part : List ℕ). badWish 0 0 part ≡ none) (λ part f. f) row;
+        soundChoice = in-part (s .choice) (badChoice 0) (λ (part : List ℕ). badChoice 0 part ≡ none) (λ part f. f) choice;
+        longRow = in-part (s .row) wrong Long (length-right (s .n)) rowLength;
+        longChoice = in-part (s .choice) wrong Long (length-right (s .n)) choiceLength;
+        small = in-part (s .row) sized (λ (part : List ℕ). SmallProblem (s .n) (s .rules)) (λ part. size-small (s .n) (length (clauses (s .rules))) (literals (clauses (s .rules)))) size;
+      }
+
+  pub none-applies : Admitted s → unadmitted s ≡ none
+  none-applies a =
+      each-unfound (causes s) (
+        range-in (s .n) (s .d) (a .positive) (a .most) (a .limited),
+        (
+          a .soundRules,
+          (
+            of-part (s .row) (badWish 0 0) (λ (part : List ℕ). badWish 0 0 part ≡ none) (λ part f. f) (a .soundRow),
+            (
+              of-part (s .choice) (badChoice 0) (λ (part : List ℕ). badChoice 0 part ≡ none) (λ part f. f) (a .soundChoice),
+              (
+                of-part (s .row) wrong Long (right-length (s .n)) (a .longRow),
+                (
+                  of-part (s .choice) wrong Long (right-length (s .n)) (a .longChoice),
+                  (of-part (s .row) sized (λ (part : List ℕ). SmallProblem (s .n) (s .rules)) (λ part. small-size (s .n) (length (clauses (s .rules))) (literals (clauses (s .rules)))) (a .small), tt),
+                ),
+              ),
+            ),
+          ),
+        ),
+      )
+
+  -- nothing but 14 looks at the limit
+  pub at-limit : (d : ℕ) → d ≤ maxLimit → Admitted s → Admitted (withLimit d s)
+  at-limit d h a =
+      record {
+        positive = a .positive;
+        most = a .most;
+        limited = h;
+        soundRules = a .soundRules;
+        soundRow = a .soundRow;
+        soundChoice = a .soundChoice;
+        longRow = a .longRow;
+        longChoice = a .longChoice;
+        small = a .small;
+      }
+
+  -- the refusal of a call whose output needs so many elements and was lent room for so many
+  module _ (needed room : ℕ) where
+    pub refused-lent : (r : Refusal) → unadmitted s ≡ some r → refusalOf (withRoom needed room s) ≡ some r
+    refused-lent r e = first-some (unadmitted s) (tooShort needed room ∷ []) r e
+
+    pub room-decides : unadmitted s ≡ none → refusalOf (withRoom needed room s) ≡ tooShort needed room
+    room-decides e = first-of-two (unadmitted s) (tooShort needed room) e
+
+    pub admitted-room : Admitted s → refusalOf (withRoom needed room s) ≡ tooShort needed room
+    admitted-room a = room-decides (none-applies a)
+
+    pub unrefused : refusalOf (withRoom needed room s) ≡ none → Admitted s × (needed ≤ room)
+    unrefused e =
+        let one = no-first (unadmitted s) (tooShort needed room ∷ []) e in
+        (admitted (one .0), enough-room needed room (no-first (tooShort needed room) [] (one .1) .0))
+
+-- the numbers of these causes are above 0, and none is 15: the list itself tells it
+pub lent-number : (s : Lent) (r : Refusal) → unadmitted s ≡ some r → (0 < r .number) × (r .number ≡ 15 → ⊥)
+lent-number s r e = (
+  ltb-true 0 (r .number) (first-number (ltb 0) (causes s) refl r e),
+  eqb-false (r .number) 15 (not-true (eqb (r .number) 15) (first-number (λ (k : ℕ). not (eqb k 15)) (causes s) refl r e)),
+)
+
+-- n variables in range and a sound list are admitted, where nothing else is lent
+pub plain-admitted : (n : ℕ) (rules : List ℤ) → 0 < n → n ≤ maxVariables → SoundList n rules → Admitted (plainProblem n rules)
+plain-admitted n rules p h e =
+    record {
+      positive = p;
+      most = h;
+      limited = zero-le;
+      soundRules = e;
+      soundRow = tt;
+      soundChoice = tt;
+      longRow = tt;
+      longChoice = tt;
+      small = tt;
+    }

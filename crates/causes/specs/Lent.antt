@@ -1,0 +1,116 @@
+-- What a call is lent, and the one order in which its causes to refuse count (document 01, "Refusals"): "Then lent values: 14, 13 (rules, wishes, choice), 11, 12. Last 15."
+use mathlib.Core.Bool.{Bool, not, _||_}
+use mathlib.Core.List.{List, [], _∷_}
+use mathlib.Core.Option.{Option, none, some}
+use Prim.Native.Nat.{ℕ}
+use lib.Dec.{eqb, ltb}
+use lib.IntN.{ℤ}
+use lib.ListN.{length}
+use Rattle.formula.specs.Formula.{clauses, literals}
+use Rattle.refusal.specs.declared.Refusal.{Refusal}
+use Rattle.refusal.specs.Reply.{first, placeIf, tooShort, Cause, firstFound}
+use Rattle.limits.specs.Limits.{maxVariables, maxLimit, maxWishVariables, maxWishClauses, maxWishLiterals}
+use Rattle.rule_list.specs.Sound.{unread, badRule}
+use Rattle.causes.specs.Sound.{badWish, badChoice}
+
+-- The values lent to a call, as far as it takes any (a file's reader takes none: it has the causes of its file, and then `tooShort`): n, the limit d (0 in a call that takes none), the rule list (empty in a call that takes none), the wish row and the given choice if it takes them, and how many elements its output needs and was lent (0 and 0 in a call that has none).
+pub record Lent : Type 0 where
+  pub n : ℕ
+  pub d : ℕ
+  pub rules : List ℤ
+  pub row : Option (List ℕ)
+  pub choice : Option (List ℕ)
+  pub needed : ℕ
+  pub room : ℕ
+
+-- n alone; and the same values with one more
+abbrev pub only : ℕ → Lent
+only n = record { n = n; d = 0; rules = []; row = none; choice = none; needed = 0; room = 0 }
+
+abbrev pub withLimit : ℕ → Lent → Lent
+withLimit d s = record { n = s .n; d = d; rules = s .rules; row = s .row; choice = s .choice; needed = s .needed; room = s .room }
+
+abbrev pub withRules : List ℤ → Lent → Lent
+withRules rules s = record { n = s .n; d = s .d; rules = rules; row = s .row; choice = s .choice; needed = s .needed; room = s .room }
+
+abbrev pub withRow : List ℕ → Lent → Lent
+withRow row s = record { n = s .n; d = s .d; rules = s .rules; row = some row; choice = s .choice; needed = s .needed; room = s .room }
+
+abbrev pub withChoice : List ℕ → Lent → Lent
+withChoice choice s = record { n = s .n; d = s .d; rules = s .rules; row = s .row; choice = some choice; needed = s .needed; room = s .room }
+
+abbrev pub withRoom : ℕ → ℕ → Lent → Lent
+withRoom needed room s = record { n = s .n; d = s .d; rules = s .rules; row = s .row; choice = s .choice; needed = needed; room = room }
+
+-- What the calls take, room left out: n and the rules (plain search, the writer of rules); the row and the limit besides (the searches with wishes, rewriting), or without rules (the writer of wishes), or with a given choice and no limit (checking).
+abbrev pub plainProblem : ℕ → List ℤ → Lent
+plainProblem n rules = withRules rules (only n)
+
+abbrev pub problem : ℕ → List ℤ → List ℕ → ℕ → Lent
+problem n rules row d = withLimit d (withRow row (plainProblem n rules))
+
+abbrev pub wishesAlone : ℕ → List ℕ → ℕ → Lent
+wishesAlone n row d = withLimit d (withRow row (only n))
+
+abbrev pub chosenProblem : ℕ → List ℤ → List ℕ → List ℕ → Lent
+chosenProblem n rules row choice = withChoice choice (withRow row (plainProblem n rules))
+
+-- the place of a cause that only a part which the call takes can give
+abbrev pub ofPart : Option (List ℕ) → (List ℕ → Option ℕ) → Option ℕ
+ofPart none f = none
+ofPart (some part) f = f part
+
+-- 14: "n outside 1 to 640, or d above 64"
+abbrev pub outOfRange : ℕ → ℕ → Bool
+outOfRange n d = eqb n 0 || (ltb maxVariables n || ltb maxLimit d)
+
+abbrev pub rangeCause : Lent → Cause
+rangeCause s = record { number = 14; place = placeIf (outOfRange (s .n) (s .d)) 0 }
+
+-- 13: "unsound lent list", at the "first bad index; length if not closed": the rules, the wishes and the choice
+abbrev pub rulesCause : Lent → Cause
+rulesCause s = record { number = 13; place = badRule (s .n) unread 0 (s .rules) }
+
+abbrev pub rowCause : Lent → Cause
+rowCause s = record { number = 13; place = ofPart (s .row) (badWish 0 0) }
+
+abbrev pub choiceCause : Lent → Cause
+choiceCause s = record { number = 13; place = ofPart (s .choice) (badChoice 0) }
+
+-- 11: "wish row or given choice not of length n"
+abbrev pub wrongLength : ℕ → List ℕ → Bool
+wrongLength n part = not (eqb (length part) n)
+
+abbrev pub rowLengthCause : Lent → Cause
+rowLengthCause s = record { number = 11; place = ofPart (s .row) (λ (row : List ℕ). placeIf (wrongLength (s .n) row) 0) }
+
+abbrev pub choiceLengthCause : Lent → Cause
+choiceLengthCause s = record { number = 11; place = ofPart (s .choice) (λ (choice : List ℕ). placeIf (wrongLength (s .n) choice) 0) }
+
+-- 12, for k clauses and m literals: "a call that takes a wish row, even one all free, with n above 256, over 4,096 rules or 16,384 entries"
+abbrev pub oversized : ℕ → ℕ → ℕ → Bool
+oversized n k m = ltb maxWishVariables n || (ltb maxWishClauses k || ltb maxWishLiterals m)
+
+abbrev pub sizeCause : Lent → Cause
+sizeCause s =
+    record { number = 12; place = ofPart (s .row) (λ (row : List ℕ). placeIf (oversized (s .n) (length (clauses (s .rules))) (literals (clauses (s .rules)))) 0) }
+
+-- the causes that what is lent can give, in their order; 15 is not among them
+abbrev pub causes : Lent → List Cause
+causes s =
+    rangeCause s
+    ∷ rulesCause s
+    ∷ rowCause s
+    ∷ choiceCause s
+    ∷ rowLengthCause s
+    ∷ choiceLengthCause s
+    ∷ sizeCause s
+    ∷ []
+
+-- the refusal that they give, if any: without one the call is admitted, and can only lack room
+abbrev pub unadmitted : Lent → Option Refusal
+unadmitted s = firstFound (causes s)
+
+-- the refusal that a call gives for what it was lent, if any: "Last 15"
+abbrev pub refusalOf : Lent → Option Refusal
+refusalOf s = first (unadmitted s ∷ tooShort (s .needed) (s .room) ∷ [])

@@ -1,0 +1,61 @@
+// Rewriting into plain rules: the given rules, then clauses that let at most d wishes be broken. It
+// counts first, then writes, so that a refusal leaves the lent list alone.
+mod leaves;
+
+use admission::Admission;
+use refusal::Refusal;
+use refusal::Verdict;
+ghost use mathlib.Core.Option.{none};
+ghost use mathlib.Core.Path.{_≡_};
+ghost use Prim.Native.Nat.{_≤_};
+ghost use lib.ListN.{length};
+ghost use Rattle.refusal.specs.Reply.{filled};
+ghost use Rattle.causes.specs.Admitted.{Admitted};
+ghost use Rattle.causes.specs.Lent.{problem};
+ghost use Rattle.totalizer.specs.Totalizer.{rewrittenVariables, rewritten};
+ghost use Rattle.encoding.specs.Rewrite.{rewriteReply, rewriteOutput, replyOf, done};
+
+// Refused, or the number of variables and the length of the rewritten list.
+pub enum Rewritten {
+    Refused(Refusal),
+    Done(Sizes),
+}
+
+// The number of variables of a rewritten list, and its length.
+pub struct Sizes {
+    pub variables: usize,
+    pub length: usize,
+}
+
+// Rewrites a rule list of n variables and a wish row with the limit d.
+pub fn rewrite(n: usize, rules: &[i32], row: &[u8], d: usize, out: &mut [i32]) -> Rewritten
+    ensures reply { λ r. ⌜ replyOf r ≡ rewriteReply n (now (rules .entry)) (now (row .entry)) d (length (now (out .entry))) ⌝ }
+    ensures output { λ r. ⌜ now (out .exit) ≡ rewriteOutput n (now (rules .entry)) (now (row .entry)) d (now (out .entry)) ⌝ }
+{
+    match admission::admit_wishes(n, rules, row, d) {
+        Admission::Refused(r) => Rewritten::Refused(r),
+        Admission::Admitted(counts) => {
+            let needed = rules.len() + at_most::length_of(counts.weight, d);
+            match admission::check_room(needed, out.len()) {
+                Verdict::Refuse(r) => Rewritten::Refused(r),
+                Verdict::Pass => write(n, rules, row, d, out),
+            }
+        }
+    }
+}
+
+// Writes the rewritten list where it has room.
+fn write(n: usize, rules: &[i32], row: &[u8], d: usize, out: &mut [i32]) -> Rewritten
+    requires { ⌜ Admitted (problem n (now rules) (now row) d) × (length (rewritten n (now rules) (now row) d) ≤ length (now out)) ⌝ }
+    ensures reply { λ r. ⌜ r ≡ done (rewrittenVariables n (now (row .entry))) (length (rewritten n (now (rules .entry)) (now (row .entry)) d)) ⌝ }
+    ensures output { λ r. ⌜ now (out .exit) ≡ filled none (rewritten n (now (rules .entry)) (now (row .entry)) d) (now (out .entry)) ⌝ }
+{
+    let mut found = leaves::no_leaves();
+    let m = leaves::put_leaves(row, &mut found);
+    let from = list_output::put_all(rules, out, 0);
+    let end = at_most::put_at_most(&found[..m], n, d, out, from);
+    Rewritten::Done(Sizes {
+        variables: end.last,
+        length: end.at,
+    })
+}

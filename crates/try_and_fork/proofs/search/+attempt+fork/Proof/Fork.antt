@@ -1,0 +1,238 @@
+-- The needs of `fork`, at the measure t: it tries the state with the first value, undoes it, and tries the state with the other (`ForkLaws`).
+use mathlib.Core.Path.{_≡_, refl, sym, subst, _∙_}
+use mathlib.Core.List.{List}
+use Prim.Native.Nat.{ℕ}
+use native.Mathlib.Omega.{arith}
+use lib.ListN.{length}
+use borrow.Author.Needs.{needs}
+use Rattle.formula.specs.Formula.{clauses}
+use Rattle.walk.specs.Walk.{Outcome, walkFrom, fork as forkOf}
+use Rattle.propagation.specs.Searching.{Searching}
+use Rattle.try_and_fork.specs.declared.tried.Tried.{Tried}
+use Rattle.try_and_fork.specs.declared.tried.Tried.the-variants.{Found, Nothing}
+use Rattle.try_and_fork.specs.ForkLaws as laws
+use Rattle.try_and_fork.specs.Ready.{Ready, ready-still, long-searching}
+use Rattle.try_and_fork.specs.Tried.{TriedBy}
+use Rattle.try_and_fork.proofs.search.fork.Reads as fork
+use Rattle.try_and_fork.proofs.search.+attempt+fork.Lts-fork as lts
+use Rattle.try_and_fork.proofs.search.+attempt+fork.Proof.Claims.{fork-at, fork-claims}
+
+module _ (t : ℕ) where
+  -- The points of the program: the call; with the first value; after that was tried; undone; with the other value; and after that was tried.
+  abbrev Call : Type 0
+  Call = lts.Start (fork-claims t) (fork-at t) fork.Post
+
+  abbrev First : Type 0
+  First = lts.After-assign-to (fork-claims t) (fork-at t) fork.Post
+
+  abbrev FirstTried : Type 0
+  FirstTried = lts.After-attempt (fork-claims t) (fork-at t) fork.Post
+
+  abbrev Undone : Type 0
+  Undone = lts.After-undo (fork-claims t) (fork-at t) fork.Post
+
+  abbrev Second : Type 0
+  Second = lts.After-assign-to2 (fork-claims t) (fork-at t) fork.Post
+
+  abbrev SecondTried : Type 0
+  SecondTried = lts.After-attempt2 (fork-claims t) (fork-at t) fork.Post
+
+  -- The way back from each.
+  abbrev call : First → Call
+  call c = c .before .before .before .before .before .before .before .before
+
+  abbrev first : FirstTried → First
+  first c = c .before .before .before .before .before .before .before .before .before
+
+  abbrev first-tried : Undone → FirstTried
+  first-tried c = c .before .before .before .before .before .before .before .before .before .before .before .before .before .before
+
+  abbrev undone : Second → Undone
+  undone c = c .before .before .before .before .before
+
+  abbrev second : SecondTried → Second
+  second c = c .before .before .before .before .before .before .before .before .before
+
+  -- the call: n variables, and the walk of which two states are tried
+  module _ (c : Call) where
+    abbrev n : ℕ
+    n = length (c .args .a .now)
+
+    abbrev try : List ℕ → Outcome
+    try = walkFrom (clauses (c .args .list .now)) (c .args .row .now) (c .args .d)
+
+    given : Searching n (c .args .row .now) (c .args .a .now) (c .args .trail .now) (c .args .tally .settled) (c .args .tally .broken)
+    given = c .pre .1 .0
+
+    ready : Ready (c .args .list .now) n (length (c .args .weights .now)) (length (c .args .marks .now))
+    ready = c .pre .1 .1 .0
+
+    forks : laws.Forks n (c .args .row .now) (c .args .a .now) (c .args .trail .now) (c .args .tally) (c .args .v .0) (c .args .value)
+    forks = record { state = given; branch = c .pre .1 .1 .1 .0; bit = c .pre .1 .1 .1 .1 }
+
+  -- the first value
+  module _ (c : First) where
+    first-state : Searching (n (call c)) (call c .args .row .now) (c .assign-to .last .1 .1 .1 .1 .0) (c .assign-to .last .1 .1 .1 .1 .1 .0) (c .assign-to .result .settled) (c .assign-to .result .broken)
+    first-state = laws.first-searching (forks (call c)) (c .assign-to .ensures)
+
+  -- tried
+  module _ (c : FirstTried) where
+    abbrev start : Call
+    start = call (first c)
+
+    abbrev tried-a : List ℕ
+    tried-a = c .attempt .last .1 .1 .1 .1 .0
+
+    abbrev tried-trail : List ℕ
+    tried-trail = c .attempt .last .1 .1 .1 .1 .1 .0
+
+    said : (r : Tried) → c .attempt .result ≡ r
+        → TriedBy (try start (first c .assign-to .last .1 .1 .1 .1 .0)) (first c .assign-to .result .settled) (first c .assign-to .last .1 .1 .1 .1 .1 .0) (first c .assign-to .last .1 .1 .1 .1 .0) tried-trail tried-a r
+    said r e =
+        subst (TriedBy (try start (first c .assign-to .last .1 .1 .1 .1 .0)) (first c .assign-to .result .settled) (first c .assign-to .last .1 .1 .1 .1 .1 .0) (first c .assign-to .last .1 .1 .1 .1 .0) tried-trail tried-a) e
+        (c .attempt .ensures)
+
+    tried-long : length tried-trail ≡ length (start .args .trail .now)
+    tried-long = c .attempt .kept .1 .1 .1 .1 .1 .0 ∙ first c .assign-to .kept .1 .1 .1 .1 .1 .0
+
+  -- nothing was found, and it is undone: the state before the fork again
+  module _ (c : Undone) where
+    abbrev before : Call
+    before = start (first-tried c)
+
+    abbrev forks-before : ℕ
+    forks-before = c .before .before .before .before .before2 .given .0 .0
+
+    undoes : laws.Undone (try before) (n before) (before .args .row .now) (before .args .a .now) (before .args .trail .now) (before .args .tally) (before .args .v .0) (before .args .value) (tried-trail (first-tried c)) (c .undo .last .1 .1 .0) forks-before
+    undoes =
+        laws.first-undone (forks before) (first (first-tried c) .assign-to .ensures) (try before) (tried-trail (first-tried c)) (tried-a (first-tried c)) (c .undo .last .1 .1 .0) forks-before
+        (said (first-tried c) (Nothing forks-before) (c .before .before .before .before .before2 .given .1)) (tried-long (first-tried c)) (c .undo .ensures)
+
+  -- the other value
+  module _ (c : Second) where
+    abbrev origin : Call
+    origin = before (undone c)
+
+    abbrev one : FirstTried
+    one = first-tried (undone c)
+
+    second-state : Searching (n origin) (origin .args .row .now) (c .assign-to2 .last .1 .1 .1 .1 .0) (c .assign-to2 .last .1 .1 .1 .1 .1 .0) (c .assign-to2 .result .settled) (c .assign-to2 .result .broken)
+    second-state = laws.second-searching (undoes (undone c)) (c .assign-to2 .ensures)
+
+  -- tried
+  module _ (c : SecondTried) where
+    abbrev root : Call
+    root = origin (second c)
+
+    abbrev last-a : List ℕ
+    last-a = c .attempt2 .last .1 .1 .1 .1 .0
+
+    abbrev last-trail : List ℕ
+    last-trail = c .attempt2 .last .1 .1 .1 .1 .1 .0
+
+    a-long : length last-a ≡ length (root .args .a .now)
+    a-long = c .attempt2 .kept .1 .1 .1 .1 .0 ∙ second-state (second c) .state .size
+
+    trail-long : length last-trail ≡ length (root .args .trail .now)
+    trail-long = c .attempt2 .kept .1 .1 .1 .1 .1 .0 ∙ second-state (second c) .long ∙ sym (given root .long)
+
+    weights-long : length (c .attempt2 .last .1 .1 .1 .1 .1 .1 .0) ≡ length (root .args .weights .now)
+    weights-long = c .attempt2 .kept .1 .1 .1 .1 .1 .1 .0 ∙ one (second c) .attempt .kept .1 .1 .1 .1 .1 .1 .0
+
+    marks-long : length (c .attempt2 .last .1 .1 .1 .1 .1 .1 .1 .0) ≡ length (root .args .marks .now)
+    marks-long = c .attempt2 .kept .1 .1 .1 .1 .1 .1 .1 .0 ∙ one (second c) .attempt .kept .1 .1 .1 .1 .1 .1 .1 .0
+
+  pub assign-to-requires : lts.Need-assign-to-requires (fork-claims t) (fork-at t) fork.Post
+  assign-to-requires c κs =
+      let call = c .before .before .before .before .before .before .before in
+      let h = given call in
+      let k = forks call .branch in
+      let room = laws.branch-room (forks call) in
+      ((k .above, k .upTo, h .long), (omega (arith, room, ready call .few), omega (arith, h .few, room, ready call .few)))
+
+  pub attempt-requires : lts.Need-attempt-requires (fork-claims t) (fork-at t) fork.Post
+  attempt-requires c κs =
+      let first = c .before .before .before .before .before .before .before .before in
+      let call = call first in (
+        omega (arith, laws.first-fewer (forks call) (first .assign-to .ensures), call .pre .0),
+        (long-searching (first-state first), ready-still (first-state first .state .size) refl refl (ready call)),
+      )
+
+  pub enum-known-broken : lts.Need-enum-known-broken (fork-claims t) (fork-at t) fork.Post
+  enum-known-broken c = search needs
+
+  pub add-forks-requires : lts.Need-add-forks-requires (fork-claims t) (fork-at t) fork.Post
+  add-forks-requires c κs = search needs
+
+  pub enum-known-before : lts.Need-enum-known-before (fork-claims t) (fork-at t) fork.Post
+  enum-known-before c = search needs
+
+  pub undo-requires : lts.Need-undo-requires (fork-claims t) (fork-at t) fork.Post
+  undo-requires c κs =
+      let tried = c .before .before .before .before .before .before .before .before .before .before .before .before .before in
+      tried-long tried ∙ given (start tried) .long ∙ sym (tried .attempt .kept .1 .1 .1 .1 .0 ∙ first-state (first tried) .state .size)
+
+  pub sub-assign-to : lts.Need-sub-assign-to (fork-claims t) (fork-at t) fork.Post
+  sub-assign-to c = omega (arith, forks (before (c .before .before)) .bit)
+
+  pub assign-to-requires-2 : lts.Need-assign-to-requires-2 (fork-claims t) (fork-at t) fork.Post
+  assign-to-requires-2 c κs =
+      let undone = c .before .before .before .before in
+      let call = before undone in
+      let h = undoes undone .state in
+      let k = undoes undone .branch in
+      let room = laws.branch-room (forks call) in
+      ((k .above, omega (arith, k .upTo, h .state .size), h .long ∙ sym (h .state .size)), (omega (arith, room, ready call .few), omega (arith, h .few, room, ready call .few)))
+
+  pub attempt-requires-2 : lts.Need-attempt-requires-2 (fork-claims t) (fork-at t) fork.Post
+  attempt-requires-2 c κs =
+      let second = c .before .before .before .before .before .before .before .before in
+      let call = origin second in
+      let kept = one second .attempt .kept in (
+        omega (arith, laws.second-fewer (undoes (undone second)) (second .assign-to2 .ensures), call .pre .0),
+        (long-searching (second-state second), ready-still (second-state second .state .size) (kept .1 .1 .1 .1 .1 .1 .0) (kept .1 .1 .1 .1 .1 .1 .1 .0) (ready call)),
+      )
+
+  pub with-forks-requires : lts.Need-with-forks-requires (fork-claims t) (fork-at t) fork.Post
+  with-forks-requires c κs = search needs
+
+  pub same-length : lts.Need-same-length (fork-claims t) (fork-at t) fork.Post
+  same-length c = search needs
+
+  pub same-length-2 : lts.Need-same-length-2 (fork-claims t) (fork-at t) fork.Post
+  same-length-2 c = search needs
+
+  pub same-length-3 : lts.Need-same-length-3 (fork-claims t) (fork-at t) fork.Post
+  same-length-3 c = search needs
+
+  pub same-length-4 : lts.Need-same-length-4 (fork-claims t) (fork-at t) fork.Post
+  same-length-4 c = search needs
+
+  -- the first value has the answer
+  pub returns : lts.Need-returns (fork-claims t) (fork-at t) fork.Post
+  returns c =
+      let tried = c .before .before .before .before .before .before .before .before .before .before .before .before in
+      let call = start tried in
+      let found = c .before .before .broken .given in
+      laws.first-found (forks call) (first tried .assign-to .ensures) (try call) (tried-trail tried) (tried-a tried) (found .0 .0) (found .0 .1 .0) (c .add-forks .result)
+      (said tried (Found (found .0 .0) (found .0 .1 .0)) (found .1)) (c .add-forks .ensures)
+
+  pub same-length-5 : lts.Need-same-length-5 (fork-claims t) (fork-at t) fork.Post
+  same-length-5 c = a-long (c .before .before .before .before .before .before .before .before .before)
+
+  pub same-length-6 : lts.Need-same-length-6 (fork-claims t) (fork-at t) fork.Post
+  same-length-6 c = trail-long (c .before .before .before .before .before .before .before .before .before)
+
+  pub same-length-7 : lts.Need-same-length-7 (fork-claims t) (fork-at t) fork.Post
+  same-length-7 c = weights-long (c .before .before .before .before .before .before .before .before .before)
+
+  pub same-length-8 : lts.Need-same-length-8 (fork-claims t) (fork-at t) fork.Post
+  same-length-8 c = marks-long (c .before .before .before .before .before .before .before .before .before)
+
+  -- the other value has it, or neither has
+  pub returns-2 : lts.Need-returns-2 (fork-claims t) (fork-at t) fork.Post
+  returns-2 c =
+      let tried = c .before .before .before .before .before .before .before .before .before in
+      let call = root tried in
+      subst (TriedBy (forkOf (try call) (call .args .a .now) (call .args .v .0) (call .args .value)) (call .args .tally .settled) (call .args .trail .now) (call .args .a .now) (last-trail tried) (last-a tried)) (sym (c .with-forks .ensures))
+      (laws.second-said (undoes (undone (second tried))) (second tried .assign-to2 .ensures) (last-trail tried) (last-a tried) (tried .attempt2 .result) (tried .attempt2 .ensures))
