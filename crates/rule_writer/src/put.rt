@@ -10,11 +10,7 @@ ghost use Rattle.rule_writer.specs.Writing.{element};
 fn separator_of(x: i32) -> u8
     ensures { λ r. ⌜ r ≡ separator x ⌝ }
 {
-    if literal::variable_of(x).0 == 0 {
-        b'\n'
-    } else {
-        b' '
-    }
+    if literal::closes(x) { b'\n' } else { b' ' }
 }
 
 // Puts an element of the list and what follows it.

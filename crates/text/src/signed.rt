@@ -1,4 +1,5 @@
-// Signed numbers.
+// Signed numbers. Here `variable_of` gives the magnitude of any of them: a closing zero has digits too, and
+// no variable is meant.
 use crate::bytes;
 use crate::number;
 ghost use mathlib.Core.Path.{_≡_};
