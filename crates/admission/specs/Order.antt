@@ -10,7 +10,7 @@ use Rattle.wish.specs.Wish.{totalWeight}
 use Rattle.refusal.specs.declared.Refusal.{Refusal}
 use Rattle.refusal.specs.Reply.{refusal, cause, given}
 use Rattle.rule_list.specs.Sound.{SoundList, unread, badRule}
-use Rattle.causes.specs.Lent.{Lent, plainProblem, problem, wishesAlone, chosenProblem, rangeCause, choiceCause, rowLengthCause, choiceLengthCause, sizeCause, oversized}
+use Rattle.causes.specs.Lent.{Lent, plainProblem, wishedProblem, wishesAlone, chosenProblem, rangeCause, choiceCause, rowLengthCause, choiceLengthCause, sizeCause, oversized}
 use Rattle.causes.specs.Sound.{badWish}
 use Rattle.admission.specs.declared.Counts.{Counts}
 use Rattle.admission.specs.declared.Admission.the-variants.{Refused, Admitted}
@@ -65,7 +65,7 @@ module _ (n : ℕ) (rules : List ℤ) (k m : ℕ) (ks : k ≡ length (clauses ru
 -- n, the rules, the row and the limit
 module _ (n : ℕ) (rules : List ℤ) (row : List ℕ) (d : ℕ) where
   abbrev wished : Lent
-  wished = problem n rules row d
+  wished = wishedProblem n rules row d
 
   pub wished-range : (r : Refusal) → given (rangeCause wished) ≡ some r → Refused r ≡ admission wished
   wished-range r e = rw e

@@ -3,8 +3,7 @@ use crate::Admission;
 use refusal::Verdict;
 ghost use mathlib.Core.Path.{_≡_};
 ghost use Rattle.refusal.specs.Reply.{refused, tooShort};
-ghost use Rattle.causes.specs.Lent.{Lent, withRoom};
-ghost use Rattle.admission.specs.Admission.{admission, start};
+ghost use Rattle.admission.specs.Admission.{roomed};
 
 // Whether there is room for all that is needed.
 pub fn check_room(needed: usize, room: usize) -> Verdict
@@ -18,7 +17,7 @@ pub fn check_room(needed: usize, room: usize) -> Verdict
 
 // What was admitted, if there is room besides.
 pub fn with_room(a: Admission, needed: usize, room: usize) -> Admission
-    ensures { λ r. ⌜ ((s : Lent) → a ≡ admission s → r ≡ start (withRoom needed room s)) ⌝ }
+    ensures { λ r. ⌜ r ≡ roomed a needed room ⌝ }
 {
     match a {
         Admission::Refused(r) => Admission::Refused(r),

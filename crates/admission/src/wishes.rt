@@ -6,12 +6,12 @@ use refusal::Refusal;
 use refusal::Verdict;
 use rule_list::RuleScan;
 ghost use mathlib.Core.Path.{_≡_};
-ghost use Rattle.causes.specs.Lent.{problem};
+ghost use Rattle.causes.specs.Lent.{wishedProblem};
 ghost use Rattle.admission.specs.Admission.{admission};
 
 // n, the rules, the row and the limit.
 pub fn admit_wishes(n: usize, rules: &[i32], row: &[u8], d: usize) -> Admission
-    ensures { λ r. ⌜ r ≡ admission (problem n (now (rules .entry)) (now (row .entry)) d) ⌝ }
+    ensures { λ r. ⌜ r ≡ admission (wishedProblem n (now (rules .entry)) (now (row .entry)) d) ⌝ }
 {
     if let Verdict::Refuse(r) = causes::check_range(n, d) {
         return Admission::Refused(r);

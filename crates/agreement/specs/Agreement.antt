@@ -13,7 +13,7 @@ use Rattle.refusal.specs.Laws.{room-enough}
 use Rattle.refusal.specs.Reply.{Reply, unless, tooShort}
 use Rattle.limits.specs.Limits.{maxLimit}
 use Rattle.causes.specs.Admitted.{Admitted, admitted-room}
-use Rattle.causes.specs.Lent.{problem}
+use Rattle.causes.specs.Lent.{wishedProblem}
 use Rattle.walk.specs.Walk.{walk}
 use Rattle.totalizer.specs.Totalizer.{rewrittenVariables}
 use Rattle.searches.specs.Searches.{found, brokenBy}
@@ -43,14 +43,14 @@ module _ (n : ℕ) (choice : List ℕ) (o : Option ℕ) (reply : Reply) (e : rep
   search-found : Answered reply → reply ≡ found o
   search-found u = e ∙ answered-past (tooShort n (length choice)) (found o) (subst Answered e u) .0
 
-module _ (n : ℕ) (rules : List ℤ) (row : List ℕ) (ok : (d : ℕ) → d ≤ maxLimit → Admitted (problem n rules row d)) where
+module _ (n : ℕ) (rules : List ℤ) (row : List ℕ) (ok : (d : ℕ) → d ≤ maxLimit → Admitted (wishedProblem n rules row d)) where
   first-says : (d : ℕ) → d ≤ maxLimit → (choice : List ℕ) → firstRoute n rules row d choice ≡ unless (tooShort n (length choice)) (found (brokenBy (walk n (clauses rules) row d .answer)))
   first-says d h choice =
-      ap (λ (c : Option Refusal). unless c (found (brokenBy (walk n (clauses rules) row d .answer)))) (admitted-room (problem n rules row d) n (length choice) (ok d h))
+      ap (λ (c : Option Refusal). unless c (found (brokenBy (walk n (clauses rules) row d .answer)))) (admitted-room (wishedProblem n rules row d) n (length choice) (ok d h))
 
   nearest-says : (choice : List ℕ) → nearestRoute n rules row choice ≡ unless (tooShort n (length choice)) (found (nearest n rules row))
   nearest-says choice =
-      ap (λ (c : Option Refusal). unless c (found (nearest n rules row))) (admitted-room (problem n rules row 0) n (length choice) (ok 0 (omega arith)))
+      ap (λ (c : Option Refusal). unless c (found (nearest n rules row))) (admitted-room (wishedProblem n rules row 0) n (length choice) (ok 0 (omega arith)))
 
   all-unrefused : (d : ℕ) → d ≤ maxLimit → Unrefused n rules row d
   all-unrefused d h =

@@ -12,7 +12,7 @@ use Rattle.refusal.specs.Reply.{Reply, cause, tooShort, answering, unless}
 use Rattle.limits.specs.Limits.{maxLimit}
 use Rattle.causes.specs.Admitted as lent
 use Rattle.causes.specs.Admitted.{Admitted, at-limit, refused-lent, lent-number}
-use Rattle.causes.specs.Lent.{problem, unadmitted, refusalOf}
+use Rattle.causes.specs.Lent.{wishedProblem, unadmitted, refusalOf}
 use Rattle.totalizer.specs.Totalizer.{rewrittenVariables, rewritten}
 use Rattle.encoding.specs.Rewrite.{lentToRewrite}
 use Rattle.second_route.specs.Routes.{Answered, Passes}
@@ -47,16 +47,16 @@ answered-past (some r) reply h = absurd h
 -- What rewriting admits with one d, every call with wishes admits with every d up to 64.
 module _ (n : ℕ) (rules : List ℤ) (row : List ℕ) where
   -- no cause before 15 has the number 15
-  admitted-with : (d room : ℕ) → Fine (refusalOf (lentToRewrite n rules row d room)) → Admitted (problem n rules row d)
-  admitted-with d room h = go (unadmitted (problem n rules row d)) refl
+  admitted-with : (d room : ℕ) → Fine (refusalOf (lentToRewrite n rules row d room)) → Admitted (wishedProblem n rules row d)
+  admitted-with d room h = go (unadmitted (wishedProblem n rules row d)) refl
     where
-      go : (o : Option Refusal) → unadmitted (problem n rules row d) ≡ o → Admitted (problem n rules row d)
-      go none e = lent.admitted (problem n rules row d) e
+      go : (o : Option Refusal) → unadmitted (wishedProblem n rules row d) ≡ o → Admitted (wishedProblem n rules row d)
+      go none e = lent.admitted (wishedProblem n rules row d) e
       go (some r) e =
-          absurd (lent-number (problem n rules row d) r e .1 (subst Fine (refused-lent (problem n rules row d) (length (rewritten n rules row d)) room r e) h))
+          absurd (lent-number (wishedProblem n rules row d) r e .1 (subst Fine (refused-lent (wishedProblem n rules row d) (length (rewritten n rules row d)) room r e) h))
 
-  pub admitted : Admissible n rules row → (d : ℕ) → d ≤ maxLimit → Admitted (problem n rules row d)
+  pub admitted : Admissible n rules row → (d : ℕ) → d ≤ maxLimit → Admitted (wishedProblem n rules row d)
   admitted a d h =
-      at-limit (problem n rules row (a .d)) d h
+      at-limit (wishedProblem n rules row (a .d)) d h
       (admitted-with (a .d) (a .room)
       (passes-fine (refusalOf (lentToRewrite n rules row (a .d) (a .room))) 1 (rewrittenVariables n row) (length (rewritten n rules row (a .d))) 0 (a .passes)))

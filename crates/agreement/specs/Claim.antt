@@ -68,13 +68,13 @@ module _ (n : ℕ) (rules : List ℤ) (row : List ℕ) where
   abbrev pub FindsNone : ℕ → Type 0
   FindsNone d = (b : Buffers) → Answered (secondRoute n rules row d b) → secondRoute n rules row d b ≡ found none
 
-  -- "Count d up from 0 to the number of wishes", which is what they weigh: k is the first d at which the second route finds
+  -- d is counted up from 0 to what all wishes weigh: k is the first d at which the second route finds
   pub record First (k : ℕ) : Type 0 where
     pub limited : k ≤ totalWeight row
     pub finds : Finds k
     pub before : (d : ℕ) → d < k → FindsNone d
 
-  -- that first d "is the count that nearest returns. The second finds one at no such d exactly when nearest says "none"."
+  -- that first d is the count that nearest returns; the second route finds at no such d exactly when nearest says "none"
   pub record CountsUp (reply : Reply) : Type 0 where
     pub count : (k : ℕ) → (reply ≡ found (some k)) ↔ First k
     pub nothing : (reply ≡ found none) ↔ ((d : ℕ) → d ≤ totalWeight row → FindsNone d)

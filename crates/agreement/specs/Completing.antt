@@ -13,10 +13,10 @@ use Rattle.totalizer.specs.Choice.{choice-take}
 use Rattle.totalizer.specs.Totalizer.{leaves, tree, rewrittenVariables, completion, AllCount}
 use Rattle.totalizer.specs.Theorems as totalizer
 use Rattle.causes.specs.Admitted.{Admitted}
-use Rattle.causes.specs.Lent.{problem}
+use Rattle.causes.specs.Lent.{wishedProblem}
 use Rattle.agreement.specs.Claim.{Completing, Completions}
 
-module _ (n : ℕ) (rules : List ℤ) (row : List ℕ) (d : ℕ) (ok : Admitted (problem n rules row d)) where
+module _ (n : ℕ) (rules : List ℤ) (row : List ℕ) (d : ℕ) (ok : Admitted (wishedProblem n rules row d)) where
   -- a completion that meets every rewritten rule is the totalizer's, of a model within the limit
   says : (a e : List ℕ) → Completing n rules row d a e → Model n (clauses rules) a × (disagreement row a ≤ d) × (e ≡ completion row a)
   says a e c =

@@ -15,7 +15,7 @@ use Rattle.totalizer.specs.Completion.{completion-choice}
 use Rattle.totalizer.specs.Totalizer.{rewrittenVariables, rewritten, completion}
 use Rattle.totalizer.specs.Theorems.{found-within, within-found}
 use Rattle.causes.specs.Admitted.{Admitted}
-use Rattle.causes.specs.Lent.{problem}
+use Rattle.causes.specs.Lent.{wishedProblem}
 use Rattle.searches.specs.Meaning.{search-found, search-none, plain-nothing}
 use Rattle.searches.specs.Searches.{found, brokenBy}
 use Rattle.agreement.specs.Second.{outcome, sound}
@@ -29,7 +29,7 @@ pub data Decided (Holds : Type 0) (most : ℕ) (reply : Reply) : Type 0 where
   yes : (broken : ℕ) → broken ≤ most → reply ≡ found (some broken) → Holds → Decided Holds most reply
   no : reply ≡ found none → (Holds → ⊥) → Decided Holds most reply
 
-module _ (n : ℕ) (rules : List ℤ) (row : List ℕ) (d : ℕ) (ok : Admitted (problem n rules row d)) where
+module _ (n : ℕ) (rules : List ℤ) (row : List ℕ) (d : ℕ) (ok : Admitted (wishedProblem n rules row d)) where
   -- the wish search
   pub search-decides : Decided (Reached n rules row d) d (found (brokenBy (walk n (clauses rules) row d .answer)))
   search-decides = go (walk n (clauses rules) row d .answer) refl

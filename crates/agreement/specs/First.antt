@@ -15,7 +15,7 @@ use Rattle.wish.specs.Wish.{totalWeight}
 use Rattle.distance.specs.Laws.{disagreement-most}
 use Rattle.causes.specs.Laws.{sound-weight}
 use Rattle.causes.specs.Admitted.{Admitted}
-use Rattle.causes.specs.Lent.{problem}
+use Rattle.causes.specs.Lent.{wishedProblem}
 use Rattle.searches.specs.Searches.{found}
 use Rattle.agreement.specs.Claim.{Finds, FindsNone, First, CountsUp}
 use Rattle.agreement.specs.Decided.{Reached, Decided, yes, no, plain-decides}
@@ -49,7 +49,7 @@ module _ (Holds : Type 0) (reply : Reply) where
   no-decided (yes broken h e r) f holds = let z : _≡_ {A = ℕ} 0 1 = cc in absurd (omega arith)
   no-decided (no e r) f holds = r holds
 
-module _ (n : ℕ) (rules : List ℤ) (row : List ℕ) (ok : (d : ℕ) → d ≤ maxLimit → Admitted (problem n rules row d)) where
+module _ (n : ℕ) (rules : List ℤ) (row : List ℕ) (ok : (d : ℕ) → d ≤ maxLimit → Admitted (wishedProblem n rules row d)) where
   -- the second route says whether some choice is within d
   pub second-decides : (d : ℕ) → d ≤ maxLimit → (b : Buffers) → Answered (secondRoute n rules row d b) → Decided (Reached n rules row d) 0 (secondRoute n rules row d b)
   second-decides d h b u =

@@ -13,7 +13,7 @@ use Rattle.refusal.specs.declared.Refusal.{Refusal}
 use Rattle.refusal.specs.Laws.{room-enough}
 use Rattle.refusal.specs.Reply.{Reply, answering, unless, filled, tooShort}
 use Rattle.causes.specs.Admitted.{Admitted, admitted-room, plain-admitted}
-use Rattle.causes.specs.Lent.{plainProblem, problem, refusalOf}
+use Rattle.causes.specs.Lent.{plainProblem, wishedProblem, refusalOf}
 use Rattle.limits.specs.Limits.{maxVariables}
 use Rattle.rule_list.specs.Sound.{SoundList}
 use Rattle.walk.specs.Walk.{plainWalk}
@@ -51,7 +51,7 @@ found-passes (some k) = tt
 abbrev pub outcome : ℕ → List ℤ → List ℕ → ℕ → Reply
 outcome n rules row d = found (brokenBy (plainWalk (rewrittenVariables n row) (clauses (rewritten n rules row d)) .answer))
 
-module _ (n : ℕ) (rules : List ℤ) (row : List ℕ) (d : ℕ) (a : Admitted (problem n rules row d)) where
+module _ (n : ℕ) (rules : List ℤ) (row : List ℕ) (d : ℕ) (a : Admitted (wishedProblem n rules row d)) where
   abbrev N : ℕ
   N = rewrittenVariables n row
 
@@ -98,7 +98,7 @@ module _ (n : ℕ) (rules : List ℤ) (row : List ℕ) (d : ℕ) (a : Admitted (
         let o : Option Refusal = refusalOf (lentToRewrite n rules row d (length (b .rewritten))) in
         on-unless o 1 N (length R) 0 (λ (v variables size z : ℕ). fromWriter b variables (take size (rewriteOutput n rules row d (b .rewritten))))
         ∙ take-filled o R (b .rewritten) (fromWriter b N)
-        ∙ ap (λ (p : Option Refusal). unless p (fromWriter b N R)) (admitted-room (problem n rules row d) (length R) (length (b .rewritten)) a)
+        ∙ ap (λ (p : Option Refusal). unless p (fromWriter b N R)) (admitted-room (wishedProblem n rules row d) (length R) (length (b .rewritten)) a)
 
     -- the whole route: the refusals for want of room, in the order of the calls, and then the answer of plain search
     pub second-says : secondRoute n rules row d b

@@ -1,6 +1,6 @@
 -- What holds of lent values that are admitted: none of the causes before 15 applies to them. Here alone the causes are told apart by their place in the list; all else cites the facts by name.
 use mathlib.Core.Path.{_≡_, refl, ap}
-use mathlib.Core.Bool.{Bool, false, not, _||_}
+use mathlib.Core.Bool.{Bool, not, _||_}
 use mathlib.Core.List.{List, [], _∷_}
 use mathlib.Core.Option.{Option, none, some}
 use Prim.Native.Nat.{ℕ, _≤_, _<_, zero-le}
@@ -16,7 +16,7 @@ use Rattle.refusal.specs.Reply.{placeIf, tooShort}
 use Rattle.limits.specs.Limits.{maxVariables, maxLimit, maxWishVariables, maxWishClauses, maxWishLiterals}
 use Rattle.rule_list.specs.Sound.{SoundList}
 use Rattle.causes.specs.Laws.{in-range}
-use Rattle.causes.specs.Lent.{Lent, plainProblem, withLimit, withRoom, ofPart, outOfRange, wrongLength, oversized, causes, unadmitted, refusalOf}
+use Rattle.causes.specs.Lent.{Lent, plainProblem, wishesAlone, withLimit, withRoom, ofPart, outOfRange, wrongLength, oversized, causes, unadmitted, refusalOf}
 use Rattle.causes.specs.Sound.{badWish, badChoice}
 
 -- what holds of a part, if the call takes it
@@ -33,6 +33,7 @@ pub record Small (n k m : ℕ) : Type 0 where
 abbrev pub SmallProblem : ℕ → List ℤ → Type 0
 SmallProblem n rules = Small n (length (clauses rules)) (literals (clauses rules))
 
+-- "Refusals": what holds of what a call is lent, part by part, where none of its causes before 15 applies
 pub record Admitted (s : Lent) : Type 0 where
   pub positive : 0 < s .n
   pub most : s .n ≤ maxVariables
@@ -176,4 +177,19 @@ plain-admitted n rules p h e =
       longRow = tt;
       longChoice = tt;
       small = tt;
+    }
+
+-- and so are few enough variables with a sound row of their length and a limit, without rules
+pub alone-admitted : (n : ℕ) (row : List ℕ) (d : ℕ) → 0 < n → n ≤ maxWishVariables → d ≤ maxLimit → badWish 0 0 row ≡ none → length row ≡ n → Admitted (wishesAlone n row d)
+alone-admitted n row d p h k e l =
+    record {
+      positive = p;
+      most = omega arith;
+      limited = k;
+      soundRules = refl;
+      soundRow = e;
+      soundChoice = tt;
+      longRow = l;
+      longChoice = tt;
+      small = record { variables = h; few = zero-le; short = zero-le };
     }

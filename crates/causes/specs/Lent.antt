@@ -46,8 +46,8 @@ withRoom needed room s = record { n = s .n; d = s .d; rules = s .rules; row = s 
 abbrev pub plainProblem : ℕ → List ℤ → Lent
 plainProblem n rules = withRules rules (only n)
 
-abbrev pub problem : ℕ → List ℤ → List ℕ → ℕ → Lent
-problem n rules row d = withLimit d (withRow row (plainProblem n rules))
+abbrev pub wishedProblem : ℕ → List ℤ → List ℕ → ℕ → Lent
+wishedProblem n rules row d = withLimit d (withRow row (plainProblem n rules))
 
 abbrev pub wishesAlone : ℕ → List ℕ → ℕ → Lent
 wishesAlone n row d = withLimit d (withRow row (only n))

@@ -1,10 +1,8 @@
--- What the scan of a wish row answers: the first bad index, or how many wishes a sound row has; and what the answer tells of the row.
+-- What the scan of a wish row answers: the first bad index, or what the wishes of a sound row weigh; and what the answer tells of the row.
 use mathlib.Core.Path.{_≡_, refl}
 use mathlib.Core.List.{List}
 use mathlib.Core.Option.{Option, none, some}
 use Prim.Native.Nat.{ℕ}
-use lib.IntN.{ℤ}
-use lib.ListN.{length}
 use Rattle.wish.specs.Wish.{totalWeight}
 use Rattle.causes.specs.declared.row.RowScan.{RowScan}
 use Rattle.causes.specs.declared.row.RowScan.the-variants.{Unsound, Sound}

@@ -9,8 +9,8 @@ pub enum Standing {
     Open(usize),
 }
 
-// A clause of a list: where it ends, how it stands, and the index of its last unassigned literal as far
-// as it was looked at, which in a unit clause is its one unassigned literal.
+// A clause of a list: where it ends, how it stands, and in a unit clause the index of its one unassigned
+// literal; of any other clause `last` says nothing.
 pub struct Reading {
     pub end: usize,
     pub standing: Standing,

@@ -15,7 +15,7 @@ pub fn complete_byte(wish: u8, byte: u8) -> u8
     }
 }
 
-// A variable's value in the completion, 2 where it has none.
+// A variable's value in the completion, 2 where it has none. The number 0 is no variable, so it has none.
 pub fn completed_value(v: Variable, row: &[u8], assignment: &[u8]) -> u8
     ensures { λ r. ⌜ r ≡ value (complete (now (row .entry)) (now (assignment .entry))) (v .0) ⌝ }
 {

@@ -12,7 +12,7 @@ use Rattle.refusal.specs.declared.Verdict.{Verdict}
 use Rattle.refusal.specs.declared.Verdict.the-variants.{Pass, Refuse}
 use Rattle.refusal.specs.Reply.{Reply, refused, refusing, answering, unless, filled, tooShort}
 use Rattle.causes.specs.Laws.{sound-weight}
-use Rattle.causes.specs.Lent.{refusalOf, problem, unadmitted}
+use Rattle.causes.specs.Lent.{refusalOf, wishedProblem, unadmitted}
 use Rattle.limits.specs.Limits.{maxWishes}
 use Rattle.causes.specs.Admitted.{Admitted, admitted, refused-lent, room-decides, unrefused}
 use Rattle.totalizer.specs.Totalizer.{leaves, rewrittenVariables, rewritten}
@@ -22,11 +22,11 @@ use Rattle.encoding.specs.declared.Rewritten.{Rewritten}
 
 module _ (n : ℕ) (rules : List ℤ) (row : List ℕ) (d : ℕ) where
   -- what is admitted has at most 64 leaves
-  pub few-leaves : Admitted (problem n rules row d) → length (leaves row) ≤ maxWishes
+  pub few-leaves : Admitted (wishedProblem n rules row d) → length (leaves row) ≤ maxWishes
   few-leaves a = omega (arith, leaves-length row, sound-weight row (a .soundRow))
 
-  pub few-leaves-weight : unadmitted (problem n rules row d) ≡ none → (w : ℕ) → w ≡ totalWeight row → w ≤ maxWishes
-  few-leaves-weight e w ws = omega (arith, few-leaves (admitted (problem n rules row d) e), leaves-length row)
+  pub few-leaves-weight : unadmitted (wishedProblem n rules row d) ≡ none → (w : ℕ) → w ≡ totalWeight row → w ≤ maxWishes
+  few-leaves-weight e w ws = omega (arith, few-leaves (admitted (wishedProblem n rules row d) e), leaves-length row)
 
   module _ (out : List ℤ) where
     abbrev needed : ℕ
@@ -42,13 +42,13 @@ module _ (n : ℕ) (rules : List ℤ) (row : List ℕ) (d : ℕ) where
     answers reply result o e a = rw e a
 
     -- refused for what was lent
-    pub refused-early : (r : Refusal) → unadmitted (problem n rules row d) ≡ some r
+    pub refused-early : (r : Refusal) → unadmitted (wishedProblem n rules row d) ≡ some r
         → (refusing r ≡ rewriteReply n rules row d (length out)) × (out ≡ rewriteOutput n rules row d out)
-    refused-early r e = answers (refusing r) out (some r) (refused-lent (problem n rules row d) needed (length out) r e) (refl, refl)
+    refused-early r e = answers (refusing r) out (some r) (refused-lent (wishedProblem n rules row d) needed (length out) r e) (refl, refl)
 
-    module _ (ok : unadmitted (problem n rules row d) ≡ none) (h : ℕ) (hs : h ≡ needed) (v : Verdict) (e : refused v ≡ tooShort h (length out)) where
+    module _ (ok : unadmitted (wishedProblem n rules row d) ≡ none) (h : ℕ) (hs : h ≡ needed) (v : Verdict) (e : refused v ≡ tooShort h (length out)) where
       all : refusalOf (lentToRewrite n rules row d (length out)) ≡ refused v
-      all = room-decides (problem n rules row d) needed (length out) ok ∙ sym (e ∙ ap (λ (i : ℕ). tooShort i (length out)) hs)
+      all = room-decides (wishedProblem n rules row d) needed (length out) ok ∙ sym (e ∙ ap (λ (i : ℕ). tooShort i (length out)) hs)
 
       -- refused for want of room
       pub refused-late : (r : Refusal) → v ≡ Refuse r
@@ -60,5 +60,5 @@ module _ (n : ℕ) (rules : List ℤ) (row : List ℕ) (d : ℕ) where
             → (replyOf r ≡ rewriteReply n rules row d (length out)) × (result ≡ rewriteOutput n rules row d out)
         answered r result a b = answers (replyOf r) result none (all ∙ ap refused f) (ap replyOf a, b)
 
-        pub writable : Admitted (problem n rules row d) × (length (rewritten n rules row d) ≤ length out)
-        writable = unrefused (problem n rules row d) needed (length out) (all ∙ ap refused f)
+        pub writable : Admitted (wishedProblem n rules row d) × (length (rewritten n rules row d) ≤ length out)
+        writable = unrefused (wishedProblem n rules row d) needed (length out) (all ∙ ap refused f)

@@ -4,14 +4,14 @@ use Prim.Native.Nat.{ℕ}
 use lib.IntN.{ℤ}
 use lib.ListN.{length}
 use Rattle.refusal.specs.Reply.{Reply, refusing, answering, unless, filled}
-use Rattle.causes.specs.Lent.{Lent, withRoom, problem, refusalOf}
+use Rattle.causes.specs.Lent.{Lent, withRoom, wishedProblem, refusalOf}
 use Rattle.totalizer.specs.Totalizer.{rewrittenVariables, rewritten}
 use Rattle.encoding.specs.declared.Rewritten.{Rewritten}
 use Rattle.encoding.specs.declared.Rewritten.the-variants.{Refused, Done}
 
 -- what is lent to the call: n, the limit d, the rules, the row, and room for so many elements
 abbrev pub lentToRewrite : ℕ → List ℤ → List ℕ → ℕ → ℕ → Lent
-lentToRewrite n rules row d room = withRoom (length (rewritten n rules row d)) room (problem n rules row d)
+lentToRewrite n rules row d room = withRoom (length (rewritten n rules row d)) room (wishedProblem n rules row d)
 
 -- the reply of the call: the number of variables, and the length of the rewritten list
 abbrev pub rewriteReply : ℕ → List ℤ → List ℕ → ℕ → ℕ → Reply

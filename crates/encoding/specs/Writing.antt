@@ -11,7 +11,7 @@ use Rattle.refusal.specs.Reply.{filled}
 use Rattle.limits.specs.Limits.{maxVariables, maxWishes}
 use Rattle.wish.specs.Wish.{totalWeight}
 use Rattle.causes.specs.Admitted.{Admitted}
-use Rattle.causes.specs.Lent.{problem}
+use Rattle.causes.specs.Lent.{wishedProblem}
 use Rattle.soundness.specs.Flat.{flat}
 use Rattle.writing.specs.Wrote.{Wrote, wrote-as, wrote-more, wrote-length, wrote-whole, wrote-front}
 use Rattle.totalizer.specs.Totalizer.{leaves, tree, added, atMost, rewrittenVariables, rewritten}
@@ -34,7 +34,7 @@ pub counted : (n : ℕ) (rules : List ℤ) (row : List ℕ) (d m r : ℕ) → m 
 counted n rules row d m r e f =
     omega (arith, f n (leaves row) (leaves-length row ∙ sym e), length-append rules (flat (atMost n (leaves row) d)))
 
-module _ (n : ℕ) (rules : List ℤ) (row : List ℕ) (d : ℕ) (out : List ℤ) (ok : Admitted (problem n rules row d) × (length (rewritten n rules row d) ≤ length out)) where
+module _ (n : ℕ) (rules : List ℤ) (row : List ℕ) (d : ℕ) (out : List ℤ) (ok : Admitted (wishedProblem n rules row d) × (length (rewritten n rules row d) ≤ length out)) where
   abbrev own : List ℤ → List ℤ
   own l = flat (atMost n l d)
 

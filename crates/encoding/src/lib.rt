@@ -11,7 +11,7 @@ ghost use Prim.Native.Nat.{_≤_};
 ghost use lib.ListN.{length};
 ghost use Rattle.refusal.specs.Reply.{filled};
 ghost use Rattle.causes.specs.Admitted.{Admitted};
-ghost use Rattle.causes.specs.Lent.{problem};
+ghost use Rattle.causes.specs.Lent.{wishedProblem};
 ghost use Rattle.totalizer.specs.Totalizer.{rewrittenVariables, rewritten};
 ghost use Rattle.encoding.specs.Rewrite.{rewriteReply, rewriteOutput, replyOf, done};
 
@@ -46,7 +46,7 @@ pub fn rewrite(n: usize, rules: &[i32], row: &[u8], d: usize, out: &mut [i32]) -
 
 // Writes the rewritten list where it has room.
 fn write(n: usize, rules: &[i32], row: &[u8], d: usize, out: &mut [i32]) -> Rewritten
-    requires { ⌜ Admitted (problem n (now rules) (now row) d) × (length (rewritten n (now rules) (now row) d) ≤ length (now out)) ⌝ }
+    requires { ⌜ Admitted (wishedProblem n (now rules) (now row) d) × (length (rewritten n (now rules) (now row) d) ≤ length (now out)) ⌝ }
     ensures reply { λ r. ⌜ r ≡ done (rewrittenVariables n (now (row .entry))) (length (rewritten n (now (rules .entry)) (now (row .entry)) d)) ⌝ }
     ensures output { λ r. ⌜ now (out .exit) ≡ filled none (rewritten n (now (rules .entry)) (now (row .entry)) d) (now (out .entry)) ⌝ }
 {

@@ -11,7 +11,8 @@ pub struct Variable(pub usize);
 // A clause's number, from 1 (document 01: a rule).
 pub struct Clause(pub usize);
 
-// The variable of a literal. The detour over i64 takes in the least i32, whose magnitude no i32 has.
+// The variable of a literal, or the magnitude of any number: a closing zero gives 0, which is no variable,
+// and who may meet one asks `closes`. The detour over i64 takes in the least i32, whose magnitude no i32 has.
 pub fn variable_of(x: i32) -> Variable
     ensures { λ r. ⌜ r .0 ≡ variable x ⌝ }
 {
@@ -46,7 +47,7 @@ pub fn literal_of(v: Variable, positive: bool) -> i32
     if positive { x } else { -x }
 }
 
-// A variable's value in an assignment, 2 where it has none.
+// A variable's value in an assignment, 2 where it has none. The number 0 is no variable, so it has none.
 pub fn value_of(v: Variable, assignment: &[u8]) -> u8
     ensures { λ r. ⌜ r ≡ value (now (assignment .entry)) (v .0) ⌝ }
 {

@@ -26,8 +26,8 @@ pub fn search(n: usize, rules: &[i32], row: &[u8], choice: &mut [u8]) -> Searche
     }
 }
 
-// Walks with the limits 0, 1, .. until one finds an answer. No choice breaks more wishes than there
-// are, so their number is the last limit.
+// Walks with the limits 0, 1, .. until one finds an answer. No choice breaks more than all wishes weigh,
+// so that is the last limit.
 fn climb(n: usize, rules: &[i32], row: &[u8], last: usize, choice: &mut [u8]) -> Searched
     requires { ⌜ Startable n (now rules) (length (now choice)) × (last ≡ totalWeight (now row)) ⌝ }
     ensures answer { λ r. ⌜ r ≡ searchedOf (brokenBy (nearestWalk n (clauses (now (rules .entry))) (now (row .entry)))) ⌝ }

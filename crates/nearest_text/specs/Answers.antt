@@ -12,7 +12,7 @@ use Rattle.distance.specs.Distance.{nearest}
 use Rattle.refusal.specs.declared.Refusal.{Refusal}
 use Rattle.refusal.specs.Reply.{Reply, refusing, answering, unless}
 use Rattle.causes.specs.Admitted.{Admitted}
-use Rattle.causes.specs.Lent.{problem, refusalOf}
+use Rattle.causes.specs.Lent.{wishedProblem, refusalOf}
 use Rattle.walk.specs.Promises.{Closest}
 use Rattle.walk.specs.Walk.{Answer, nearestWalk}
 use Rattle.searches.specs.Meaning as meaning
@@ -31,7 +31,7 @@ module _ (n : ℕ) (rules : List ℤ) (row : List ℕ) where
     abbrev off : List ℕ
     off = replicate n 0
 
-    admitted : Admitted (problem n rules row 0)
+    admitted : Admitted (wishedProblem n rules row 0)
     admitted = unrefused n rules row 0 n n e
 
     broken-is : brokenBy (nearestWalk n (clauses rules) row) ≡ nearest n rules row

@@ -30,7 +30,7 @@ isSome none = false
 isSome (some k) = true
 
 -- there is no opposed clause, or one begins at i and the shortest is not before it
-abbrev pub IsFirst : List ℕ → List ℕ → List ℤ → Begins → Type 0
-IsFirst row a l W.Nothing = shortest row a (clauses l) ≡ none
-IsFirst row a l (W.At i) =
+abbrev pub KeepsShortest : List ℕ → List ℕ → List ℤ → Begins → Type 0
+KeepsShortest row a l W.Nothing = shortest row a (clauses l) ≡ none
+KeepsShortest row a l (W.At i) =
     (i < length l) × (isOpposed row a (clauseAt i l) ≡ true) × (shortest row a (clauses l) ≡ shortest row a (clauses (drop i l)))

@@ -1,7 +1,7 @@
 // How many unassigned literals the shortest opposed clause has.
 use crate::pair::unassigned_in;
 use crate::shortest::Begins;
-use crate::shortest::first_opposed;
+use crate::shortest::find_opposed;
 use crate::shortest::shortest_opposed;
 ghost use mathlib.Core.Path.{_≡_};
 ghost use Rattle.formula.specs.Formula.{clauses};
@@ -18,7 +18,7 @@ pub enum Fewest {
 pub fn fewest_opposed(list: &[i32], row: &[u8], assignment: &[u8]) -> Fewest
     ensures { λ r. ⌜ sizeOf r ≡ fewest (now (row .entry)) (now (assignment .entry)) (clauses (now (list .entry))) ⌝ }
 {
-    match first_opposed(list, row, assignment) {
+    match find_opposed(list, row, assignment) {
         Begins::Nothing => Fewest::Nothing,
         Begins::At(from) => {
             let shortest = shortest_opposed(list, from, row, assignment);

@@ -9,17 +9,17 @@ ghost use lib.ListN.{length, drop};
 ghost use Rattle.formula.specs.Formula.{clauses};
 ghost use Rattle.walk.specs.Branching.{isOpposed, shortest};
 ghost use Rattle.clause_standing.specs.Clause.{clauseAt};
-ghost use Rattle.opposed.specs.Opposed.{IsFirst};
+ghost use Rattle.opposed.specs.Opposed.{KeepsShortest};
 
-// Where the first opposed clause begins, if there is one.
+// Where an opposed clause begins, if there is one.
 pub enum Begins {
     At(usize),
     Nothing,
 }
 
 // Goes through the list until a clause is opposed.
-pub fn first_opposed(list: &[i32], row: &[u8], assignment: &[u8]) -> Begins
-    ensures { λ r. ⌜ IsFirst (now (row .entry)) (now (assignment .entry)) (now (list .entry)) r ⌝ }
+pub fn find_opposed(list: &[i32], row: &[u8], assignment: &[u8]) -> Begins
+    ensures { λ r. ⌜ KeepsShortest (now (row .entry)) (now (assignment .entry)) (now (list .entry)) r ⌝ }
 {
     let mut from = 0;
     while from < list.len() {
@@ -32,7 +32,7 @@ pub fn first_opposed(list: &[i32], row: &[u8], assignment: &[u8]) -> Begins
     Begins::Nothing
 }
 
-// The shortest opposed clause, handed back as itself, given where the first one begins.
+// The shortest opposed clause, handed back as itself, given where one begins that it is not before.
 pub fn shortest_opposed<'a>(
     list: &'a [i32],
     first: usize,

@@ -24,12 +24,13 @@ use Rattle.pick.specs.declared.Pick.the-variants.{DeadEnd, Branch}
 abbrev pub variable : ℕ → Variable
 variable v = record { 0 = v }
 
--- a dead end where no wish more may be broken, else the branching variable and its first value
+-- "it is a dead end" (step 3), else the branching variable (step 4) and the value that is tried first (step 5)
 abbrev pub picked : Bool → List ℕ → Option ℕ → Option ℕ → Pick
 picked true row size v = DeadEnd
 picked false row size none = DeadEnd
 picked false row size (some v) = Branch (variable v) (firstValue row size v)
 
+-- what steps 3 to 5 say of a state
 abbrev pub pickOf : List (List ℤ) → List ℕ → ℕ → List ℕ → Pick
 pickOf f row d a = picked (isExhausted f row d a) row (fewest row a f) (branchingVariable row a f)
 

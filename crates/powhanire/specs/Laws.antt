@@ -1,5 +1,5 @@
--- How an export answers what the call below it replied.
-use mathlib.Core.Path.{_≡_, ap, sym, subst, _∙_}
+-- What the numbers of an export mean.
+use mathlib.Core.Path.{_≡_, sym, subst}
 use mathlib.Core.Bool.{true≢false}
 use native.Mathlib.Omega.{arith}
 use Rattle.refusal.specs.declared.Refusal.{Refusal}
@@ -11,11 +11,6 @@ use Rattle.answers.specs.declared.numbers.Answer.{Answer}
 use Rattle.answers.specs.Answers.{answerOf}
 use Rattle.powhanire.specs.Meaning.{NumbersMean}
 use Rattle.powhanire.specs.Replies.{Told}
-
--- the answer x of a call is the variant y, the export gives y's numbers, and x's reply is known
-module _ {A : Type 0} (reply-of : A → Reply) where
-  pub passed-on : {x y : A} {a : Answer} {reply : Reply} → x ≡ y → a ≡ answerOf (reply-of y) → reply-of x ≡ reply → a ≡ answerOf reply
-  passed-on e given replied = given ∙ ap (λ (z : A). answerOf (reply-of z)) (sym e) ∙ ap answerOf replied
 
 -- what a search's answer means, its numbers say
 module _ {Means : Searched → Type 0} where

@@ -9,11 +9,11 @@ use Rattle.refusal.specs.declared.Refusal.{Refusal}
 use Rattle.refusal.specs.Laws.{room-enough}
 use Rattle.causes.specs.Admitted as lent
 use Rattle.causes.specs.Admitted.{Admitted, admitted, refused-lent, room-decides}
-use Rattle.causes.specs.Lent.{Lent, problem, withRoom, unadmitted, refusalOf}
+use Rattle.causes.specs.Lent.{Lent, wishedProblem, withRoom, unadmitted, refusalOf}
 
 module _ (n : ℕ) (rules : List ℤ) (row : List ℕ) (d : ℕ) where
   abbrev s : Lent
-  s = problem n rules row d
+  s = wishedProblem n rules row d
 
   -- room for whatever is admitted is as good as room for just the output
   pub enough : (needed room : ℕ) → (Admitted s → needed ≤ room) → refusalOf (withRoom needed room s) ≡ refusalOf (withRoom needed needed s)

@@ -10,7 +10,7 @@ use lib.IntN.{ℤ}
 use lib.ListN.{length, take}
 use Rattle.refusal.specs.declared.Refusal.{Refusal}
 use Rattle.refusal.specs.Reply.{refusing, answering, cause, unless, tooShort, filled}
-use Rattle.causes.specs.Lent.{refusalOf, plainProblem, problem}
+use Rattle.causes.specs.Lent.{refusalOf, plainProblem, wishedProblem}
 use Rattle.causes.specs.Admitted.{Admitted, admitted-room, plain-admitted}
 use Rattle.limits.specs.Limits.{maxVariables}
 use Rattle.rule_list.specs.Sound.{unread, badRule, SoundList}
@@ -56,7 +56,7 @@ module _ (n : ℕ) (rules : List ℤ) (row : List ℕ) (d : ℕ) where
   abbrev text : Option Refusal → List ℕ
   text o = unlessRefused o (written N R)
 
-  admitted-sound : Admitted (problem n rules row d) → SoundList N R
+  admitted-sound : Admitted (wishedProblem n rules row d) → SoundList N R
   admitted-sound a = rewritten-sound n rules row d (a .soundRules) (a .longRow) (a .soundRow) (a .small .few) (a .small .short)
 
   module _ (blank : List ℤ) (room : 40000 ≤ length blank) where
@@ -86,7 +86,7 @@ module _ (n : ℕ) (rules : List ℤ) (row : List ℕ) (d : ℕ) where
             → Rewrote v k result
         go (some q) g h i = absurd (let z : _≡_ {A = ℕ} 0 1 = cc in omega arith)
         go none g h i =
-            let a : Admitted (problem n rules row d) = unrefused n rules row d (length R) (length blank) g in
+            let a : Admitted (wishedProblem n rules row d) = unrefused n rules row d (length R) (length blank) g in
             let v-is : N ≡ v = cc in
             let k-is : length R ≡ k = cc in
             let here = front R blank result k k-is i in

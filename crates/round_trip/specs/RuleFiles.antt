@@ -1,6 +1,5 @@
 -- The rule file's two calls, the reader first (document 01, "The rule file"): "a file in the writer's form, read and written, is that file".
-use mathlib.Core.Path.{_≡_, refl, ap}
-use mathlib.Core.Bool.{false}
+use mathlib.Core.Path.{_≡_, refl, ap, _∙_}
 use mathlib.Core.List.{List, _++_}
 use mathlib.Core.Option.{Option, none, some}
 use Prim.Native.Nat.{ℕ, _≤_}
@@ -8,11 +7,11 @@ use native.Mathlib.Omega.{arith}
 use lib.IntN.{ℤ}
 use lib.ListN.{length, take, drop}
 use lib.Seq.{take-append-seam}
-use borrow.Author.Tests.{le-ltb, ne-eqb}
 use Rattle.refusal.specs.declared.Refusal.{Refusal}
 use Rattle.refusal.specs.Reply.{answering, unless, tooShort, filled}
-use Rattle.causes.specs.Lent.{refusalOf, outOfRange}
-use Rattle.limits.specs.Limits.{maxVariables}
+use Rattle.refusal.specs.Laws.{room-enough}
+use Rattle.causes.specs.Lent.{plainProblem, refusalOf}
+use Rattle.causes.specs.Admitted.{plain-admitted, admitted-room}
 use Rattle.dimacs.specs.Accepted.{accepted, written-read}
 use Rattle.dimacs.specs.Format.{Reading, refuses, gives, reading}
 use Rattle.dimacs.specs.Written.{written}
@@ -37,9 +36,9 @@ module _ (file out : List ℕ) where
     unrefused : refusalOf (lentToWrite n l (length out)) ≡ none
     unrefused =
         let a = accepted file n c l read in
-        let range : outOfRange n 0 ≡ false = rw (ne-eqb n 0 (λ z. omega (arith, a .least)), le-ltb maxVariables n (a .most)) in
         let space : length (written n l) ≤ length out = omega (arith, ap length form) in
-        rw (range, a .sound, le-ltb (length out) (length (written n l)) space)
+        admitted-room (plainProblem n l) (length (written n l)) (length out) (plain-admitted n l (a .least) (a .most) (a .sound))
+        ∙ room-enough (length (written n l)) (length out) space
 
     writes : WritesFile n l
     writes = rw (unrefused) (

@@ -1,18 +1,16 @@
 -- The wish file's two calls, the reader first (document 01, "The wish file"). Every accepted file is in the writer's form, so each, read and written, is that file.
 use mathlib.Core.Path.{_≡_, refl, sym, ap, _∙_}
-use mathlib.Core.Bool.{true, false}
 use mathlib.Core.List.{List, _++_}
 use mathlib.Core.Option.{Option, none, some}
 use Prim.Native.Nat.{ℕ, _≤_}
 use native.Mathlib.Omega.{arith}
-use lib.Dec.{eqb}
 use lib.ListN.{length, take, drop}
 use lib.Seq.{take-at}
-use borrow.Author.Tests.{le-ltb, ne-eqb, eq-eqb}
 use Rattle.refusal.specs.declared.Refusal.{Refusal}
 use Rattle.refusal.specs.Reply.{answering, unless, tooShort, filled}
-use Rattle.causes.specs.Lent.{refusalOf, outOfRange}
-use Rattle.limits.specs.Limits.{maxVariables, maxWishVariables, maxLimit}
+use Rattle.refusal.specs.Laws.{room-enough}
+use Rattle.causes.specs.Lent.{wishesAlone, refusalOf}
+use Rattle.causes.specs.Admitted.{alone-admitted, admitted-room}
 use Rattle.wish_file.specs.Format.{Reading, refuses, gives, written, reading}
 use Rattle.wish_file.specs.RoundTrip.{Accepted, accepted}
 use Rattle.wish_writer.specs.Write.{lentToWrite, writeReply, writeOutput}
@@ -35,10 +33,9 @@ module _ (file out : List ℕ) where
   module _ (room : length file ≤ length out) (n m d : ℕ) (row : List ℕ) (a : Accepted file n m d row) where
     unrefused : refusalOf (lentToWrite n row d (length out)) ≡ none
     unrefused =
-        let range : outOfRange n d ≡ false = rw (ne-eqb n 0 (λ z. omega (arith, a .least)), le-ltb maxVariables n (omega (arith, a .most)), le-ltb maxLimit d (a .limit)) in
-        let long : eqb (length row) n ≡ true = eq-eqb (length row) n (a .size) in
         let space : length (written n row d) ≤ length out = omega (arith, ap length (a .same)) in
-        rw (range, a .sound, long, le-ltb maxWishVariables n (a .most), le-ltb (length out) (length (written n row d)) space)
+        admitted-room (wishesAlone n row d) (length (written n row d)) (length out) (alone-admitted n row d (a .least) (a .most) (a .limit) (a .sound) (a .size))
+        ∙ room-enough (length (written n row d)) (length out) space
 
     writes : WritesFile n row d
     writes = rw (unrefused) (

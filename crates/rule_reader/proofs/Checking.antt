@@ -23,7 +23,8 @@ use Rattle.rule_tokens.specs.Laws.{Good, token-end, token-bad, token-good, held
 use Rattle.rule_tokens.specs.NextToken.{nextOf}
 use borrow.Author.Tests.{eqb-true, eqb-false}
 use Rattle.rule_reader.specs.declared.tokens.Check as C
-use Rattle.rule_reader.specs.Laws.{faultOf, checkAs, open-clause, room-left, refused-malformed, refused-fault, accepted-zero, refused-twice, accepted-literal}
+use Rattle.rule_reader.specs.Passes.{faultOf, checkAs}
+use Rattle.rule_reader.specs.Laws.{open-clause, room-left, refused-malformed, refused-fault, accepted-zero, refused-twice, accepted-literal}
 
 -- the answer for a file of n variables and c clauses whose tokens begin at a place
 abbrev pub answer : ℕ → ℕ → List ℕ → ℕ → C.Check

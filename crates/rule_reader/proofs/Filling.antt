@@ -16,7 +16,7 @@ use Rattle.dimacs.specs.Tokens.{Token, tokensFrom}
 use Rattle.rule_tokens.specs.declared.NextToken as T
 use Rattle.rule_tokens.specs.Laws.{Good, token-end, token-bad, token-good}
 use Rattle.rule_tokens.specs.NextToken.{nextOf}
-use Rattle.rule_reader.specs.Laws.{isSome, readable}
+use Rattle.rule_reader.specs.Passes.{isSome, readable}
 use Rattle.rule_reader.proofs.Checking.{number-held}
 
 -- With the numbers of the tokens still to come, the list is what it is to be.

@@ -20,7 +20,7 @@ use Rattle.dimacs.specs.Tokens.{Token, tokensFrom}
 use Rattle.rule_header.specs.declared.ReadHeader as H
 use Rattle.rule_header.specs.Header.{headerAs}
 use Rattle.rule_reader.specs.declared.tokens.Check as C
-use Rattle.rule_reader.specs.Laws.{checkAs}
+use Rattle.rule_reader.specs.Passes.{checkAs}
 use Rattle.rule_reader.specs.Read.{replying, leaving}
 
 -- the reading of the tokens from a place on

@@ -3,10 +3,10 @@ use mathlib.Core.Path.{_≡_, refl, sym, ap, _∙_}
 use mathlib.Core.Bool.{Bool, true, false, cond, not, _&&_}
 use mathlib.Core.List.{List, [], _∷_}
 use mathlib.Core.Option.{Option, none, some, Option·getD, Option·some-ne-none}
-use Prim.Native.Nat.{ℕ, suc, _+_, _≤_, _<_}
+use Prim.Native.Nat.{ℕ, _+_, _≤_, _<_}
 use native.Mathlib.Numerals.{add-one}
 use native.Mathlib.Omega.{arith}
-use lib.Dec.{eqb, ltb, leb}
+use lib.Dec.{ltb, leb}
 use lib.IntN.{ℤ, pos}
 use borrow.Author.Tests.{le-ltb, lt-leb, eqb-true, leb-false, ltb-false}
 use Rattle.literal.specs.Literal.{variable, closes}
@@ -18,17 +18,7 @@ use Rattle.rule_list.specs.Laws.{scan}
 use Rattle.rule_list.specs.Sound.{Scan, mayJoin, after}
 use Rattle.dimacs.specs.Format.{signed, element, badToken, badTokens}
 use Rattle.dimacs.specs.Tokens.{Token}
-use Rattle.rule_reader.specs.declared.tokens.Check as C
-use Rattle.rule_reader.specs.declared.tokens.Check.{Check}
-
--- the causes 6, 7 and 4 of a number of the list, in their order; 0 without one
-abbrev pub faultOf : ℕ → ℕ → ℕ → ℕ → ℤ → ℕ
-faultOf n count clauses literals x =
-    cond (leb count clauses) 6 (cond (closes x) 0 (cond (leb maxLiterals literals) 7 (cond (ltb n (variable x)) 4 0)))
-
-abbrev pub checkAs : Option Refusal → ℕ → Check
-checkAs none k = C.the-variants.Good k
-checkAs (some r) k = C.the-variants.Refused r
+use Rattle.rule_reader.specs.Passes.{faultOf, isSome, readable}
 
 -- what no fault tells
 pub open-clause : (n c k m : ℕ) (x : ℤ) → faultOf n c k m x ≡ 0 → k < c
@@ -113,16 +103,7 @@ module _ (n c size k m : ℕ) (clause : List ℤ) (place : ℕ) (bytes : List �
             let next : after (scan k m clause) x ≡ scan k (m + 1) (x ∷ clause) = rw (z) (ap (λ (i : ℕ). scan k i (x ∷ clause)) (sym (add-one m))) in
             leads none (joins true j) ∙ goes-on (scan k (m + 1) (x ∷ clause)) next
 
--- every token is well formed
-abbrev pub isSome : Option ℤ → Bool
-isSome none = false
-isSome (some x) = true
-
-abbrev pub readable : List Token → Bool
-readable [] = true
-readable (t ∷ ts) = isSome (signed (t .bytes)) && readable ts
-
--- so are those of a good file
+-- the tokens of a good file are well formed
 first-passed : (o p : Option Refusal) → first (o ∷ p ∷ []) ≡ none → (o ≡ none) × (p ≡ none)
 first-passed none none e = (refl, refl)
 first-passed none (some r) e = absurd (Option·some-ne-none r e)

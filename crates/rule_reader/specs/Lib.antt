@@ -1,4 +1,5 @@
 pub mod Answers
 pub mod Exact
 pub mod Laws
+pub mod Passes
 pub mod Read

@@ -8,7 +8,7 @@ ghost use lib.ListN.{length};
 ghost use lib.Seq.{sets};
 ghost use Rattle.dimacs.specs.Format.{element};
 ghost use Rattle.dimacs.specs.Tokens.{tokensFrom};
-ghost use Rattle.rule_reader.specs.Laws.{readable};
+ghost use Rattle.rule_reader.specs.Passes.{readable};
 
 // Fills a list with the numbers of the tokens from a place on, which are all well formed.
 pub fn fill_rules(file: &[u8], from: usize, rules: &mut [i32])

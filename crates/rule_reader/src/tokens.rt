@@ -13,7 +13,7 @@ ghost use Rattle.refusal.specs.Reply.{cause};
 ghost use Rattle.rule_list.specs.Sound.{unread};
 ghost use Rattle.dimacs.specs.Format.{badTokens};
 ghost use Rattle.dimacs.specs.Tokens.{tokensFrom};
-ghost use Rattle.rule_reader.specs.Laws.{faultOf, checkAs};
+ghost use Rattle.rule_reader.specs.Passes.{faultOf, checkAs};
 
 // Refused, or how many numbers the list has.
 pub enum Check {

@@ -8,15 +8,11 @@ use lib.IntN.{ℤ}
 use lib.ListN.{length, drop}
 use borrow.Author.Tests.{lt-ltb, le-ltb}
 use Rattle.refusal.specs.declared.Refusal.{Refusal}
-use Rattle.refusal.specs.Reply.{Reply, refusal, refusing, answering, unless, tooShort, filled}
+use Rattle.refusal.specs.Reply.{Reply, refusal, refusing, answering, unless, filled}
 use Rattle.causes.specs.Lent.{refusalOf, plainProblem, unadmitted}
 use Rattle.dimacs.specs.Written.{written}
 use Rattle.causes.specs.Admitted.{refused-lent, room-decides}
-use Rattle.rule_writer.specs.Write.{lentToWrite}
-
--- the last cause, of an output that has no room
-abbrev pub short : List ℕ → List ℕ → Option Refusal
-short w out = tooShort (length w) (length out)
+use Rattle.rule_writer.specs.Write.{lentToWrite, short}
 
 -- the answer and the output without room for the file w, and with it
 module _ (w out : List ℕ) (k : ℕ) (size : k ≡ length w) where

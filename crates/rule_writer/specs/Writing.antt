@@ -3,23 +3,19 @@ use mathlib.Core.Path.{_≡_, sym, ap, _∙_}
 use mathlib.Core.List.{List, [], _∷_, _++_, append-assoc}
 use Prim.Native.Nat.{ℕ, _+_, _≤_, _<_}
 use native.Mathlib.Numerals.{add-one}
-use native.Mathlib.Omega.{arith}
 use lib.IntN.{ℤ, pos}
 use lib.ListN.{length, getD, drop, length-append, drop-of-length-le}
 use lib.Seq.{drop-cons}
 use Rattle.formula.specs.Formula.{clauses}
 use Rattle.text.specs.Text.{numeral}
 use Rattle.dimacs.specs.Written.{separator, body, headerText, written}
+use Rattle.rule_writer.specs.Write.{elementText}
 
--- an element of the list and what follows it
-abbrev pub element : ℤ → List ℕ
-element x = numeral x ++ separator x ∷ []
-
-pub element-size : (x : ℤ) → length (element x) ≡ length (numeral x) + 1
+pub element-size : (x : ℤ) → length (elementText x) ≡ length (numeral x) + 1
 element-size x = length-append (numeral x) (separator x ∷ [])
 
 -- what is left of a list to write: an element and the rest, or nothing
-pub body-split : (l : List ℤ) (i : ℕ) → i < length l → body (drop i l) ≡ element (getD l i (pos 0)) ++ body (drop (i + 1) l)
+pub body-split : (l : List ℤ) (i : ℕ) → i < length l → body (drop i l) ≡ elementText (getD l i (pos 0)) ++ body (drop (i + 1) l)
 body-split l i h =
     let x : ℤ = getD l i (pos 0) in
     let rest : List ℕ = body (drop (i + 1) l) in
@@ -27,9 +23,9 @@ body-split l i h =
     split ∙ sym (append-assoc (numeral x) (separator x ∷ []) rest)
 
 pub body-length-step : (l : List ℤ) (i : ℕ) → i < length l
-    → length (body (drop i l)) ≡ length (element (getD l i (pos 0))) + length (body (drop (i + 1) l))
+    → length (body (drop i l)) ≡ length (elementText (getD l i (pos 0))) + length (body (drop (i + 1) l))
 body-length-step l i h =
-    ap length (body-split l i h) ∙ length-append (element (getD l i (pos 0))) (body (drop (i + 1) l))
+    ap length (body-split l i h) ∙ length-append (elementText (getD l i (pos 0))) (body (drop (i + 1) l))
 
 pub body-past : (l : List ℤ) (i : ℕ) → length l ≤ i → body (drop i l) ≡ []
 body-past l i h = rw (drop-of-length-le l h)

@@ -3,11 +3,11 @@ ghost use mathlib.Core.Path.{_≡_};
 ghost use Prim.Native.Nat.{_+_, _≤_};
 ghost use lib.ListN.{length};
 ghost use Rattle.dimacs.specs.Written.{body, headerText};
-ghost use Rattle.rule_writer.specs.Writing.{element};
+ghost use Rattle.rule_writer.specs.Write.{elementText};
 
 // How many bytes an element of the list takes, with the space or line feed after it.
 pub fn element_length(x: i32) -> usize
-    ensures { λ r. ⌜ (r ≡ length (element x)) × (r ≤ 12) ⌝ }
+    ensures { λ r. ⌜ (r ≡ length (elementText x)) × (r ≤ 12) ⌝ }
 {
     text::signed_length(x) + 1
 }

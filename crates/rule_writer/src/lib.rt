@@ -10,8 +10,7 @@ ghost use lib.ListN.{length};
 ghost use Rattle.formula.specs.Formula.{clauses};
 ghost use Rattle.refusal.specs.Reply.{answering, unless, filled};
 ghost use Rattle.dimacs.specs.Written.{written};
-ghost use Rattle.rule_writer.specs.Laws.{short};
-ghost use Rattle.rule_writer.specs.Write.{writeReply, writeOutput, replyOf};
+ghost use Rattle.rule_writer.specs.Write.{writeReply, writeOutput, replyOf, short};
 
 // Refused, or the file's length.
 pub enum WrittenRules {

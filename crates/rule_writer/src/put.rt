@@ -4,7 +4,7 @@ ghost use Prim.Native.Nat.{_+_, _≤_};
 ghost use lib.ListN.{length};
 ghost use Rattle.writing.specs.Wrote.{Wrote};
 ghost use Rattle.dimacs.specs.Written.{separator, body, headerText};
-ghost use Rattle.rule_writer.specs.Writing.{element};
+ghost use Rattle.rule_writer.specs.Write.{elementText};
 
 // What follows a number of the list: a line feed after 0, else a space.
 fn separator_of(x: i32) -> u8
@@ -15,8 +15,8 @@ fn separator_of(x: i32) -> u8
 
 // Puts an element of the list and what follows it.
 fn put_element(x: i32, out: &mut [u8], at: usize) -> usize
-    requires { ⌜ at + length (element x) ≤ length (now out) ⌝ }
-    ensures { λ r. ⌜ Wrote (element x) (now (out .entry)) at (now (out .exit)) r ⌝ }
+    requires { ⌜ at + length (elementText x) ≤ length (now out) ⌝ }
+    ensures { λ r. ⌜ Wrote (elementText x) (now (out .entry)) at (now (out .exit)) r ⌝ }
 {
     let end = text::put_signed(x, out, at);
     text::put_byte(separator_of(x), out, end)

@@ -8,7 +8,7 @@ use Rattle.formula.specs.Formula.{clauses}
 use Rattle.distance.specs.Distance.{nearest}
 use Rattle.refusal.specs.declared.Refusal.{Refusal}
 use Rattle.refusal.specs.Reply.{Reply, answering, unless}
-use Rattle.causes.specs.Lent.{Lent, withRoom, plainProblem, problem, refusalOf}
+use Rattle.causes.specs.Lent.{Lent, withRoom, plainProblem, wishedProblem, refusalOf}
 use Rattle.walk.specs.Walk.{Answer, walk, plainWalk, nearestWalk}
 
 -- found, with the number of broken wishes, or none
@@ -28,7 +28,7 @@ choiceAfter none (some x) n choice = x .choice ++ drop n choice
 
 -- The wish search: n, the rules, the row, the limit and the choice's room.
 abbrev pub lentToSearch : ℕ → List ℤ → List ℕ → ℕ → ℕ → Lent
-lentToSearch n rules row d room = withRoom n room (problem n rules row d)
+lentToSearch n rules row d room = withRoom n room (wishedProblem n rules row d)
 
 abbrev pub searchReply : ℕ → List ℤ → List ℕ → ℕ → ℕ → Reply
 searchReply n rules row d room = unless (refusalOf (lentToSearch n rules row d room)) (found (brokenBy (walk n (clauses rules) row d .answer)))

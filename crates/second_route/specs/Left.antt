@@ -42,6 +42,7 @@ module _ (n : ℕ) (rules : List ℤ) (row : List ℕ) (d : ℕ) (b : Buffers) w
       (rewriteReply n rules row d (length (b .rewritten)))
       (λ (v variables size z : ℕ). next variables (take size (rewriteOutput n rules row d (b .rewritten))))
 
+  -- all four buffers after the second route
   abbrev pub secondLeaves : Buffers
   secondLeaves =
       record {

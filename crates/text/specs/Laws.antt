@@ -1,11 +1,11 @@
 -- The equations by which proofs count and put numbers.
-use mathlib.Core.Path.{_≡_, refl, sym, ap, ap₂, _∙_}
+use mathlib.Core.Path.{_≡_, sym, ap, ap₂, _∙_}
 use mathlib.Core.List.{List, [], _∷_, _++_, append-assoc}
 use Prim.Native.Nat.{ℕ, suc, _+_, _-_, _/_, _%_, _^_, _≤_, _<_}
 use native.Mathlib.Omega.{arith}
 use lib.IntN.{ℤ, pos, negsuc}
 use lib.Signed.{mag}
-use lib.ListN.{length, take, drop, set, replicate, length-append, length-replicate}
+use lib.ListN.{length, take, drop, set, length-append, length-replicate}
 use lib.Seq.{drop-cons, lt-length-set, getD-set-same, drop-set-lt, take-set-le, set-split, sets, sets-eq}
 use Rattle.literal.specs.Literal.{variable, wanted}
 use Rattle.decimal.specs.Decimal.{decimal}

@@ -8,7 +8,6 @@ use lib.Dec.{eqb}
 use lib.IntN.{ℤ}
 use lib.ListN.{length, getD, drop, replicate, length-append, length-replicate}
 use lib.Seq.{drop-cons}
-use borrow.Author.Tests.{leb-true}
 use Rattle.literal.specs.Literal.{variable, holds, value}
 use Rattle.distance.specs.Distance.{disagreement}
 use Rattle.wish.specs.Wish.{weight, cost, breaking, isWish, totalWeight}

@@ -42,7 +42,7 @@ maxWeight = 1
 abbrev pub cost : ℕ → ℕ → ℕ
 cost w b = cond (eqb b (unwishedValue w)) (weight w) 0
 
--- a value breaks a wish if it costs something there
+-- "goes against a wish" (steps 3 and 4): a value breaks a wish if it costs something there
 abbrev pub breaks : ℕ → ℕ → Bool
 breaks w b = ltb 0 (cost w b)
 
@@ -59,7 +59,7 @@ abbrev pub wishCount : List ℕ → ℕ
 wishCount [] = 0
 wishCount (w ∷ row) = cond (isWish w) (suc (wishCount row)) (wishCount row)
 
--- what the wishes of a row weigh in all: so much can be broken
+-- what the wishes of a row weigh in all: so much can be broken (the 65th wish of "Refusals", 13, is over its limit)
 abbrev pub totalWeight : List ℕ → ℕ
 totalWeight [] = 0
 totalWeight (w ∷ row) = weight w + totalWeight row

@@ -9,7 +9,7 @@ use native.Mathlib.Omega.{arith}
 use lib.Dec.{leb}
 use lib.ListN.{length, set, replicate, length-append, length-set, length-replicate, replicate-append-replicate}
 use lib.Seq.{set-at, append-snoc}
-use borrow.Author.Tests.{lt-ltb, le-leb, ltb-true, ltb-false, leb-true}
+use borrow.Author.Tests.{le-leb}
 use Rattle.wish.specs.Wish.{weight, isRowByte, freeByte, isWish, wishCount, totalWeight}
 use Rattle.limits.specs.Limits.{maxWishes}
 use Rattle.wish.specs.Laws.{free-byte, free-no-wish, no-wish-free, for-byte, for-wish, for-wished, wished-for, wished-bit}
@@ -21,7 +21,7 @@ abbrev pub Bytes : List ℕ → Type 0
 Bytes [] = Unit {0}
 Bytes (w ∷ row) = (isRowByte w ≡ true) × Bytes row
 
--- a row is sound where they may, and its wishes weigh little (`weight-from` of crate lent)
+-- a row is sound where they may, and its wishes weigh little (`weight-from` of crate causes)
 pub sound-bytes : (row : List ℕ) (m i : ℕ) → badWish m i row ≡ none → Bytes row
 sound-bytes [] m i e = tt
 sound-bytes (w ∷ row) m i e = go (isRowByte w) refl (leb (m + weight w) maxWishes) e (sound-bytes row (m + weight w) (suc i))

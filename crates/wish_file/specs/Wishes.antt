@@ -2,7 +2,6 @@
 use mathlib.Core.Bool.{cond}
 use mathlib.Core.List.{List, [], _∷_}
 use Prim.Native.Nat.{ℕ, suc, _-_, _≤_, _<_}
-use lib.Dec.{ltb}
 use lib.ListN.{set, replicate}
 use Rattle.wish.specs.Wish.{freeByte, isWish, wishFor, wishedValue}
 

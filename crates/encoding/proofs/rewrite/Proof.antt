@@ -3,7 +3,7 @@ use mathlib.Core.Path.{_≡_, sym, ap, _∙_}
 use mathlib.Core.Option.{none}
 use Prim.Native.Nat.{ℕ, _+_}
 use lib.ListN.{length}
-use Rattle.causes.specs.Lent.{Lent, problem, unadmitted}
+use Rattle.causes.specs.Lent.{Lent, wishedProblem, unadmitted}
 use Rattle.admission.specs.declared.Counts.{Counts}
 use Rattle.admission.specs.Admission.{countsOf}
 use Rattle.admission.specs.Laws.{refused-by, admitted-by}
@@ -16,7 +16,7 @@ use Rattle.encoding.proofs.rewrite.Tie as tie
 
 -- after the check of what was lent
 abbrev lent : tie.After-admit-wishes → Lent
-lent c = problem (c .before .before .args .n) (c .before .before .args .rules .now) (c .before .before .args .row .now) (c .before .before .args .d)
+lent c = wishedProblem (c .before .before .args .n) (c .before .before .args .rules .now) (c .before .before .args .row .now) (c .before .before .args .d)
 
 -- past it, with the number of wishes
 module _ (c : tie.After-known-told2) where

@@ -7,10 +7,10 @@ use Rattle.formula.specs.Formula.{clauses}
 use Rattle.distance.specs.Distance.{nearest}
 use Rattle.refusal.specs.Reply.{unless}
 use Rattle.causes.specs.Admitted.{Admitted, unrefused}
-use Rattle.causes.specs.Lent.{Lent, problem, refusalOf}
+use Rattle.causes.specs.Lent.{Lent, wishedProblem, refusalOf}
 use Rattle.admission.specs.declared.Counts.{Counts}
 use Rattle.admission.specs.Admission.{countsOf, start}
-use Rattle.admission.specs.Laws.{refused-by, admitted-by}
+use Rattle.admission.specs.Laws.{refused-by, admitted-by, started}
 use Rattle.walk.specs.Walk.{nearestWalk}
 use Rattle.searches.specs.Answers.{NearestMeans, refused-reply, refused-answer, given-answer, nearest-means}
 use Rattle.searches.specs.Meaning.{nearest-is}
@@ -23,13 +23,13 @@ use Rattle.nearest_search.proofs.search.Tie as tie
 -- after the checks: what was lent, and what they say of it
 module _ (c : tie.After-with-room) where
   abbrev problem-of : Lent
-  problem-of = problem (c .before .before .before .before .args .n) (c .before .before .before .before .args .rules .now) (c .before .before .before .before .args .row .now) 0
+  problem-of = wishedProblem (c .before .before .before .before .args .n) (c .before .before .before .before .args .rules .now) (c .before .before .before .before .args .row .now) 0
 
   abbrev lent : Lent
   lent = lentToSearch (c .before .before .before .before .args .n) (c .before .before .before .before .args .rules .now) (c .before .before .before .before .args .row .now) 0 (length (c .before .before .before .before .args .choice .now))
 
   told : c .with-room .result ≡ start lent
-  told = c .with-room .ensures problem-of (c .before .admit-wishes .ensures)
+  told = c .with-room .ensures ∙ started (c .before .admit-wishes .result) problem-of (c .before .before .before .before .args .n) (length (c .before .before .before .before .args .choice .now)) (c .before .admit-wishes .ensures)
 
 -- past them, with the counts
 module _ (c : tie.After-known-told2) where

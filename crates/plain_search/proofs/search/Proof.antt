@@ -10,7 +10,7 @@ use Rattle.wish.specs.Wish.{freeByte}
 use Rattle.causes.specs.Lent.{refusalOf, Lent, plainProblem}
 use Rattle.causes.specs.Admitted.{Admitted, unrefused}
 use Rattle.admission.specs.Admission.{countsOf, start}
-use Rattle.admission.specs.Laws.{refused-by, admitted-by}
+use Rattle.admission.specs.Laws.{refused-by, admitted-by, started}
 use Rattle.walk.specs.Walk.{walk, plainWalk}
 use Rattle.searches.specs.Answers.{PlainMeans, searchedOf, refused-answer, given-answer, plain-means}
 use Rattle.searches.specs.Searches.{lentToPlain, brokenBy}
@@ -34,7 +34,7 @@ module _ (c : tie.After-with-room) where
   lent = lentToPlain (c .before .before .before .args .n) (c .before .before .before .args .rules .now) (length (c .before .before .before .args .choice .now))
 
   told : c .with-room .result ≡ start lent
-  told = c .with-room .ensures problem-of (c .before .admit-rules .ensures)
+  told = c .with-room .ensures ∙ started (c .before .admit-rules .result) problem-of (c .before .before .before .args .n) (length (c .before .before .before .args .choice .now)) (c .before .admit-rules .ensures)
 
 -- past them
 module _ (c : tie.After-enum-told) where

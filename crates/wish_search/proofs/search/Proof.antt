@@ -5,9 +5,9 @@ use Prim.Native.Nat.{_≤_}
 use lib.ListN.{length}
 use Rattle.formula.specs.Formula.{clauses}
 use Rattle.causes.specs.Admitted.{Admitted, unrefused}
-use Rattle.causes.specs.Lent.{Lent, problem, refusalOf}
+use Rattle.causes.specs.Lent.{Lent, wishedProblem, refusalOf}
 use Rattle.admission.specs.Admission.{countsOf, start}
-use Rattle.admission.specs.Laws.{refused-by, admitted-by}
+use Rattle.admission.specs.Laws.{refused-by, admitted-by, started}
 use Rattle.walk.specs.Walk.{walk}
 use Rattle.searches.specs.Answers.{SearchMeans, searchedOf, refused-answer, given-answer, search-means}
 use Rattle.searches.specs.Searches.{lentToSearch, brokenBy}
@@ -19,13 +19,13 @@ use Rattle.wish_search.proofs.search.Tie as tie
 -- after the checks: what was lent, and what they say of it
 module _ (c : tie.After-with-room) where
   abbrev problem-of : Lent
-  problem-of = problem (c .before .before .before .before .args .n) (c .before .before .before .before .args .rules .now) (c .before .before .before .before .args .row .now) (c .before .before .before .before .args .d)
+  problem-of = wishedProblem (c .before .before .before .before .args .n) (c .before .before .before .before .args .rules .now) (c .before .before .before .before .args .row .now) (c .before .before .before .before .args .d)
 
   abbrev lent : Lent
   lent = lentToSearch (c .before .before .before .before .args .n) (c .before .before .before .before .args .rules .now) (c .before .before .before .before .args .row .now) (c .before .before .before .before .args .d) (length (c .before .before .before .before .args .choice .now))
 
   told : c .with-room .result ≡ start lent
-  told = c .with-room .ensures problem-of (c .before .admit-wishes .ensures)
+  told = c .with-room .ensures ∙ started (c .before .admit-wishes .result) problem-of (c .before .before .before .before .args .n) (length (c .before .before .before .before .args .choice .now)) (c .before .admit-wishes .ensures)
 
 -- past them
 module _ (c : tie.After-enum-told) where

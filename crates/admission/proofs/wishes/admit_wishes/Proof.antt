@@ -12,7 +12,7 @@ use Rattle.refusal.specs.Reply.{refused, given}
 use Rattle.rule_list.specs.ScanLaws.{rules-unsound, rules-sound}
 use Rattle.rule_list.specs.Sound.{SoundList, unread, badRule}
 use Rattle.causes.specs.Laws.{in-range}
-use Rattle.causes.specs.Lent.{Lent, problem, outOfRange, rangeCause, rowLengthCause}
+use Rattle.causes.specs.Lent.{Lent, wishedProblem, outOfRange, rangeCause, rowLengthCause}
 use Rattle.causes.specs.Scans.{row-unsound, row-sound}
 use Rattle.causes.specs.Sound.{badWish}
 use Rattle.admission.specs.Order.{counted-size, wished-range, wished-rules, wished-row, wished-length, wished-size, wished-admitted}
@@ -35,7 +35,7 @@ module _ (c : tie.After-enum-told) where
   d = c .before .before .before .before .args .d
 
   abbrev lent : Lent
-  lent = problem n rules row d
+  lent = wishedProblem n rules row d
 
   range : given (rangeCause lent) ≡ none
   range = sym (c .before .before .check-range .ensures) ∙ ap refused (c .enum-told .given .1)

@@ -3,9 +3,9 @@ use mathlib.Core.Path.{_≡_, sym, _∙_}
 use lib.ListN.{length}
 use borrow.Author.Needs.{needs}
 use Rattle.causes.specs.Admitted.{unrefused}
-use Rattle.causes.specs.Lent.{Lent, problem, withRoom, refusalOf}
+use Rattle.causes.specs.Lent.{Lent, wishedProblem, withRoom, refusalOf}
 use Rattle.admission.specs.Admission.{countsOf, start}
-use Rattle.admission.specs.Laws.{admitted-by}
+use Rattle.admission.specs.Laws.{admitted-by, started}
 use Rattle.root_walk.specs.Into.{startable}
 use Rattle.cases.proofs.forks_case.walk.Statement.{statement}
 use Rattle.cases.proofs.forks_case.walk.Tie as tie
@@ -13,13 +13,13 @@ use Rattle.cases.proofs.forks_case.walk.Tie as tie
 -- after the checks: what was lent, without and with the room, and what they say of it
 module _ (c : tie.After-with-room) where
   abbrev problem-of : Lent
-  problem-of = problem (c .before .before .before .before .args .n) (c .before .before .before .before .args .rules .now) (c .before .before .before .before .args .row .now) (c .before .before .before .before .args .d)
+  problem-of = wishedProblem (c .before .before .before .before .args .n) (c .before .before .before .before .args .rules .now) (c .before .before .before .before .args .row .now) (c .before .before .before .before .args .d)
 
   abbrev lent : Lent
   lent = withRoom (c .before .before .before .before .args .n) (length (c .before .before .before .before .args .choice .now)) problem-of
 
   told : c .with-room .result ≡ start lent
-  told = c .with-room .ensures problem-of (c .before .admit-wishes .ensures)
+  told = c .with-room .ensures ∙ started (c .before .admit-wishes .result) problem-of (c .before .before .before .before .args .n) (length (c .before .before .before .before .args .choice .now)) (c .before .admit-wishes .ensures)
 
 admit-wishes-requires : tie.Need-admit-wishes-requires
 admit-wishes-requires c κs = search needs

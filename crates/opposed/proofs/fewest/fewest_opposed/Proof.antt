@@ -4,13 +4,13 @@ use mathlib.Core.Option.{Option, some, Option·map}
 use Prim.Native.Nat.{ℕ}
 use Rattle.walk.specs.State.{unassignedIn}
 use Rattle.opposed.specs.declared.shortest.Begins.the-variants.{At}
-use Rattle.opposed.specs.Opposed.{IsFirst}
+use Rattle.opposed.specs.Opposed.{KeepsShortest}
 use borrow.Author.Needs.{needs}
 use Rattle.opposed.proofs.fewest.fewest_opposed.Statement.{statement}
 use Rattle.opposed.proofs.fewest.fewest_opposed.Tie as tie
 
-first-opposed-requires : tie.Need-first-opposed-requires
-first-opposed-requires c κs = search needs
+find-opposed-requires : tie.Need-find-opposed-requires
+find-opposed-requires c κs = search needs
 
 enum-told : tie.Need-enum-told
 enum-told c = search needs
@@ -18,12 +18,12 @@ enum-told c = search needs
 enum-known-from : tie.Need-enum-known-from
 enum-known-from c = search needs
 
--- where the first opposed clause was found to begin
+-- where an opposed clause was found to begin
 first : (c : tie.After-known-told)
-    → IsFirst (c .before .before .before .before .before .before .args .row .now) (c .before .before .before .before .before .before .args .assignment .now) (c .before .before .before .before .before .before .args .list .now) (At (c .before .from .given .0 .0))
+    → KeepsShortest (c .before .before .before .before .before .before .args .row .now) (c .before .before .before .before .before .before .args .assignment .now) (c .before .before .before .before .before .before .args .list .now) (At (c .before .from .given .0 .0))
 first c =
     let args = c .before .before .before .before .before .before .args in
-    subst (IsFirst (args .row .now) (args .assignment .now) (args .list .now)) (c .before .from .given .1) (c .before .before .before .first-opposed .ensures)
+    subst (KeepsShortest (args .row .now) (args .assignment .now) (args .list .now)) (c .before .from .given .1) (c .before .before .before .find-opposed .ensures)
 
 shortest-opposed-requires : tie.Need-shortest-opposed-requires
 shortest-opposed-requires c κs = (first c .0, first c .1)
@@ -35,7 +35,7 @@ returns : tie.Need-returns
 returns c =
     let args = c .before .before .before .before .before .args in
     let a = args .assignment .now in
-    sym (ap (Option·map (unassignedIn a)) (subst (IsFirst (args .row .now) a (args .list .now)) (c .enum-told .given .1) (c .before .before .first-opposed .ensures)))
+    sym (ap (Option·map (unassignedIn a)) (subst (KeepsShortest (args .row .now) a (args .list .now)) (c .enum-told .given .1) (c .before .before .find-opposed .ensures)))
 
 returns-2 : tie.Need-returns-2
 returns-2 c =
@@ -47,7 +47,7 @@ pub fewest-opposed-spec : {M : Type 1} → statement M
 fewest-opposed-spec =
     tie.close
     (tie.spec
-    first-opposed-requires
+    find-opposed-requires
     enum-told
     enum-known-from
     shortest-opposed-requires

@@ -1,6 +1,6 @@
 -- `rule_reader::tokens::check_tokens` meets its contract: each turn is one of the laws of `Checking`.
 use mathlib.Core.Path.{_≡_, sym, ap, _∙_}
-use mathlib.Core.Bool.{Bool, false}
+use mathlib.Core.Bool.{false}
 use Prim.Native.Nat.{ℕ, _-_}
 use borrow.Author.Needs.{needs}
 use native.Mathlib.Omega.{arith}
@@ -9,7 +9,7 @@ use lib.ListN.{length}
 use Rattle.literal.specs.Literal.{variable, closes}
 use Rattle.rule_tokens.specs.declared.NextToken as T
 use Rattle.rule_tokens.specs.NextToken.{nextOf}
-use Rattle.rule_reader.specs.Laws.{faultOf}
+use Rattle.rule_reader.specs.Passes.{faultOf}
 use Rattle.dimacs.specs.Tokens.{tokensFrom}
 use Rattle.rule_reader.proofs.Checking.{Checking, start, number-held, ended, malformed, later, faulty, closed, below, twice, joined}
 use Rattle.rule_reader.proofs.tokens.check_tokens.Statement.{statement}

@@ -7,7 +7,8 @@ use lib.ListN.{length, getD, drop}
 use borrow.Author.Needs.{needs}
 use Rattle.literal.specs.Laws.{as-read}
 use Rattle.dimacs.specs.Written.{body}
-use Rattle.rule_writer.specs.Writing.{element, body-length-step, body-past}
+use Rattle.rule_writer.specs.Write.{elementText}
+use Rattle.rule_writer.specs.Writing.{body-length-step, body-past}
 use Rattle.rule_writer.proofs.count.body_length.Statement.{statement}
 use Rattle.rule_writer.proofs.count.body_length.Tie as tie
 
@@ -44,8 +45,8 @@ loop-again c =
     let l = c .before .before .before .before .args .rules .now in
     let i = c .before .before .before .loop .i in
     let x : ℤ = getD l i (pos 0) in
-    let size : c .element-length .result ≡ length (element x) =
-    c .element-length .ensures .0 ∙ ap (λ (z : ℤ). length (element z)) (as-read x (c .before .element-length-arg .given)) in
+    let size : c .element-length .result ≡ length (elementText x) =
+    c .element-length .ensures .0 ∙ ap (λ (z : ℤ). length (elementText z)) (as-read x (c .before .element-length-arg .given)) in
     omega (arith, size, c .element-length .ensures .1, body-length-step l i (c .before .before .loop-test .taken))
 
 returns : tie.Need-returns Inv-loop μ-loop

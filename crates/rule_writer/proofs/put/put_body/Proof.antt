@@ -9,7 +9,8 @@ use lib.Seq.{sets}
 use Rattle.literal.specs.Laws.{as-read}
 use Rattle.writing.specs.Wrote.{Wrote, wrote-as, wrote-before}
 use Rattle.dimacs.specs.Written.{body}
-use Rattle.rule_writer.specs.Writing.{element, body-split, body-length-step, body-past}
+use Rattle.rule_writer.specs.Write.{elementText}
+use Rattle.rule_writer.specs.Writing.{body-split, body-length-step, body-past}
 use Rattle.rule_writer.proofs.put.put_body.Statement.{statement}
 use Rattle.rule_writer.proofs.put.put_body.Tie as tie
 
@@ -35,7 +36,7 @@ put-element-requires c κs =
     let x : ℤ = getD (args .rules .now) i (pos 0) in
     omega (
       arith,
-      ap (λ (z : ℤ). length (element z)) (as-read x (c .before .put-element-arg .given)),
+      ap (λ (z : ℤ). length (elementText z)) (as-read x (c .before .put-element-arg .given)),
       body-length-step (args .rules .now) i (c .before .before .loop-test .taken),
     )
 
@@ -52,7 +53,7 @@ loop-again c =
     let loop = c .before .before .before .before .before .before .loop in
     let rules = c .before .before .before .before .before .before .before .before .args .rules .now in
     let x : ℤ = getD rules (loop .i) (pos 0) in
-    let put : Wrote (element x) (loop .out) (loop .at) (call .last .1 .0) (call .result) =
+    let put : Wrote (elementText x) (loop .out) (loop .at) (call .last .1 .0) (call .result) =
     wrote-as (ap element (as-read x (c .before .before .before .before .put-element-arg .given))) (call .ensures) in (
       call .kept .1 .0 ∙ loop .inv .0,
       omega (arith, put .place, body-length-step rules (loop .i) inside, loop .inv .1),

@@ -1,6 +1,5 @@
 -- `wish_writer::put::put_wish` meets its contract: a free variable has no line; the line of a wish has two columns and a line feed.
 use mathlib.Core.Path.{_≡_, sym, ap, _∙_}
-use mathlib.Core.Bool.{true}
 use mathlib.Core.List.{[], _∷_}
 use Prim.Native.Nat.{ℕ}
 use native.Mathlib.Omega.{arith}

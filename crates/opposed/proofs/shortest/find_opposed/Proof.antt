@@ -1,4 +1,4 @@
--- `opposed::first_opposed` meets its contract. The loop's invariant: the clauses passed are not opposed.
+-- `opposed::find_opposed` meets its contract. The loop's invariant: the clauses passed are not opposed.
 use mathlib.Core.Path.{_≡_, sym, ap, _∙_}
 use Prim.Native.Nat.{_+_, _-_}
 use native.Mathlib.Omega.{arith}
@@ -9,8 +9,8 @@ use Rattle.walk.specs.Branching.{isOpposed, shortest}
 use Rattle.clause_standing.specs.Clause.{clause-at}
 use Rattle.opposed.specs.Laws.{shortest-other, shortest-past}
 use borrow.Author.Needs.{needs}
-use Rattle.opposed.proofs.shortest.first_opposed.Statement.{statement}
-use Rattle.opposed.proofs.shortest.first_opposed.Tie as tie
+use Rattle.opposed.proofs.shortest.find_opposed.Statement.{statement}
+use Rattle.opposed.proofs.shortest.find_opposed.Tie as tie
 
 abbrev Inv-loop : tie.InvT-loop
 Inv-loop list row assignment from₀ from = shortest row assignment (clauses list) ≡ shortest row assignment (clauses (drop from list))
@@ -78,8 +78,8 @@ returns-2 c =
     let args = c .before .before .before .before .args in
     c .before .loop .inv ∙ shortest-past (args .row .now) (args .assignment .now) (args .list .now) (c .before .loop .from) (c .loop-test .left)
 
-pub first-opposed-spec : {M : Type 1} → statement M
-first-opposed-spec =
+pub find-opposed-spec : {M : Type 1} → statement M
+find-opposed-spec =
     tie.close
     (tie.spec
     Inv-loop
