@@ -54,7 +54,7 @@ loop-again c =
     let rules = c .before .before .before .before .before .before .before .before .args .rules .now in
     let x : ℤ = getD rules (loop .i) (pos 0) in
     let put : Wrote (elementText x) (loop .out) (loop .at) (call .last .1 .0) (call .result) =
-    wrote-as (ap element (as-read x (c .before .before .before .before .put-element-arg .given))) (call .ensures) in (
+    wrote-as (ap elementText (as-read x (c .before .before .before .before .put-element-arg .given))) (call .ensures) in (
       call .kept .1 .0 ∙ loop .inv .0,
       omega (arith, put .place, body-length-step rules (loop .i) inside, loop .inv .1),
       wrote-before (body (drop (loop .i + 1) rules)) put ∙ ap (sets (loop .out) (loop .at)) (sym (body-split rules (loop .i) inside)) ∙ loop .inv .2,
