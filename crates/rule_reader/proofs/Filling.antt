@@ -14,10 +14,9 @@ use mir.Val.{toZ, ofZ}
 use Rattle.dimacs.specs.Format.{signed, element}
 use Rattle.dimacs.specs.Tokens.{Token, tokensFrom}
 use Rattle.rule_tokens.specs.declared.NextToken as T
-use Rattle.rule_tokens.specs.Laws.{Good, token-end, token-bad, token-good}
+use Rattle.rule_tokens.specs.Laws.{Good, token-end, token-bad, token-good, number-held}
 use Rattle.rule_tokens.specs.NextToken.{nextOf}
 use Rattle.rule_reader.specs.Passes.{isSome, readable}
-use Rattle.rule_reader.proofs.Checking.{number-held}
 
 -- With the numbers of the tokens still to come, the list is what it is to be.
 pub record Filling (file : List ℕ) (from : ℕ) (rules₀ : List ℤ) (rules : List ℤ) (at i : ℕ) : Type 0 where

@@ -19,30 +19,12 @@ use Rattle.dimacs.specs.Format.{pastComments, Header, header, outside, element,
 use Rattle.dimacs.specs.Tokens.{Token, tokensFrom}
 use Rattle.rule_header.specs.declared.ReadHeader as H
 use Rattle.rule_header.specs.Header.{headerAs}
-use Rattle.rule_reader.specs.declared.tokens.Check as C
-use Rattle.rule_reader.specs.Passes.{checkAs}
 use Rattle.rule_reader.specs.Read.{replying, leaving}
 
 -- the reading of the tokens from a place on
 abbrev pub tokensRead : ℕ → ℕ → List ℕ → ℕ → Reading
 tokensRead n c file from =
     readTokens n c (tokensFrom file from) (badTokens n c (length file) unread (tokensFrom file from))
-
--- what the answers of the callees tell
-module _ (o : Option Refusal) (k : ℕ) (answer : C.Check) (e : answer ≡ checkAs o k) where
-  pub check-refused : (r : Refusal) → answer ≡ C.the-variants.Refused r → o ≡ some r
-  check-refused r f = go o (sym f ∙ e)
-    where
-      go : (p : Option Refusal) → C.the-variants.Refused r ≡ checkAs p k → p ≡ some r
-      go none g = cc
-      go (some q) g = cc
-
-  pub check-good : (j : ℕ) → answer ≡ C.the-variants.Good j → (o ≡ none) × (j ≡ k)
-  check-good j f = go o (sym f ∙ e)
-    where
-      go : (p : Option Refusal) → C.the-variants.Good j ≡ checkAs p k → (p ≡ none) × (j ≡ k)
-      go none g = (refl, (cc))
-      go (some q) g = ((cc), (cc))
 
 -- the reply and the list that a reading leaves
 abbrev pub Answers : Reply → List ℤ → Reading → List ℤ → Type 0

@@ -1,5 +1,4 @@
 pub mod Answers
 pub mod Exact
-pub mod Laws
 pub mod Passes
 pub mod Read

@@ -1,27 +1,15 @@
--- What the two passes over a file go by: the first finds a cause or how many numbers there are, the second puts well formed tokens into the list.
-use mathlib.Core.Bool.{Bool, true, false, cond, _&&_}
+-- What the second pass goes by: the tokens that the first one found good are well formed, so each gives a number.
+use mathlib.Core.Path.{_≡_, refl}
+use mathlib.Core.Bool.{Bool, true, false, _&&_}
 use mathlib.Core.List.{List, [], _∷_}
-use mathlib.Core.Option.{Option, none, some}
+use mathlib.Core.Option.{Option, none, some, Option·some-ne-none}
 use Prim.Native.Nat.{ℕ}
-use lib.Dec.{ltb, leb}
 use lib.IntN.{ℤ}
-use Rattle.literal.specs.Literal.{variable, closes}
 use Rattle.refusal.specs.declared.Refusal.{Refusal}
-use Rattle.limits.specs.Limits.{maxLiterals}
-use Rattle.dimacs.specs.Format.{signed}
+use Rattle.refusal.specs.Reply.{refusal, first}
+use Rattle.rule_list.specs.Sound.{Scan, after}
+use Rattle.dimacs.specs.Format.{signed, element, badToken, badTokens}
 use Rattle.dimacs.specs.Tokens.{Token}
-use Rattle.rule_reader.specs.declared.tokens.Check as C
-use Rattle.rule_reader.specs.declared.tokens.Check.{Check}
-
--- the causes 6, 7 and 4 of a number of the list, in their order ("at one token 3, 6, 7, 4, 5"); 0 without one
-abbrev pub faultOf : ℕ → ℕ → ℕ → ℕ → ℤ → ℕ
-faultOf n count clauses literals x =
-    cond (leb count clauses) 6 (cond (closes x) 0 (cond (leb maxLiterals literals) 7 (cond (ltb n (variable x)) 4 0)))
-
--- what the first pass answers for a cause, or for k numbers without one
-abbrev pub checkAs : Option Refusal → ℕ → Check
-checkAs none k = C.the-variants.Good k
-checkAs (some r) k = C.the-variants.Refused r
 
 -- every token is well formed
 abbrev pub isSome : Option ℤ → Bool
@@ -31,3 +19,19 @@ isSome (some x) = true
 abbrev pub readable : List Token → Bool
 readable [] = true
 readable (t ∷ ts) = isSome (signed (t .bytes)) && readable ts
+
+-- the tokens of a good file are well formed
+first-passed : (o p : Option Refusal) → first (o ∷ p ∷ []) ≡ none → (o ≡ none) × (p ≡ none)
+first-passed none none e = (refl, refl)
+first-passed none (some r) e = absurd (Option·some-ne-none r e)
+first-passed (some r) p e = absurd (Option·some-ne-none r e)
+
+well-formed : (n c : ℕ) (s : Scan) (place : ℕ) (o : Option ℤ) → badToken n c s place o ≡ none → isSome o ≡ true
+well-formed n c s place none e = absurd (Option·some-ne-none (refusal 3 place) e)
+well-formed n c s place (some x) e = refl
+
+pub passed-readable : (ts : List Token) (n c size : ℕ) (s : Scan) → badTokens n c size s ts ≡ none → readable ts ≡ true
+passed-readable [] n c size s e = refl
+passed-readable (t ∷ ts) n c size s e =
+    let parts = first-passed (badToken n c s (t .place) (signed (t .bytes))) (badTokens n c size (after s (element t)) ts) e in
+    rw (well-formed n c s (t .place) (signed (t .bytes)) (parts .0)) (passed-readable ts n c size (after s (element t)) (parts .1))

@@ -1,13 +1,12 @@
 // The reader of the rule file: it checks and counts first, then fills, so that a refusal leaves the
 // lent list alone.
 mod fill;
-mod tokens;
 
 use limits::MAX_CLAUSES;
 use limits::MAX_VARIABLES;
 use refusal::Refusal;
 use rule_header::ReadHeader;
-use tokens::Check;
+use token_check::Check;
 ghost use mathlib.Core.Path.{_≡_};
 ghost use Prim.Native.Nat.{_≤_};
 ghost use lib.ListN.{length};
@@ -69,7 +68,7 @@ fn read_tokens(file: &[u8], from: usize, n: usize, count: usize, rules: &mut [i3
     ensures reply { λ r. ⌜ replyOf r ≡ replying (tokensRead n count (now (file .entry)) from) (length (now (rules .entry))) ⌝ }
     ensures output { λ r. ⌜ now (rules .exit) ≡ leaving (tokensRead n count (now (file .entry)) from) (now (rules .entry)) ⌝ }
 {
-    match tokens::check_tokens(file, from, n, count) {
+    match token_check::check_tokens(file, from, n, count) {
         Check::Refused(r) => ReadRules::Refused(r),
         Check::Good(needed) => {
             if rules.len() < needed {

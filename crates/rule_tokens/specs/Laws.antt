@@ -190,3 +190,9 @@ module _ (s : List ℕ) (at : ℕ) where
       go : (ts : List Token) → tokensFrom s at ≡ ts → nextOf ts ≡ T.the-variants.Element place x next → Good s at place x next
       go [] f k = let z : _≡_ {A = ℕ} 0 1 = cc in absurd (omega arith)
       go (t ∷ ts) f k = one t ts (first-of s at t ts f) (signed (t .bytes)) f refl k
+
+-- the number that a token gives is held by an i32
+pub number-held : (file : List ℕ) (at : ℕ) {place next : ℕ} {x : ℤ} → T.the-variants.Element place x next ≡ nextOf (tokensFrom file at) → toZ w32 (ofZ w32 x) ≡ x
+number-held file at {place} {next} {x} e =
+    let g = token-good file at place x next (sym e) in
+    held x x refl (signed-fits (g .bytes) x (g .number))

@@ -7,8 +7,9 @@ use lib.ListN.{length}
 use Rattle.rule_list.specs.Sound.{unread}
 use Rattle.dimacs.specs.Format.{badTokens}
 use Rattle.dimacs.specs.Tokens.{Token, tokensFrom}
-use Rattle.rule_reader.specs.Answers.{check-refused, check-good, tokens-refused, tokens-short, tokens-read}
-use Rattle.rule_reader.specs.Laws.{passed-readable}
+use Rattle.token_check.specs.Check.{check-refused, check-good}
+use Rattle.rule_reader.specs.Answers.{tokens-refused, tokens-short, tokens-read}
+use Rattle.rule_reader.specs.Passes.{passed-readable}
 use borrow.Author.Needs.{needs}
 use Rattle.rule_reader.proofs.read_tokens.Statement.{statement}
 use Rattle.rule_reader.proofs.read_tokens.Tie as tie

@@ -1,4 +1,4 @@
--- `rule_reader::tokens::check_tokens` meets its contract: each turn is one of the laws of `Checking`.
+-- `token_check::check_tokens` meets its contract: each turn is one of the laws of `Checking`.
 use mathlib.Core.Path.{_≡_, sym, ap, _∙_}
 use mathlib.Core.Bool.{false}
 use Prim.Native.Nat.{ℕ, _-_}
@@ -8,12 +8,13 @@ use lib.IntN.{ℤ}
 use lib.ListN.{length}
 use Rattle.literal.specs.Literal.{variable, closes}
 use Rattle.rule_tokens.specs.declared.NextToken as T
+use Rattle.rule_tokens.specs.Laws.{number-held}
 use Rattle.rule_tokens.specs.NextToken.{nextOf}
-use Rattle.rule_reader.specs.Passes.{faultOf}
+use Rattle.token_faults.specs.Fault.{faultOf}
 use Rattle.dimacs.specs.Tokens.{tokensFrom}
-use Rattle.rule_reader.proofs.Checking.{Checking, start, number-held, ended, malformed, later, faulty, closed, below, twice, joined}
-use Rattle.rule_reader.proofs.tokens.check_tokens.Statement.{statement}
-use Rattle.rule_reader.proofs.tokens.check_tokens.Tie as tie
+use Rattle.token_check.proofs.Checking.{Checking, start, ended, malformed, later, faulty, closed, below, twice, joined}
+use Rattle.token_check.proofs.check_tokens.Statement.{statement}
+use Rattle.token_check.proofs.check_tokens.Tie as tie
 
 abbrev Inv-loop : tie.InvT-loop
 Inv-loop file from n count stamps₀ clauses₀ literals₀ is-open₀ at₀ stamps clauses literals is-open at =

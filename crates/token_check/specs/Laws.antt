@@ -1,14 +1,14 @@
 -- The equations by which proofs check a file, token by token.
-use mathlib.Core.Path.{_≡_, refl, sym, ap, _∙_}
+use mathlib.Core.Path.{_≡_, sym, ap, _∙_}
 use mathlib.Core.Bool.{Bool, true, false, cond, not, _&&_}
 use mathlib.Core.List.{List, [], _∷_}
-use mathlib.Core.Option.{Option, none, some, Option·getD, Option·some-ne-none}
-use Prim.Native.Nat.{ℕ, _+_, _≤_, _<_}
+use mathlib.Core.Option.{Option, none, some, Option·getD}
+use Prim.Native.Nat.{ℕ, _+_}
 use native.Mathlib.Numerals.{add-one}
 use native.Mathlib.Omega.{arith}
 use lib.Dec.{ltb, leb}
 use lib.IntN.{ℤ, pos}
-use borrow.Author.Tests.{le-ltb, lt-leb, eqb-true, leb-false, ltb-false}
+use borrow.Author.Tests.{le-ltb, lt-leb, eqb-true}
 use Rattle.literal.specs.Literal.{variable, closes}
 use Rattle.refusal.specs.declared.Refusal.{Refusal}
 use Rattle.refusal.specs.Reply.{refusal, first, cause}
@@ -16,26 +16,10 @@ use Rattle.refusal.specs.Laws.{first-last}
 use Rattle.limits.specs.Limits.{maxLiterals}
 use Rattle.rule_list.specs.Laws.{scan}
 use Rattle.rule_list.specs.Sound.{Scan, mayJoin, after}
-use Rattle.dimacs.specs.Format.{signed, element, badToken, badTokens}
+use Rattle.dimacs.specs.Format.{signed, badToken, badTokens}
 use Rattle.dimacs.specs.Tokens.{Token}
-use Rattle.rule_reader.specs.Passes.{faultOf, isSome, readable}
-
--- what no fault tells
-pub open-clause : (n c k m : ℕ) (x : ℤ) → faultOf n c k m x ≡ 0 → k < c
-open-clause n c k m x e = go (leb c k) refl e
-  where
-    go : (t : Bool) → leb c k ≡ t → _≡_ {A = ℕ} (cond t 6 (cond (closes x) 0 (cond (leb maxLiterals m) 7 (cond (ltb n (variable x)) 4 0)))) 0 → k < c
-    go true f g = absurd (omega arith)
-    go false f g = leb-false c k f
-
-pub room-left : (n c k m : ℕ) (x : ℤ) → faultOf n c k m x ≡ 0 → closes x ≡ false → (m < maxLiterals) × (variable x ≤ n)
-room-left n c k m x e z = go (leb c k) (leb maxLiterals m) refl (ltb n (variable x)) refl (rw (z) at e)
-  where
-    go : (t u : Bool) → leb maxLiterals m ≡ u → (o : Bool) → ltb n (variable x) ≡ o → _≡_ {A = ℕ} (cond t 6 (cond u 7 (cond o 4 0))) 0 → (m < maxLiterals) × (variable x ≤ n)
-    go true u f o h g = absurd (omega arith)
-    go false true f o h g = absurd (omega arith)
-    go false false f true h g = absurd (omega arith)
-    go false false f false h g = (leb-false maxLiterals m f, ltb-false n (variable x) h)
+use Rattle.token_faults.specs.Fault.{faultOf}
+use Rattle.token_faults.specs.Laws.{open-clause, room-left}
 
 -- the first cause of a number of the list, by its tests: every clause is closed, it closes one, no literal may come, it is above n, it may join
 abbrev tests : ℕ → Bool → Bool → Bool → Bool → Bool → Option Refusal
@@ -102,19 +86,3 @@ module _ (n c size k m : ℕ) (clause : List ℤ) (place : ℕ) (bytes : List �
         accepted-literal j =
             let next : after (scan k m clause) x ≡ scan k (m + 1) (x ∷ clause) = rw (z) (ap (λ (i : ℕ). scan k i (x ∷ clause)) (sym (add-one m))) in
             leads none (joins true j) ∙ goes-on (scan k (m + 1) (x ∷ clause)) next
-
--- the tokens of a good file are well formed
-first-passed : (o p : Option Refusal) → first (o ∷ p ∷ []) ≡ none → (o ≡ none) × (p ≡ none)
-first-passed none none e = (refl, refl)
-first-passed none (some r) e = absurd (Option·some-ne-none r e)
-first-passed (some r) p e = absurd (Option·some-ne-none r e)
-
-well-formed : (n c : ℕ) (s : Scan) (place : ℕ) (o : Option ℤ) → badToken n c s place o ≡ none → isSome o ≡ true
-well-formed n c s place none e = absurd (Option·some-ne-none (refusal 3 place) e)
-well-formed n c s place (some x) e = refl
-
-pub passed-readable : (ts : List Token) (n c size : ℕ) (s : Scan) → badTokens n c size s ts ≡ none → readable ts ≡ true
-passed-readable [] n c size s e = refl
-passed-readable (t ∷ ts) n c size s e =
-    let parts = first-passed (badToken n c s (t .place) (signed (t .bytes))) (badTokens n c size (after s (element t)) ts) e in
-    rw (well-formed n c s (t .place) (signed (t .bytes)) (parts .0)) (passed-readable ts n c size (after s (element t)) (parts .1))

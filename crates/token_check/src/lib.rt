@@ -1,5 +1,4 @@
 // The first pass over a rule file: whether its tokens are good, and how many there are.
-use limits::MAX_LITERALS;
 use literal::Clause;
 use refusal::Refusal;
 use rule_tokens::NextToken;
@@ -13,33 +12,12 @@ ghost use Rattle.refusal.specs.Reply.{cause};
 ghost use Rattle.rule_list.specs.Sound.{unread};
 ghost use Rattle.dimacs.specs.Format.{badTokens};
 ghost use Rattle.dimacs.specs.Tokens.{tokensFrom};
-ghost use Rattle.rule_reader.specs.Passes.{faultOf, checkAs};
+ghost use Rattle.token_check.specs.Check.{checkAs};
 
 // Refused, or how many numbers the list has.
 pub enum Check {
     Refused(Refusal),
     Good(usize),
-}
-
-// The cause to refuse a number of the list, but for a variable that its clause has already: 6 where
-// every clause is closed, 7 where no more literals may come, 4 above n; 0 without a cause.
-fn fault_of(n: usize, count: usize, clauses: usize, literals: usize, x: i32) -> usize
-    ensures { λ r. ⌜ r ≡ faultOf n count clauses literals x ⌝ }
-{
-    if count <= clauses {
-        return 6;
-    }
-    if literal::closes(x) {
-        return 0;
-    }
-    let v = literal::variable_of(x).0;
-    if MAX_LITERALS <= literals {
-        return 7;
-    }
-    if n < v {
-        return 4;
-    }
-    0
 }
 
 // Checks the tokens from a place on, in a file of n variables and so many clauses.
@@ -61,7 +39,7 @@ pub fn check_tokens(file: &[u8], from: usize, n: usize, count: usize) -> Check
                 return Check::Refused(Refusal { number: 3, place });
             }
             NextToken::Element { place, value, next } => {
-                let number = fault_of(n, count, clauses, literals, value);
+                let number = token_faults::fault_of(n, count, clauses, literals, value);
                 if number != 0 {
                     return Check::Refused(Refusal { number, place });
                 }

@@ -8,8 +8,6 @@ use native.Mathlib.Omega.{arith}
 use lib.Dec.{eqb, ltb}
 use lib.IntN.{ℤ}
 use lib.ListN.{length, getD, set}
-use mir.Syntax.{w32}
-use mir.Val.{toZ, ofZ}
 use Rattle.literal.specs.Literal.{variable, closes}
 use Rattle.refusal.specs.declared.Refusal.{Refusal}
 use Rattle.refusal.specs.Reply.{refusal, cause}
@@ -19,12 +17,14 @@ use Rattle.rule_list.specs.Stamps.{Stamped, stamped-none, stamped-closed, stamp
 use Rattle.dimacs.specs.Format.{badTokens}
 use Rattle.dimacs.specs.Tokens.{tokensFrom}
 use Rattle.rule_tokens.specs.declared.NextToken as T
-use Rattle.rule_tokens.specs.Laws.{Good, token-end, token-bad, token-good, held, signed-fits}
+use Rattle.rule_tokens.specs.Laws.{Good, token-end, token-bad, token-good}
 use Rattle.rule_tokens.specs.NextToken.{nextOf}
 use borrow.Author.Tests.{eqb-true, eqb-false}
-use Rattle.rule_reader.specs.declared.tokens.Check as C
-use Rattle.rule_reader.specs.Passes.{faultOf, checkAs}
-use Rattle.rule_reader.specs.Laws.{open-clause, room-left, refused-malformed, refused-fault, accepted-zero, refused-twice, accepted-literal}
+use Rattle.token_faults.specs.Fault.{faultOf}
+use Rattle.token_faults.specs.Laws.{open-clause, room-left}
+use Rattle.token_check.specs.declared.Check as C
+use Rattle.token_check.specs.Check.{checkAs}
+use Rattle.token_check.specs.Laws.{refused-malformed, refused-fault, accepted-zero, refused-twice, accepted-literal}
 
 -- the answer for a file of n variables and c clauses whose tokens begin at a place
 abbrev pub answer : ℕ → ℕ → List ℕ → ℕ → C.Check
@@ -51,12 +51,6 @@ start n c file from stamps l z =
       opened = refl;
       stamped = stamped-none stamps l z;
     }
-
--- the number that a token gives is held by an i32
-pub number-held : (file : List ℕ) (at : ℕ) {place next : ℕ} {x : ℤ} → T.the-variants.Element place x next ≡ nextOf (tokensFrom file at) → toZ w32 (ofZ w32 x) ≡ x
-number-held file at {place} {next} {x} e =
-    let g = token-good file at place x next (sym e) in
-    held x x refl (signed-fits (g .bytes) x (g .number))
 
 module _ {n c : ℕ} {file : List ℕ} {from : ℕ} {stamps : List ℕ} {k m : ℕ} {is-open : Bool} {at : ℕ}
     (s : Checking n c file from stamps k m is-open at) where

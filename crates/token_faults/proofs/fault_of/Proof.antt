@@ -1,4 +1,4 @@
--- `rule_reader::tokens::fault_of` meets its contract: each return is one of the tests, in their order.
+-- `token_faults::fault_of` meets its contract: each return is one of the tests, in their order.
 use mathlib.Core.Path.{_≡_, sym, ap, _∙_}
 use mathlib.Core.Bool.{false}
 use native.Mathlib.Omega.{arith}
@@ -9,8 +9,8 @@ use borrow.Author.Needs.{needs}
 use borrow.Author.Tests.{lt-ltb, le-ltb, le-leb, lt-leb}
 use Rattle.literal.specs.Literal.{variable, closes}
 use Rattle.limits.specs.Limits.{maxLiterals}
-use Rattle.rule_reader.proofs.tokens.fault_of.Statement.{statement}
-use Rattle.rule_reader.proofs.tokens.fault_of.Tie as tie
+use Rattle.token_faults.proofs.fault_of.Statement.{statement}
+use Rattle.token_faults.proofs.fault_of.Tie as tie
 
 returns : tie.Need-returns
 returns c = rw (le-leb (c .before .args .count) (c .before .args .clauses) (c .if1 .taken))
