@@ -1,5 +1,5 @@
 -- The equations by which proofs read a line, column by column.
-use mathlib.Core.Path.{_≡_, refl, sym, ap, _∙_}
+use mathlib.Core.Path.{_≡_, refl, sym, ap, ap₂, _∙_}
 use mathlib.Core.Bool.{Bool, true, false, cond, true≢false}
 use mathlib.Core.List.{List, [], _∷_}
 use mathlib.Core.Option.{Option, none, some, Option·getD}
@@ -12,6 +12,7 @@ use lib.ListN.{length, getD, take, drop, length-drop, drop-of-length-le}
 use lib.Seq.{drop-cons, drop-drop, take-all}
 use borrow.Author.Tests.{eq-eqb, ne-eqb}
 use Rattle.decimal.specs.Decimal.{number}
+use Rattle.wish_file.specs.Format.{wishColumns, wishOf, wishAt}
 use Rattle.wish_file.specs.Layout.{columnWidth, lineSize, pastSpaces, columnNumber, joined, lineNumbers}
 use Rattle.wish_file.specs.LayoutLaws.{joined-parts, line-written}
 use Rattle.wish_lines.specs.Lines.{present, isLine, field}
@@ -114,3 +115,14 @@ field-some o v e = sym (ap (λ (p : Option ℕ). Option·getD p 0) e)
 
 pub field-none : (o : Option ℕ) → o ≡ none → 0 ≡ Option·getD o 0
 field-none o e = sym (ap (λ (p : Option ℕ). Option·getD p 0) e)
+
+-- the wish on a line has its numbers from the two columns
+pub wish-fields : (s : List ℕ) → isLine wishColumns s ≡ true → wishAt s ≡ record { variable = field s; mark = field (drop columnWidth s) }
+wish-fields s e =
+    let p = line-numbers wishColumns s e in
+    ap (λ (o : Option (List ℕ)). wishOf (Option·getD o [])) (p .1)
+    ∙ ap₂ (λ (v b : ℕ). record { variable = v; mark = b }) (line-field wishColumns 0 s (p .0) (p .1) (omega arith)) (line-field wishColumns 1 s (p .0) (p .1) (omega arith))
+
+-- a line at a place of a file ends inside it
+pub line-inside : (k : ℕ) (file : List ℕ) (at : ℕ) → isLine k (drop at file) ≡ true → at + lineSize k ≤ length file
+line-inside k file at e = omega (arith, line-long k (drop at file) e, length-drop at file)

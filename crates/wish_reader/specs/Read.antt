@@ -4,8 +4,6 @@ use Prim.Native.Nat.{ℕ}
 use lib.ListN.{length}
 use Rattle.refusal.specs.Reply.{Reply, refusing, answering, unless, tooShort, filled}
 use Rattle.wish_file.specs.Format.{Reading, refuses, gives, reading}
-use Rattle.wish_reader.specs.declared.scan.FileScan as S
-use Rattle.wish_reader.specs.declared.scan.FileScan.{FileScan}
 use Rattle.wish_reader.specs.declared.ReadWishes.{ReadWishes}
 use Rattle.wish_reader.specs.declared.ReadWishes.the-variants.{Refused, Read}
 
@@ -31,8 +29,3 @@ readOutput file out = leaving (reading file) out
 abbrev pub replyOf : ReadWishes → Reply
 replyOf (Refused r) = refusing r
 replyOf (Read h) = answering 1 (h .variables) (h .wishes) (h .limit)
-
--- what is found before anything is written: the first cause of the file, or the numbers of line one
-abbrev pub fileScan : Reading → FileScan
-fileScan (refuses r) = S.the-variants.Refused r
-fileScan (gives n m d row) = S.the-variants.Sound n m d

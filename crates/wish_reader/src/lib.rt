@@ -1,10 +1,9 @@
 // The reader of the wish file: it goes through the file twice, first for a cause to refuse, then for
 // the wishes, so that a refusal leaves the lent row alone.
 mod fill;
-mod scan;
 
 use refusal::Refusal;
-use scan::FileScan;
+use wish_scan::FileScan;
 ghost use mathlib.Core.Path.{_≡_};
 ghost use lib.ListN.{length};
 ghost use Rattle.wish_reader.specs.Read.{readReply, readOutput, replyOf};
@@ -27,7 +26,7 @@ pub fn read_wishes(file: &[u8], row: &mut [u8]) -> ReadWishes
     ensures reply { λ r. ⌜ replyOf r ≡ readReply (now (file .entry)) (length (now (row .entry))) ⌝ }
     ensures output { λ r. ⌜ now (row .exit) ≡ readOutput (now (file .entry)) (now (row .entry)) ⌝ }
 {
-    match scan::scan_file(file) {
+    match wish_scan::scan_file(file) {
         FileScan::Refused(r) => ReadWishes::Refused(r),
         FileScan::Sound {
             variables,

@@ -5,7 +5,8 @@ use Prim.Native.Nat.{ℕ}
 use lib.ListN.{drop}
 use Rattle.wish_file.specs.Format.{wishesIn, gives, reading}
 use Rattle.wish_file.specs.Wishes.{marked, Rising}
-use Rattle.wish_reader.specs.Laws.{scan-refused, scan-sound, refused-for, too-short, rising-room, row-read}
+use Rattle.wish_scan.specs.Scan.{scan-refused, scan-sound}
+use Rattle.wish_reader.specs.Laws.{refused-for, too-short, rising-room, row-read}
 use borrow.Author.Needs.{needs}
 use Rattle.wish_reader.proofs.read_wishes.Statement.{statement}
 use Rattle.wish_reader.proofs.read_wishes.Tie as tie

@@ -6,7 +6,8 @@ use lib.ListN.{length, drop, length-set, set}
 use borrow.Author.Needs.{needs}
 use Rattle.wish_file.specs.Format.{wishesIn}
 use Rattle.wish_file.specs.Wishes.{marked, Rising}
-use Rattle.wish_reader.specs.Laws.{line-inside, marks-line, mark-fits, mark-after, mark-step}
+use Rattle.wish_lines.specs.Laws.{line-inside}
+use Rattle.wish_reader.specs.Laws.{marks-line, mark-fits, mark-after, mark-step}
 use Rattle.wish_reader.proofs.fill.mark_row.Statement.{statement}
 use Rattle.wish_reader.proofs.fill.mark_row.Tie as tie
 

@@ -1,4 +1,4 @@
--- `wish_reader::scan::scan_file` meets its contract: refused at line one, for its range, in the lines after it, or good.
+-- `wish_scan::scan_file` meets its contract: refused at line one, for its range, in the lines after it, or good.
 use mathlib.Core.Path.{_≡_, sym, ap, _∙_}
 use mathlib.Core.Bool.{true}
 use Prim.Native.Nat.{_≤_}
@@ -8,11 +8,11 @@ use borrow.Author.Tests.{not-true, not-false}
 use Rattle.refusal.specs.Reply.{refused}
 use Rattle.wish_lines.specs.Laws.{line-long}
 use Rattle.wish_lines.specs.Lines.{isLine}
-use Rattle.wish_reader.specs.Read.{fileScan}
-use Rattle.wish_reader.specs.Laws.{header-malformed, header-outside, lines-refused, lines-passed}
+use Rattle.wish_scan.specs.Scan.{fileScan}
+use Rattle.wish_scan.specs.Laws.{header-malformed, header-outside, lines-refused, lines-passed}
 use borrow.Author.Needs.{needs}
-use Rattle.wish_reader.proofs.scan.scan_file.Statement.{statement}
-use Rattle.wish_reader.proofs.scan.scan_file.Tie as tie
+use Rattle.wish_scan.proofs.scan_file.Statement.{statement}
+use Rattle.wish_scan.proofs.scan_file.Tie as tie
 
 is-line-requires : tie.Need-is-line-requires
 is-line-requires c κs = search needs

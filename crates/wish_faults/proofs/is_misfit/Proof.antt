@@ -1,8 +1,8 @@
--- `wish_reader::scan::is_misfit` meets its contract: each test in its order.
+-- `wish_faults::is_misfit` meets its contract: each test in its order.
 use mathlib.Core.Path.{sym}
-use Rattle.wish_reader.specs.Laws.{not-rising, above, by-mark}
-use Rattle.wish_reader.proofs.scan.is_misfit.Statement.{statement}
-use Rattle.wish_reader.proofs.scan.is_misfit.Tie as tie
+use Rattle.wish_faults.specs.Laws.{not-rising, above, by-mark}
+use Rattle.wish_faults.proofs.is_misfit.Statement.{statement}
+use Rattle.wish_faults.proofs.is_misfit.Tie as tie
 
 returns : tie.Need-returns
 returns c =

@@ -1,8 +1,8 @@
--- `wish_reader::scan::is_outside` meets its contract: each test in its order.
+-- `wish_faults::is_outside` meets its contract: each test in its order.
 use mathlib.Core.Path.{sym}
-use Rattle.wish_reader.specs.Laws.{none-variables, many-variables, more-wishes, many-wishes, by-limit}
-use Rattle.wish_reader.proofs.scan.is_outside.Statement.{statement}
-use Rattle.wish_reader.proofs.scan.is_outside.Tie as tie
+use Rattle.wish_faults.specs.Laws.{none-variables, many-variables, more-wishes, many-wishes, by-limit}
+use Rattle.wish_faults.proofs.is_outside.Statement.{statement}
+use Rattle.wish_faults.proofs.is_outside.Tie as tie
 
 returns : tie.Need-returns
 returns c =

@@ -1,4 +1,5 @@
--- `wish_reader::scan::scan_lines` meets its contract. The loop's invariant: the first cause is the first from here on, after the last variable read.
+-- `wish_scan::scan_lines` meets its contract. The loop's invariant: the first cause is the first from here on, after the last variable read.
+use Rattle.wish_lines.specs.Laws.{line-inside}
 use Rattle.wish_lines.specs.Lines.{isLine}
 use mathlib.Core.Path.{_≡_, sym, ap, _∙_}
 use mathlib.Core.Bool.{true}
@@ -8,9 +9,9 @@ use lib.ListN.{length, drop}
 use borrow.Author.Tests.{not-true, not-false}
 use borrow.Author.Needs.{needs}
 use Rattle.wish_file.specs.Format.{badLines}
-use Rattle.wish_reader.specs.Laws.{lines-malformed, line-inside, wish-misfit, wish-good, lines-end, lines-extra}
-use Rattle.wish_reader.proofs.scan.scan_lines.Statement.{statement}
-use Rattle.wish_reader.proofs.scan.scan_lines.Tie as tie
+use Rattle.wish_scan.specs.Laws.{lines-malformed, wish-misfit, wish-good, lines-end, lines-extra}
+use Rattle.wish_scan.proofs.scan_lines.Statement.{statement}
+use Rattle.wish_scan.proofs.scan_lines.Tie as tie
 
 abbrev Inv-loop : tie.InvT-loop
 Inv-loop file n wishes last₀ at₀ left₀ last at left = (at ≤ length file) × (badLines n wishes 0 16 (drop 16 file) ≡ badLines n left last at (drop at file))
