@@ -1,7 +1,7 @@
 -- How a function answers what it was given.
 use mathlib.Core.Path.{_≡_, ap, sym, _∙_}
 use Rattle.refusal.specs.Reply.{Reply}
-use Rattle.answers.specs.declared.numbers.Answer.{Answer}
+use Rattle.answers.specs.declared.Answer.{Answer}
 use Rattle.answers.specs.Answers.{answerOf}
 
 -- what was given is the variant y, and the struct has y's numbers

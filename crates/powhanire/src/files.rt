@@ -14,7 +14,7 @@ pub extern "C" fn powhanire_read_rules(file: &[u8], rules: &mut [i32]) -> Answer
     ensures answer { λ r. ⌜ r ≡ answerOf (rules_read.readReply (now (file .entry)) (length (now (rules .entry)))) ⌝ }
     ensures output { λ r. ⌜ now (rules .exit) ≡ rules_read.readOutput (now (file .entry)) (now (rules .entry)) ⌝ }
 {
-    answers::of_read_rules(rule_reader::read_rules(file, rules))
+    file_answers::of_read_rules(rule_reader::read_rules(file, rules))
 }
 
 // The value is the length of the file.
@@ -23,7 +23,7 @@ pub extern "C" fn powhanire_write_rules(n: usize, rules: &[i32], file: &mut [u8]
     ensures answer { λ r. ⌜ r ≡ answerOf (rules_written.writeReply n (now (rules .entry)) (length (now (file .entry)))) ⌝ }
     ensures output { λ r. ⌜ now (file .exit) ≡ rules_written.writeOutput n (now (rules .entry)) (now (file .entry)) ⌝ }
 {
-    answers::of_written_rules(rule_writer::write_rules(n, rules, file))
+    file_answers::of_written_rules(rule_writer::write_rules(n, rules, file))
 }
 
 // The values are n, the number of wishes and the limit.
@@ -32,7 +32,7 @@ pub extern "C" fn powhanire_read_wishes(file: &[u8], row: &mut [u8]) -> Answer
     ensures answer { λ r. ⌜ r ≡ answerOf (wishes_read.readReply (now (file .entry)) (length (now (row .entry)))) ⌝ }
     ensures output { λ r. ⌜ now (row .exit) ≡ wishes_read.readOutput (now (file .entry)) (now (row .entry)) ⌝ }
 {
-    answers::of_read_wishes(wish_reader::read_wishes(file, row))
+    file_answers::of_read_wishes(wish_reader::read_wishes(file, row))
 }
 
 // The value is the length of the file.
@@ -41,5 +41,5 @@ pub extern "C" fn powhanire_write_wishes(n: usize, row: &[u8], d: usize, file: &
     ensures answer { λ r. ⌜ r ≡ answerOf (wishes_written.writeReply n (now (row .entry)) d (length (now (file .entry)))) ⌝ }
     ensures output { λ r. ⌜ now (file .exit) ≡ wishes_written.writeOutput n (now (row .entry)) d (now (file .entry)) ⌝ }
 {
-    answers::of_written_wishes(wish_writer::write_wishes(n, row, d, file))
+    file_answers::of_written_wishes(wish_writer::write_wishes(n, row, d, file))
 }

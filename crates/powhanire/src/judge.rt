@@ -9,5 +9,5 @@ ghost use Rattle.answers.specs.Answers.{answerOf};
 pub extern "C" fn powhanire_check(n: usize, rules: &[i32], row: &[u8], choice: &[u8]) -> Answer
     ensures { λ r. ⌜ r ≡ answerOf (checkReply n (now (rules .entry)) (now (row .entry)) (now (choice .entry))) ⌝ }
 {
-    answers::of_checked(checking::check(n, rules, row, choice))
+    search_answers::of_checked(checking::check(n, rules, row, choice))
 }

@@ -17,5 +17,5 @@ pub extern "C" fn powhanire_rewrite(
     ensures answer { λ r. ⌜ r ≡ answerOf (rewriteReply n (now (rules .entry)) (now (row .entry)) d (length (now (rewritten .entry)))) ⌝ }
     ensures output { λ r. ⌜ now (rewritten .exit) ≡ rewriteOutput n (now (rules .entry)) (now (row .entry)) d (now (rewritten .entry)) ⌝ }
 {
-    answers::of_rewritten(encoding::rewrite(n, rules, row, d, rewritten))
+    search_answers::of_rewritten(encoding::rewrite(n, rules, row, d, rewritten))
 }

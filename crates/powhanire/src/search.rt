@@ -5,7 +5,7 @@ ghost use lib.ListN.{length};
 ghost use Rattle.searches.specs.Answers.{SearchMeans, PlainMeans, NearestMeans};
 ghost use Rattle.searches.specs.Searches.{searchReply, searchChoice, plainReply, plainChoice, nearestReply, nearestChoice};
 ghost use Rattle.answers.specs.Answers.{answerOf};
-ghost use Rattle.powhanire.specs.Meaning.{NumbersMean};
+ghost use Rattle.answer_meaning.specs.Meaning.{NumbersMean};
 
 // A choice within the limit d; the value is the number of broken wishes.
 #[no_mangle]
@@ -20,7 +20,7 @@ pub extern "C" fn powhanire_search(
     ensures output { λ r. ⌜ now (choice .exit) ≡ searchChoice n (now (rules .entry)) (now (row .entry)) d (now (choice .entry)) ⌝ }
     ensures meaning { λ r. ⌜ NumbersMean (SearchMeans n (now (rules .entry)) (now (row .entry)) d (now (choice .exit))) r ⌝ }
 {
-    answers::of_searched(wish_search::search(n, rules, row, d, choice))
+    search_answers::of_searched(wish_search::search(n, rules, row, d, choice))
 }
 
 // A choice that meets all rules.
@@ -30,7 +30,7 @@ pub extern "C" fn powhanire_plain(n: usize, rules: &[i32], choice: &mut [u8]) ->
     ensures output { λ r. ⌜ now (choice .exit) ≡ plainChoice n (now (rules .entry)) (now (choice .entry)) ⌝ }
     ensures meaning { λ r. ⌜ NumbersMean (PlainMeans n (now (rules .entry)) (now (choice .exit))) r ⌝ }
 {
-    answers::of_searched(plain_search::search(n, rules, choice))
+    search_answers::of_searched(plain_search::search(n, rules, choice))
 }
 
 // A nearest choice; the value is the least number of broken wishes.
@@ -45,5 +45,5 @@ pub extern "C" fn powhanire_nearest(
     ensures output { λ r. ⌜ now (choice .exit) ≡ nearestChoice n (now (rules .entry)) (now (row .entry)) (now (choice .entry)) ⌝ }
     ensures meaning { λ r. ⌜ NumbersMean (NearestMeans n (now (rules .entry)) (now (row .entry)) (now (choice .exit))) r ⌝ }
 {
-    answers::of_searched(nearest_search::search(n, rules, row, choice))
+    search_answers::of_searched(nearest_search::search(n, rules, row, choice))
 }

@@ -3,8 +3,8 @@ use mathlib.Core.Path.{ap, _∙_}
 use lib.ListN.{length}
 use borrow.Author.Needs.{needs}
 use Rattle.answers.specs.Answers.{answerOf}
-use Rattle.powhanire.specs.Laws.{says}
-use Rattle.powhanire.specs.Replies.{plain-told}
+use Rattle.answer_meaning.specs.Laws.{says}
+use Rattle.answer_meaning.specs.Replies.{plain-told}
 use Rattle.powhanire.proofs.search.powhanire_plain.Statement.{statement}
 use Rattle.powhanire.proofs.search.powhanire_plain.Tie as tie
 

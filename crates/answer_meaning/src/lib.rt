@@ -1,0 +1,1 @@
+// What the numbers of an answer mean to C: no code, only definitions and laws (specs/).
