@@ -2,7 +2,7 @@
 // below the public calls, which do not tell them.
 use crate::report;
 use admission::Admission;
-use try_and_fork::Tried;
+use walk_result::Tried;
 
 pub fn answer(n: usize, rules: &[i32], row: &[u8], d: usize) {
     let mut choice = casefile::bytes();

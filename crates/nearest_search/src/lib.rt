@@ -2,7 +2,7 @@
 // rules can't be met.
 use admission::Admission;
 use searches::Searched;
-use try_and_fork::Tried;
+use walk_result::Tried;
 ghost use mathlib.Core.Path.{_≡_};
 ghost use mathlib.Core.Option.{none};
 ghost use lib.ListN.{length};
@@ -40,5 +40,5 @@ fn climb(n: usize, rules: &[i32], row: &[u8], last: usize, choice: &mut [u8]) ->
         }
         d += 1;
     }
-    root_walk::answer_of(root_walk::walk_into(n, rules, row, d, choice))
+    walk_result::answer_of(root_walk::walk_into(n, rules, row, d, choice))
 }

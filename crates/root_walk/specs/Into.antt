@@ -1,7 +1,7 @@
 -- A walk whose answer goes to a lent choice.
 use mathlib.Core.Path.{_≡_, sym, ap, _∙_}
 use mathlib.Core.List.{List, _++_}
-use mathlib.Core.Option.{Option, none, some}
+use mathlib.Core.Option.{Option, none}
 use Prim.Native.Nat.{ℕ, _≤_}
 use lib.IntN.{ℤ}
 use lib.ListN.{drop}
@@ -11,9 +11,9 @@ use Rattle.causes.specs.Admitted.{Admitted}
 use Rattle.causes.specs.Lent.{Lent}
 use Rattle.walk.specs.Walk.{Answer, Outcome}
 use Rattle.searches.specs.Searches.{brokenBy, choiceAfter}
-use Rattle.try_and_fork.specs.declared.tried.Tried.{Tried}
-use Rattle.try_and_fork.specs.declared.tried.Tried.the-variants.{Found, Nothing}
-use Rattle.try_and_fork.specs.Tried.{clip}
+use Rattle.walk_result.specs.declared.Tried.{Tried}
+use Rattle.walk_result.specs.declared.Tried.the-variants.{Found, Nothing}
+use Rattle.walk_result.specs.Tried.{clip, brokenIn, forksIn}
 use Rattle.root_walk.specs.Root.{RootSays}
 
 -- what a walk asks for: so many variables, a sound list, and room for the choice
@@ -25,15 +25,6 @@ pub record Startable (n : ℕ) (rules : List ℤ) (room : ℕ) : Type 0 where
 -- any call that is admitted with room for it may walk
 pub startable : (s : Lent) (room : ℕ) → Admitted s × (s .n ≤ room) → Startable (s .n) (s .rules) room
 startable s room a = record { few = a .0 .most; sound = a .0 .soundRules; wide = a .1 }
-
--- the number of broken wishes of an answer, and the forks that were made
-abbrev pub brokenIn : Tried → Option ℕ
-brokenIn (Found broken forks) = some broken
-brokenIn (Nothing forks) = none
-
-abbrev pub forksIn : Tried → ℕ
-forksIn (Found broken forks) = forks
-forksIn (Nothing forks) = forks
 
 -- r tells what the walk came to, and the choice of n bytes has its answer
 pub record Reaches (o : Outcome) (n : ℕ) (before after : List ℕ) (r : Tried) : Type 0 where

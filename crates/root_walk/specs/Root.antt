@@ -12,9 +12,10 @@ use Rattle.walk.specs.Correctness.{start-state, start-unassigned}
 use Rattle.walk.specs.Walk.{Outcome}
 use Rattle.propagation.specs.Searching.{Searching}
 use Rattle.propagation.specs.Trail.{undone}
-use Rattle.try_and_fork.specs.declared.tried.Tried.{Tried}
-use Rattle.try_and_fork.specs.declared.tried.Tried.the-variants.{Found, Nothing}
-use Rattle.try_and_fork.specs.Tried.{clip, TriedBy}
+use Rattle.walk_result.specs.declared.Tried.{Tried}
+use Rattle.walk_result.specs.declared.Tried.the-variants.{Found, Nothing}
+use Rattle.walk_result.specs.Tried.{clip}
+use Rattle.try_and_fork.specs.Tried.{TriedBy}
 
 -- where the walk comes to o: its answer in the lent assignment, or nothing
 abbrev pub RootSays : Outcome → List ℕ → Tried → Type 0

@@ -2,14 +2,13 @@
 mod into;
 
 use tally::Tally;
-use try_and_fork::Tried;
+use walk_result::Tried;
 ghost use mathlib.Core.Path.{_≡_};
-ghost use lib.ListN.{length, replicate};
+ghost use lib.ListN.{length};
 ghost use Rattle.formula.specs.Formula.{clauses};
 ghost use Rattle.walk.specs.Walk.{walk};
 ghost use Rattle.try_and_fork.specs.Ready.{Ready};
 ghost use Rattle.root_walk.specs.Root.{RootSays};
-pub use into::answer_of;
 pub use into::walk_into;
 
 // Walks from the root in lent space, whatever it holds.
@@ -25,21 +24,10 @@ pub fn walk_from_root(
     requires { ⌜ (length (now trail) ≡ length (now a)) × Ready (now list) (length (now a)) (length (now weights)) (length (now marks)) ⌝ }
     ensures { λ r. ⌜ RootSays (walk (length (now (a .entry))) (clauses (now (list .entry))) (now (row .entry)) d) (now (a .exit)) r ⌝ }
 {
-    unassign_all(a);
+    walk_tables::unassign_all(a);
     let tally = Tally {
         settled: 0,
         broken: 0,
     };
     try_and_fork::attempt(list, row, d, tally, a, trail, weights, marks)
-}
-
-// Every byte 2: an assignment without a value.
-pub fn unassign_all(a: &mut [u8])
-    ensures { λ _. ⌜ now (a .exit) ≡ replicate (length (now (a .entry))) 2 ⌝ }
-{
-    let mut i = 0;
-    while i < a.len() {
-        a[i] = 2;
-        i += 1;
-    }
 }

@@ -20,9 +20,10 @@ use Rattle.tally.specs.declared.Tally.{Tally}
 use Rattle.propagation.specs.declared.propagate.Propagated.the-variants.{Dead, Settled}
 use Rattle.propagation.specs.Propagated.{PropagatedBy}
 use Rattle.propagation.specs.Searching.{Searching, Later, later-more}
-use Rattle.try_and_fork.specs.declared.tried.Tried.{Tried}
-use Rattle.try_and_fork.specs.declared.tried.Tried.the-variants.{Found, Nothing}
-use Rattle.try_and_fork.specs.Tried.{clip, TriedBy}
+use Rattle.walk_result.specs.declared.Tried.{Tried}
+use Rattle.walk_result.specs.declared.Tried.the-variants.{Found, Nothing}
+use Rattle.walk_result.specs.Tried.{clip}
+use Rattle.try_and_fork.specs.Tried.{TriedBy}
 
 -- the walk from a state is the decision of the propagated one
 module _ {n : ℕ} {row : List ℕ} {s b : ℕ} {a trail : List ℕ} (given : Searching n row a trail s b) (f : List (List ℤ)) (fit : fits n f ≡ true) (d : ℕ) where

@@ -13,9 +13,10 @@ use Rattle.tally.specs.declared.Tally.{Tally}
 use Rattle.propagation.specs.Assigned.{AssignedTo, assigned-searching, assigned-after, assigned-fewer}
 use Rattle.propagation.specs.Searching.{Searching, Later, later-more, not-all, restored, restored-later, restored-searching}
 use Rattle.propagation.specs.Trail.{undone}
-use Rattle.try_and_fork.specs.declared.tried.Tried.{Tried}
-use Rattle.try_and_fork.specs.declared.tried.Tried.the-variants.{Found, Nothing}
-use Rattle.try_and_fork.specs.Tried.{clip, TriedBy, withForks}
+use Rattle.walk_result.specs.declared.Tried.{Tried}
+use Rattle.walk_result.specs.declared.Tried.the-variants.{Found, Nothing}
+use Rattle.walk_result.specs.Tried.{clip, withForks}
+use Rattle.try_and_fork.specs.Tried.{TriedBy}
 
 -- one more fork, counted as far as 64 bits go
 clip-one : (g k : ℕ) → g ≡ clip k → clip (suc (k + 0)) ≡ min (g + 0 + 1) 18446744073709551615

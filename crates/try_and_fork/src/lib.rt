@@ -1,6 +1,4 @@
 // The walk of the wish search: document 000's search procedure, by Davis, Logemann and Loveland.
 mod search;
-mod tried;
 
 pub use search::attempt;
-pub use tried::Tried;

@@ -1,11 +1,9 @@
 // Trying a state may call for a fork, and a fork tries two states (document 01, step 5).
-use crate::tried::Tried;
-use crate::tried::add_forks;
-use crate::tried::with_forks;
 use literal::Variable;
 use pick::Pick;
 use propagation::Propagated;
 use tally::Tally;
+use walk_result::Tried;
 ghost use Prim.Native.Nat.{_<_};
 ghost use lib.ListN.{length};
 ghost use Rattle.formula.specs.Formula.{clauses};
@@ -66,11 +64,11 @@ fn fork(
 {
     let first = propagation::assign_to(tally, row, v, value, a, trail);
     match attempt(list, row, d, first, a, trail, weights, marks) {
-        Tried::Found(broken, forks) => Tried::Found(broken, add_forks(forks, 0)),
+        Tried::Found(broken, forks) => Tried::Found(broken, walk_result::add_forks(forks, 0)),
         Tried::Nothing(before) => {
             propagation::undo(tally.settled, trail, a);
             let second = propagation::assign_to(tally, row, v, 1 - value, a, trail);
-            with_forks(
+            walk_result::with_forks(
                 before,
                 attempt(list, row, d, second, a, trail, weights, marks),
             )

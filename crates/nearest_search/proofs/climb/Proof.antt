@@ -9,7 +9,8 @@ use Rattle.formula.specs.Formula.{clauses}
 use Rattle.walk.specs.Walk.{Answer, walk, climb as walks, nearestWalk}
 use Rattle.searches.specs.Answers.{searchedOf}
 use Rattle.searches.specs.Searches.{brokenBy, choiceAfter}
-use Rattle.root_walk.specs.Into.{Startable, brokenIn}
+use Rattle.walk_result.specs.Tried.{brokenIn}
+use Rattle.root_walk.specs.Into.{Startable}
 use Rattle.nearest_search.specs.Climb.{climb-start, left-alone, climb-found, climb-on, climb-last}
 use borrow.Author.Needs.{needs}
 use Rattle.nearest_search.proofs.climb.Statement.{statement}

@@ -9,8 +9,8 @@ use Rattle.pick.proofs.pick_branch.Reads as pick-branch-reads
 use Rattle.propagation.proofs.propagate_units.Reads as propagate-units-reads
 use Rattle.propagation.proofs.assign_to.Reads as assign-to-reads
 use Rattle.propagation.proofs.undo.Reads as undo-reads
-use Rattle.try_and_fork.proofs.tried.add_forks.Reads as add-forks-reads
-use Rattle.try_and_fork.proofs.tried.with_forks.Reads as with-forks-reads
+use Rattle.walk_result.proofs.add_forks.Reads as add-forks-reads
+use Rattle.walk_result.proofs.with_forks.Reads as with-forks-reads
 use Rattle.try_and_fork.proofs.search.attempt.Reads as attempt
 use Rattle.try_and_fork.proofs.search.attempt.Kinds as attempt-kinds
 use Rattle.try_and_fork.proofs.search.+attempt+fork.Lts-attempt as attempt-lts

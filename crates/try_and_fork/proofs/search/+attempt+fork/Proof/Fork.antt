@@ -8,8 +8,8 @@ use borrow.Author.Needs.{needs}
 use Rattle.formula.specs.Formula.{clauses}
 use Rattle.walk.specs.Walk.{Outcome, walkFrom, fork as forkOf}
 use Rattle.propagation.specs.Searching.{Searching}
-use Rattle.try_and_fork.specs.declared.tried.Tried.{Tried}
-use Rattle.try_and_fork.specs.declared.tried.Tried.the-variants.{Found, Nothing}
+use Rattle.walk_result.specs.declared.Tried.{Tried}
+use Rattle.walk_result.specs.declared.Tried.the-variants.{Found, Nothing}
 use Rattle.try_and_fork.specs.ForkLaws as laws
 use Rattle.try_and_fork.specs.Ready.{Ready, ready-still, long-searching}
 use Rattle.try_and_fork.specs.Tried.{TriedBy}

@@ -5,8 +5,8 @@ use native.Mathlib.Omega.{arith}
 use lib.ListN.{length, drop, set, replicate, length-append, length-replicate, length-drop, drop-of-length-le}
 use borrow.Author.Fill.{fill-more}
 use borrow.Author.Needs.{needs}
-use Rattle.root_walk.proofs.unassign_all.Statement.{statement}
-use Rattle.root_walk.proofs.unassign_all.Tie as tie
+use Rattle.walk_tables.proofs.unassign_all.Statement.{statement}
+use Rattle.walk_tables.proofs.unassign_all.Tie as tie
 
 abbrev Inv-loop : tie.InvT-loop
 Inv-loop a₀ i₀ a i = (i ≤ length a₀) × (a ≡ replicate i 2 ++ drop i a₀)

@@ -1,4 +1,4 @@
--- `root_walk::into::copy_to` meets its contract: each turn stores the next value.
+-- `walk_tables::copy_to` meets its contract: each turn stores the next value.
 use mathlib.Core.Path.{_≡_, sym, ap, _∙_}
 use mathlib.Core.List.{List, _++_}
 use Prim.Native.Nat.{ℕ, _+_, _-_, _≤_, _<_}
@@ -8,8 +8,8 @@ use native.Mathlib.Omega.{arith}
 use lib.ListN.{length, getD, set, drop, length-set, drop-of-length-le}
 use lib.Seq.{drop-cons, sets, sets-eq}
 use borrow.Author.Needs.{needs}
-use Rattle.root_walk.proofs.into.copy_to.Statement.{statement}
-use Rattle.root_walk.proofs.into.copy_to.Tie as tie
+use Rattle.walk_tables.proofs.copy_to.Statement.{statement}
+use Rattle.walk_tables.proofs.copy_to.Tie as tie
 
 copy-step : (values choice : List ℕ) (i : ℕ) → i < length values → sets (set choice i (getD values i 0)) (i + 1) (drop (i + 1) values) ≡ sets choice i (drop i values)
 copy-step values choice i h = sym (rw (drop-cons values i 0 h, add-one i))

@@ -1,10 +1,10 @@
--- `try_and_fork::tried::with_forks` meets its contract.
+-- `walk_result::with_forks` meets its contract.
 use mathlib.Core.Path.{sym, ap, _∙_}
-use Rattle.try_and_fork.specs.declared.tried.Tried.the-variants.{Found, Nothing}
-use Rattle.try_and_fork.specs.Tried.{withForks}
+use Rattle.walk_result.specs.declared.Tried.the-variants.{Found, Nothing}
+use Rattle.walk_result.specs.Tried.{withForks}
 use borrow.Author.Needs.{needs}
-use Rattle.try_and_fork.proofs.tried.with_forks.Statement.{statement}
-use Rattle.try_and_fork.proofs.tried.with_forks.Tie as tie
+use Rattle.walk_result.proofs.with_forks.Statement.{statement}
+use Rattle.walk_result.proofs.with_forks.Tie as tie
 
 enum-known-second : tie.Need-enum-known-second
 enum-known-second c = search needs

@@ -1,11 +1,11 @@
--- `root_walk::into::answer_of` meets its contract.
+-- `walk_result::answer_of` meets its contract.
 use mathlib.Core.Path.{sym, ap}
 use Rattle.searches.specs.Answers.{searchedOf}
-use Rattle.try_and_fork.specs.declared.tried.Tried.{Tried}
-use Rattle.root_walk.specs.Into.{brokenIn}
+use Rattle.walk_result.specs.declared.Tried.{Tried}
+use Rattle.walk_result.specs.Tried.{brokenIn}
 use borrow.Author.Needs.{needs}
-use Rattle.root_walk.proofs.into.answer_of.Statement.{statement}
-use Rattle.root_walk.proofs.into.answer_of.Tie as tie
+use Rattle.walk_result.proofs.answer_of.Statement.{statement}
+use Rattle.walk_result.proofs.answer_of.Tie as tie
 
 enum-known-tried : tie.Need-enum-known-tried
 enum-known-tried c = search needs

@@ -1,7 +1,9 @@
-// What trying a state comes to.
+// What trying a state comes to, the forks that it took, and the answer that a search gives for it.
+use searches::Searched;
 ghost use mathlib.Core.Path.{_≡_};
 ghost use Prim.Native.Nat.{_+_, min};
-ghost use Rattle.try_and_fork.specs.Tried.{withForks};
+ghost use Rattle.searches.specs.Answers.{searchedOf};
+ghost use Rattle.walk_result.specs.Tried.{withForks, brokenIn};
 
 // An answer, with the number of broken wishes, or nothing; and the forks that were made, as far as 64
 // bits count them.
@@ -30,5 +32,15 @@ pub fn with_forks(first: u64, second: Tried) -> Tried
     match second {
         Tried::Found(broken, forks) => Tried::Found(broken, add_forks(first, forks)),
         Tried::Nothing(forks) => Tried::Nothing(add_forks(first, forks)),
+    }
+}
+
+// What a walk came to, as a search's answer.
+pub fn answer_of(tried: Tried) -> Searched
+    ensures { λ r. ⌜ r ≡ searchedOf (brokenIn tried) ⌝ }
+{
+    match tried {
+        Tried::Found(broken, _) => Searched::Found(broken),
+        Tried::Nothing(_) => Searched::Nothing,
     }
 }

@@ -1,0 +1,57 @@
+// The tables that a walk works in, for the most variables there can be, and what is put into them and
+// taken from them as a whole.
+ghost use mathlib.Core.Path.{_≡_};
+ghost use mathlib.Core.List.{_++_};
+ghost use Prim.Native.Nat.{_≤_};
+ghost use lib.ListN.{length, drop, replicate};
+
+// The weights that weighing works with: one of each literal, two for each variable.
+pub fn no_weights() -> [u64; 1282]
+    ensures { λ r. ⌜ length r ≡ 1282 ⌝ }
+{
+    [0; 1282]
+}
+
+// Its marks: one of each variable.
+pub fn no_marks() -> [u64; 641]
+    ensures { λ r. ⌜ length r ≡ 641 ⌝ }
+{
+    [0; 641]
+}
+
+// The values of an assignment.
+pub fn no_values() -> [u8; 640]
+    ensures { λ r. ⌜ length r ≡ 640 ⌝ }
+{
+    [0; 640]
+}
+
+// The trail.
+pub fn no_trail() -> [u16; 640]
+    ensures { λ r. ⌜ length r ≡ 640 ⌝ }
+{
+    [0; 640]
+}
+
+// Copies values to the front of a choice.
+pub fn copy_to(values: &[u8], choice: &mut [u8])
+    requires { ⌜ length (now values) ≤ length (now choice) ⌝ }
+    ensures { λ _. ⌜ now (choice .exit) ≡ now (values .entry) ++ drop (length (now (values .entry))) (now (choice .entry)) ⌝ }
+{
+    let mut i = 0;
+    while i < values.len() {
+        choice[i] = values[i];
+        i += 1;
+    }
+}
+
+// Every byte 2: an assignment without a value.
+pub fn unassign_all(a: &mut [u8])
+    ensures { λ _. ⌜ now (a .exit) ≡ replicate (length (now (a .entry))) 2 ⌝ }
+{
+    let mut i = 0;
+    while i < a.len() {
+        a[i] = 2;
+        i += 1;
+    }
+}
