@@ -16,7 +16,7 @@ use Rattle.walk.specs.Branching.{assignedOrAgainst, isOpposed, shorter, shorter
 use Rattle.wish.specs.Wish.{isAgainst}
 use Rattle.walk.specs.BranchingLaws.{fewer, fewest-opposed, fewest-other}
 use Rattle.clause_standing.specs.Clause.{clauseAt, Tested}
-use Rattle.opposed.specs.Opposed.{opposes, isSome}
+use Rattle.opposed.specs.Opposed.{opposes, someOpposed}
 
 -- a literal that holds, one that is unassigned, and one that is assigned and does not hold
 pub opposes-held : (row a : List ℕ) (x : ℤ) → holds a x ≡ true → opposes row a x ≡ false
@@ -95,16 +95,16 @@ pub shortest-past : (row a : List ℕ) (l : List ℤ) (i : ℕ) → length l ≤
 shortest-past row a l i h = rw (drop-of-length-le l h)
 
 -- some clause is opposed where there is a shortest
-pub any-opposed : (row a : List ℕ) (f : List (List ℤ)) → any (isOpposed row a) f ≡ isSome (fewest row a f)
+pub any-opposed : (row a : List ℕ) (f : List (List ℤ)) → any (isOpposed row a) f ≡ someOpposed (fewest row a f)
 any-opposed row a [] = refl
 any-opposed row a (c ∷ f) = go (isOpposed row a c) refl (any-opposed row a f)
   where
-    there : (o : Option ℕ) → isSome (fewer (some (unassignedIn a c)) o) ≡ true
+    there : (o : Option ℕ) → someOpposed (fewer (some (unassignedIn a c)) o) ≡ true
     there none = refl
     there (some k) = refl
 
-    go : (b : Bool) → isOpposed row a c ≡ b → any (isOpposed row a) f ≡ isSome (fewest row a f) → isOpposed row a c || any (isOpposed row a) f ≡ isSome (fewest row a (c ∷ f))
+    go : (b : Bool) → isOpposed row a c ≡ b → any (isOpposed row a) f ≡ someOpposed (fewest row a f) → isOpposed row a c || any (isOpposed row a) f ≡ someOpposed (fewest row a (c ∷ f))
     go true e ih =
         ap (λ (t : Bool). t || any (isOpposed row a) f) e
-        ∙ sym (ap isSome (fewest-opposed row a c f e) ∙ there (fewest row a f))
-    go false e ih = ap (λ (t : Bool). t || any (isOpposed row a) f) e ∙ ih ∙ sym (ap isSome (fewest-other row a c f e))
+        ∙ sym (ap someOpposed (fewest-opposed row a c f e) ∙ there (fewest row a f))
+    go false e ih = ap (λ (t : Bool). t || any (isOpposed row a) f) e ∙ ih ∙ sym (ap someOpposed (fewest-other row a c f e))

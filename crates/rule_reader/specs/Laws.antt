@@ -18,7 +18,7 @@ use Rattle.rule_list.specs.Laws.{scan}
 use Rattle.rule_list.specs.Sound.{Scan, mayJoin, after}
 use Rattle.dimacs.specs.Format.{signed, element, badToken, badTokens}
 use Rattle.dimacs.specs.Tokens.{Token}
-use Rattle.rule_reader.specs.Passes.{faultOf, isSome, readable}
+use Rattle.rule_reader.specs.Passes.{faultOf, isSigned, readable}
 
 -- what no fault tells
 pub open-clause : (n c k m : ℕ) (x : ℤ) → faultOf n c k m x ≡ 0 → k < c
@@ -109,7 +109,7 @@ first-passed none none e = (refl, refl)
 first-passed none (some r) e = absurd (Option·some-ne-none r e)
 first-passed (some r) p e = absurd (Option·some-ne-none r e)
 
-well-formed : (n c : ℕ) (s : Scan) (place : ℕ) (o : Option ℤ) → badToken n c s place o ≡ none → isSome o ≡ true
+well-formed : (n c : ℕ) (s : Scan) (place : ℕ) (o : Option ℤ) → badToken n c s place o ≡ none → isSigned o ≡ true
 well-formed n c s place none e = absurd (Option·some-ne-none (refusal 3 place) e)
 well-formed n c s place (some x) e = refl
 

@@ -24,10 +24,10 @@ checkAs none k = C.the-variants.Good k
 checkAs (some r) k = C.the-variants.Refused r
 
 -- every token is well formed
-abbrev pub isSome : Option ℤ → Bool
-isSome none = false
-isSome (some x) = true
+abbrev pub isSigned : Option ℤ → Bool
+isSigned none = false
+isSigned (some x) = true
 
 abbrev pub readable : List Token → Bool
 readable [] = true
-readable (t ∷ ts) = isSome (signed (t .bytes)) && readable ts
+readable (t ∷ ts) = isSigned (signed (t .bytes)) && readable ts

@@ -1,6 +1,6 @@
 -- `opposed::read_opposed` meets its contract. The loop's invariant is `Passing`: all of the literals read oppose.
 use mathlib.Core.Path.{_≡_, sym, ap, _∙_}
-use mathlib.Core.Bool.{Bool, true, false, not}
+use mathlib.Core.Bool.{true, false, not}
 use Prim.Native.Nat.{_-_}
 use lib.IntN.{pos}
 use lib.ListN.{length, getD}
