@@ -60,18 +60,18 @@ pub record Due (c d : List ℤ) (x : ℤ) (w l : List ℤ) (from : ℕ) : Type 0
 
 -- the writing of it, part by part: each part has room, and together they are the clause
 module _ {c d : List ℤ} {x : ℤ} {w l : List ℤ} {from : ℕ} (due : Due c d x w l from) where
-  counted : from + (length c + length d + 2) ≤ length l
-  counted = omega (arith, due .room, ap length (due .whole), length-closed c d x)
+  room-whole : from + (length c + length d + 2) ≤ length l
+  room-whole = omega (arith, due .room, ap length (due .whole), length-closed c d x)
 
   pub room-left : from + length c ≤ length l
-  room-left = omega (arith, counted)
+  room-left = omega (arith, room-whole)
 
   pub room-right : {m : List ℤ} {k : ℕ} → Wrote c l from m k → k + length d ≤ length m
-  room-right left = omega (arith, counted, left .place, wrote-length left)
+  room-right left = omega (arith, room-whole, left .place, wrote-length left)
 
   module _ {m : List ℤ} {k : ℕ} {n : List ℤ} {j : ℕ} (left : Wrote c l from m k) (right : Wrote d m k n j) where
     pub room-last : j + 2 ≤ length n
-    room-last = omega (arith, counted, left .place, wrote-length left, right .place, wrote-length right)
+    room-last = omega (arith, room-whole, left .place, wrote-length left, right .place, wrote-length right)
 
     pub wrote-closed : {y : ℤ} {o : List ℤ} {h : ℕ} → y ≡ x → Wrote (y ∷ pos 0 ∷ []) n j o h → Wrote w l from o h
     wrote-closed same last =

@@ -38,7 +38,7 @@ module _ (n : ℕ) (rules : List ℤ) (row : List ℕ) (d : ℕ) (ok : Admitted 
       go none e = no refl (λ r. omega (arith, search-none n rules (ok .soundRules) row d .0 e (r .0) (r .1), r .2))
       go (some x) e =
           let f = search-found n rules (ok .soundRules) row d x e in
-          yes (x .broken) (f .limited) refl (x .choice, f .model, omega (arith, f .counted, f .limited))
+          yes (x .broken) (f .limited) refl (x .choice, f .model, omega (arith, f .own-count, f .limited))
 
   -- plain search on the rewritten rules
   pub plain-decides : Decided (Reached n rules row d) 0 (outcome n rules row d)

@@ -17,10 +17,10 @@ use Rattle.soundness.specs.Flat.{joining}
 use Rattle.soundness.specs.Laws.{Joined, joined, all-weaken}
 use Rattle.soundness.specs.Soundness.{sound}
 use Rattle.choices.specs.Lists.{any-false}
-use Rattle.walk.specs.State.{isUnset, isWithin}
+use Rattle.walk.specs.State.{isUnset, hasVariable}
 use Rattle.walk.specs.Branching.{fewest, offers, isCandidate, clauseWeight, isLiteral, contains, weightOf, scoreOf, score, better, best, branchingVariable}
 use Rattle.walk.specs.Extension.{wanted-bit}
-use Rattle.weighing.specs.Weights.{slot, isAt, weightAt, distinct, isClean, Ready, Totals}
+use Rattle.weighing.specs.Weights.{slot, isAt, weightAt, distinct, isClean, WeighableList, Totals}
 use Rattle.weighing.specs.ClauseLaws.{weight-most}
 use Rattle.branching.specs.Branch.{scoreBy, candidateBy, Scorable, UpTo}
 
@@ -113,30 +113,30 @@ apart n x read (y ∷ c) e m =
     let ne : variable y ≡ variable x → ⊥ = eqb-false (variable y) (variable x) differs in
     ap₂ _||_ (ne-eqb (slot y) (slot x) (λ q. ne (omega (arith, q, wanted-bit x, wanted-bit y)))) (apart n x (y ∷ read) c (j .rest) (List·Memᴰ·tail m))
 
-clean : (n : ℕ) (read c : List ℤ) → joining n read c ≡ true → (all (isWithin n) c ≡ true) × (distinct c ≡ true)
+clean : (n : ℕ) (read c : List ℤ) → joining n read c ≡ true → (all (hasVariable n) c ≡ true) × (distinct c ≡ true)
 clean n read [] e = (refl, refl)
 clean n read (x ∷ c) e =
     let j : Joined n read x c = joined n read x c e in
     let rest = clean n (x ∷ read) c (j .rest) in
     let ne : variable x ≡ 0 → ⊥ = eqb-false (variable x) 0 (j .literal) in
-    let within : isWithin n x ≡ true = and-eq-true-iff (ltb 0 (variable x)) (leb (variable x) n) .1 (lt-ltb 0 (variable x) (omega arith), le-leb (variable x) n (j .range)) in (
-      and-eq-true-iff (isWithin n x) (all (isWithin n) c) .1 (within, rest .0),
+    let within : hasVariable n x ≡ true = and-eq-true-iff (ltb 0 (variable x)) (leb (variable x) n) .1 (lt-ltb 0 (variable x) (omega arith), le-leb (variable x) n (j .range)) in (
+      and-eq-true-iff (hasVariable n x) (all (hasVariable n) c) .1 (within, rest .0),
       and-eq-true-iff (not (any (isAt (slot x)) c)) (distinct c) .1 (ap not (apart n x (x ∷ read) c (j .rest) (List·Memᴰ·head refl)), rest .1),
     )
 
 -- a sound list can be weighed
-pub sound-ready : (n : ℕ) (list : List ℤ) (weights marks : List ℕ) → SoundList n list → 2 * n + 1 < length weights → n < length marks → Ready n list weights marks
-sound-ready n list weights marks e h k =
+pub sound-weighable : (n : ℕ) (list : List ℤ) (weights marks : List ℕ) → SoundList n list → 2 * n + 1 < length weights → n < length marks → WeighableList n list weights marks
+sound-weighable n list weights marks e h k =
     let s = sound n list e in
     record {
-      clean = all-weaken (joining n []) (isClean n) (λ c q. let r = clean n [] c q in and-eq-true-iff (all (isWithin n) c) (distinct c) .1 (r .0, r .1)) (clauses list) (s .formed);
+      clean = all-weaken (joining n []) (isClean n) (λ c q. let r = clean n [] c q in and-eq-true-iff (all (hasVariable n) c) (distinct c) .1 (r .0, r .1)) (clauses list) (s .formed);
       few = omega (arith, s .few);
       slots = h;
       places = k;
     }
 
 -- and what was weighed can be scored
-pub totals-scorable : (n : ℕ) (row a : List ℕ) (size : Option ℕ) (list : List ℤ) (before beforeMarks weights marks : List ℕ) → Ready n list before beforeMarks
+pub totals-scorable : (n : ℕ) (row a : List ℕ) (size : Option ℕ) (list : List ℤ) (before beforeMarks weights marks : List ℕ) → WeighableList n list before beforeMarks
     → length weights ≡ length before → length marks ≡ length beforeMarks → Totals row a size (clauses list) weights marks → Scorable n weights marks
 totals-scorable n row a size list before beforeMarks weights marks r p q t =
     record {

@@ -122,13 +122,13 @@ nearest-some n list row k = (λ e. forth (least-some counts k .0 e), λ h. least
     counts : List ℕ
     counts = map (disagreement row) (permitted n list)
 
-    counted : (a : List ℕ) → Model n (clauses list) a → List·Memᴰ (disagreement row a) counts
-    counted a h = Memᴰ·map (disagreement row) (permitted-iff n list a .1 h)
+    among-counts : (a : List ℕ) → Model n (clauses list) a → List·Memᴰ (disagreement row a) counts
+    among-counts a h = Memᴰ·map (disagreement row) (permitted-iff n list a .1 h)
 
     forth : Minimum counts k → Nearest n (clauses list) row k
     forth h =
         let r = Memᴰ·of-map (disagreement row) (permitted n list) (h .attained) in
-        record { attained = (r .0, permitted-iff n list (r .0) .0 (r .1), r .2); below = λ a m. h .below (disagreement row a) (counted a m) }
+        record { attained = (r .0, permitted-iff n list (r .0) .0 (r .1), r .2); below = λ a m. h .below (disagreement row a) (among-counts a m) }
 
     under : Nearest n (clauses list) row k → (j : ℕ) → List·Memᴰ j counts → k ≤ j
     under h j m =
@@ -136,4 +136,4 @@ nearest-some n list row k = (λ e. forth (least-some counts k .0 e), λ h. least
         omega (arith, h .below (r .0) (permitted-iff n list (r .0) .0 (r .1)), r .2)
 
     back : Nearest n (clauses list) row k → Minimum counts k
-    back h = record { attained = subst (λ (j : ℕ). List·Memᴰ j counts) (h .attained .2) (counted (h .attained .0) (h .attained .1)); below = under h }
+    back h = record { attained = subst (λ (j : ℕ). List·Memᴰ j counts) (h .attained .2) (among-counts (h .attained .0) (h .attained .1)); below = under h }

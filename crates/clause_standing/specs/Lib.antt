@@ -1,4 +1,4 @@
 pub mod Clause
 pub mod Laws
-pub mod Reading
+pub mod Reads
 pub mod Standing

@@ -11,7 +11,7 @@ pub enum Standing {
 
 // A clause of a list: where it ends, how it stands, and in a unit clause the index of its one unassigned
 // literal; of any other clause `last` says nothing.
-pub struct Reading {
+pub struct ReadClause {
     pub end: usize,
     pub standing: Standing,
     pub last: usize,
@@ -26,7 +26,7 @@ pub fn is_unassigned(x: i32, assignment: &[u8]) -> bool
 
 // Reads the clause that begins at an index, each literal once. After one that holds it looks only for
 // the clause's end.
-pub fn read_clause(list: &[i32], from: usize, assignment: &[u8]) -> Reading
+pub fn read_clause(list: &[i32], from: usize, assignment: &[u8]) -> ReadClause
     ensures { λ r. ⌜ IsRead (now (assignment .entry)) (now (list .entry)) from (r .end) (r .standing) (r .last) ⌝ }
 {
     let mut count: usize = 0;
@@ -34,7 +34,7 @@ pub fn read_clause(list: &[i32], from: usize, assignment: &[u8]) -> Reading
     let mut i = from;
     while i < list.len() {
         if literal::closes(list[i]) {
-            return Reading {
+            return ReadClause {
                 end: i,
                 standing: Standing::Open(count),
                 last: last,
@@ -42,7 +42,7 @@ pub fn read_clause(list: &[i32], from: usize, assignment: &[u8]) -> Reading
         }
         if literal::holds_in(list[i], assignment) {
             let end = formula::clause_end(list, i + 1);
-            return Reading {
+            return ReadClause {
                 end: end,
                 standing: Standing::Satisfied,
                 last: last,
@@ -54,7 +54,7 @@ pub fn read_clause(list: &[i32], from: usize, assignment: &[u8]) -> Reading
         }
         i += 1;
     }
-    Reading {
+    ReadClause {
         end: i,
         standing: Standing::Open(count),
         last: last,

@@ -96,8 +96,8 @@ sound-tokens (t ∷ ts) n c size s i h k e =
     l : List ℤ
     l = map element ts
 
-    counted : (x : ℤ) → s .clauses < c → (after s x .clauses ≤ c) × (c ≡ after s x .clauses + zeros l → c ≡ s .clauses + zeros (x ∷ l))
-    counted x m = go (closes x) refl
+    clause-count : (x : ℤ) → s .clauses < c → (after s x .clauses ≤ c) × (c ≡ after s x .clauses + zeros l → c ≡ s .clauses + zeros (x ∷ l))
+    clause-count x m = go (closes x) refl
       where
         go : (b : Bool) → closes x ≡ b → (after s x .clauses ≤ c) × (c ≡ after s x .clauses + zeros l → c ≡ s .clauses + zeros (x ∷ l))
         go true f = rw (f) (omega arith, λ t. omega arith)
@@ -109,7 +109,7 @@ sound-tokens (t ∷ ts) n c size s i h k e =
     token none f g rest = absurd (Option·some-ne-none (refusal 3 (t .place)) g)
     token (some x) f g rest =
         let next : (s .clauses < c) × (stands n s x ≡ true) = good-next n c s (t .place) x h g in
-        let count = counted x (next .0) in
+        let count = clause-count x (next .0) in
         let more = rest (count .0) in
         (rw (next .1) (more .0), count .1 (more .1))
 

@@ -120,11 +120,11 @@ good-tokens (x ∷ l) n c size s i at h e f =
     sound = sound-step n s i x l e
 
     count : c ≡ after s x .clauses + zeros l
-    count = counted (closes x) refl
+    count = zeros-left (closes x) refl
       where
-        counted : (b : Bool) → closes x ≡ b → c ≡ after s x .clauses + zeros l
-        counted true g = let here : c ≡ s .clauses + suc (zeros l) = rw (g) at f in rw (g) (omega arith)
-        counted false g = rw (g) (rw (g) at f)
+        zeros-left : (b : Bool) → closes x ≡ b → c ≡ after s x .clauses + zeros l
+        zeros-left true g = let here : c ≡ s .clauses + suc (zeros l) = rw (g) at f in rw (g) (omega arith)
+        zeros-left false g = rw (g) (rw (g) at f)
 
     read : signed (numeral x) ≡ some x
     read = signed-numeral x (omega (arith, stands-inside n s x (sound .0)))

@@ -3,19 +3,20 @@ use mathlib.Core.Path.{_≡_, refl, sym, ap, ap₂, _∙_}
 use mathlib.Core.Bool.{Bool, true, false, cond, not, _&&_, _||_}
 use mathlib.Core.List.{List, [], _∷_}
 use mathlib.Core.Option.{Option, none, some}
-use Prim.Native.Nat.{ℕ, _≤_}
+use Prim.Native.Nat.{ℕ, _+_, _≤_}
 use native.Mathlib.Omega.{arith}
 use lib.Dec.{ltb}
 use lib.IntN.{ℤ}
 use lib.ListN.{length, drop, drop-of-length-le}
 use borrow.Author.Tests.{lt-ltb, le-ltb, ltb-true, ltb-false}
 use Rattle.literal.specs.Literal.{holds}
-use Rattle.formula.specs.Formula.{any, all, clauses, satisfied}
+use Rattle.formula.specs.Formula.{any, all, clauses, clauseLength, satisfied}
 use Rattle.walk.specs.State.{isUnassigned, unassignedIn}
 use Rattle.walk.specs.Branching.{assignedOrAgainst, isOpposed, shorter, shorterOf, shortest, fewest}
 use Rattle.wish.specs.Wish.{isAgainst}
 use Rattle.walk.specs.BranchingLaws.{fewer, fewest-opposed, fewest-other}
-use Rattle.opposed.specs.Opposed.{opposes, isSome}
+use Rattle.clause_standing.specs.Clause.{clauseAt, Tested}
+use Rattle.opposed.specs.Opposed.{opposes, someOpposed}
 
 -- a literal that holds, one that is unassigned, and one that is assigned and does not hold
 pub opposes-held : (row a : List ℕ) (x : ℤ) → holds a x ≡ true → opposes row a x ≡ false
@@ -37,6 +38,26 @@ opposed-all row a (x ∷ c) = go (holds a x) (assignedOrAgainst row a x) (satisf
     go false true s = refl
     go false false true = refl
     go false false false = refl
+
+-- or if none of them is one that does not, which is what reading it looks for
+abbrev pub spares : List ℕ → List ℕ → ℤ → Bool
+spares row a x = not (opposes row a x)
+
+pub opposed-none : (row a : List ℕ) (c : List ℤ) → isOpposed row a c ≡ not (any (spares row a) c)
+opposed-none row a c = opposed-all row a c ∙ each c
+  where
+    go : (b s : Bool) → b && not s ≡ not (not b || s)
+    go true s = refl
+    go false s = refl
+
+    each : (c : List ℤ) → all (opposes row a) c ≡ not (any (spares row a) c)
+    each [] = refl
+    each (x ∷ c) = ap (λ (b : Bool). opposes row a x && b) (each c) ∙ go (opposes row a x) (any (spares row a) c)
+
+-- so a clause that was read is opposed where no such literal was found
+pub read-opposed : (row a : List ℕ) (l : List ℤ) (from end : ℕ) (r : Bool) → Tested (spares row a) l from end r
+    → (end ≡ from + clauseLength (drop from l)) × (not r ≡ isOpposed row a (clauseAt from l))
+read-opposed row a l from end r t = (t .ends, sym (opposed-none row a (clauseAt from l) ∙ ap not (sym (t .verdict))))
 
 -- the shorter of three clauses is the same from either side
 pub shorter-assoc : (a : List ℕ) (s c e : List ℤ) → shorter a s (shorter a c e) ≡ shorter a (shorter a s c) e
@@ -74,16 +95,16 @@ pub shortest-past : (row a : List ℕ) (l : List ℤ) (i : ℕ) → length l ≤
 shortest-past row a l i h = rw (drop-of-length-le l h)
 
 -- some clause is opposed where there is a shortest
-pub any-opposed : (row a : List ℕ) (f : List (List ℤ)) → any (isOpposed row a) f ≡ isSome (fewest row a f)
+pub any-opposed : (row a : List ℕ) (f : List (List ℤ)) → any (isOpposed row a) f ≡ someOpposed (fewest row a f)
 any-opposed row a [] = refl
 any-opposed row a (c ∷ f) = go (isOpposed row a c) refl (any-opposed row a f)
   where
-    there : (o : Option ℕ) → isSome (fewer (some (unassignedIn a c)) o) ≡ true
+    there : (o : Option ℕ) → someOpposed (fewer (some (unassignedIn a c)) o) ≡ true
     there none = refl
     there (some k) = refl
 
-    go : (b : Bool) → isOpposed row a c ≡ b → any (isOpposed row a) f ≡ isSome (fewest row a f) → isOpposed row a c || any (isOpposed row a) f ≡ isSome (fewest row a (c ∷ f))
+    go : (b : Bool) → isOpposed row a c ≡ b → any (isOpposed row a) f ≡ someOpposed (fewest row a f) → isOpposed row a c || any (isOpposed row a) f ≡ someOpposed (fewest row a (c ∷ f))
     go true e ih =
         ap (λ (t : Bool). t || any (isOpposed row a) f) e
-        ∙ sym (ap isSome (fewest-opposed row a c f e) ∙ there (fewest row a f))
-    go false e ih = ap (λ (t : Bool). t || any (isOpposed row a) f) e ∙ ih ∙ sym (ap isSome (fewest-other row a c f e))
+        ∙ sym (ap someOpposed (fewest-opposed row a c f e) ∙ there (fewest row a f))
+    go false e ih = ap (λ (t : Bool). t || any (isOpposed row a) f) e ∙ ih ∙ sym (ap someOpposed (fewest-other row a c f e))

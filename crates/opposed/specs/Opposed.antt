@@ -25,9 +25,9 @@ sizeOf F.Nothing = none
 sizeOf (F.Literals k) = some k
 
 -- step 3 asks whether some clause is opposed: there is one where there is a number
-abbrev pub isSome : Option ℕ → Bool
-isSome none = false
-isSome (some k) = true
+abbrev pub someOpposed : Option ℕ → Bool
+someOpposed none = false
+someOpposed (some k) = true
 
 -- there is no opposed clause, or one begins at i and the shortest is not before it
 abbrev pub KeepsShortest : List ℕ → List ℕ → List ℤ → Begins → Type 0

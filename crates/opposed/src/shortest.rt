@@ -1,5 +1,5 @@
 // The shortest opposed clause of a list.
-use crate::clause::is_opposed;
+use crate::clause::read_opposed;
 use crate::pair::shorter;
 ghost use mathlib.Core.Path.{_≡_};
 ghost use mathlib.Core.Bool.{true};
@@ -23,8 +23,9 @@ pub fn find_opposed(list: &[i32], row: &[u8], assignment: &[u8]) -> Begins
 {
     let mut from = 0;
     while from < list.len() {
-        let end = formula::clause_end(list, from);
-        if is_opposed(&list[from..end], row, assignment) {
+        let reading = read_opposed(list, from, row, assignment);
+        let end = reading.end;
+        if reading.opposed {
             return Begins::At(from);
         }
         from = end + 1;
@@ -46,10 +47,10 @@ pub fn shortest_opposed<'a>(
     let mut kept = &list[first..first_end];
     let mut from = first_end + 1;
     while from < list.len() {
-        let end = formula::clause_end(list, from);
-        let clause = &list[from..end];
-        if is_opposed(clause, row, assignment) {
-            let best = shorter(kept, clause, assignment);
+        let reading = read_opposed(list, from, row, assignment);
+        let end = reading.end;
+        if reading.opposed {
+            let best = shorter(kept, &list[from..end], assignment);
             kept = best;
         }
         from = end + 1;

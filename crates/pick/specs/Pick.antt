@@ -11,7 +11,7 @@ use Rattle.literal.specs.declared.Variable.{Variable}
 use Rattle.formula.specs.Formula.{models}
 use Rattle.distance.specs.Distance.{disagreement}
 use Rattle.opposed.specs.Laws.{any-opposed}
-use Rattle.opposed.specs.Opposed.{isSome}
+use Rattle.opposed.specs.Opposed.{someOpposed}
 use Rattle.walk.specs.Branching.{fewest, branchingVariable}
 use Rattle.walk.specs.BranchingLaws.{branching-sound}
 use Rattle.walk.specs.Promises.{Branches}
@@ -74,14 +74,14 @@ module _ (f : List (List ℤ)) (row : List ℕ) (d : ℕ) (try : List ℕ → Ou
           )
 
 -- the answer, from what was found out step by step
-module _ (f : List (List ℤ)) (row : List ℕ) (d : ℕ) (a : List ℕ) (broken : ℕ) (counted : broken ≡ disagreement row a) (size : Option ℕ) (short : size ≡ fewest row a f) where
-  exhausted : (t : Bool) → t ≡ eqb broken d && isSome size → isExhausted f row d a ≡ t
-  exhausted t e = rw (e, counted, short, any-opposed row a f)
+module _ (f : List (List ℤ)) (row : List ℕ) (d : ℕ) (a : List ℕ) (broken : ℕ) (breaks : broken ≡ disagreement row a) (size : Option ℕ) (short : size ≡ fewest row a f) where
+  exhausted : (t : Bool) → t ≡ eqb broken d && someOpposed size → isExhausted f row d a ≡ t
+  exhausted t e = rw (e, breaks, short, any-opposed row a f)
 
-  pub at-limit : (t : Bool) → t ≡ eqb broken d && isSome size → t ≡ true → DeadEnd ≡ pickOf f row d a
+  pub at-limit : (t : Bool) → t ≡ eqb broken d && someOpposed size → t ≡ true → DeadEnd ≡ pickOf f row d a
   at-limit t e q = sym (ap (λ (u : Bool). picked u row (fewest row a f) (branchingVariable row a f)) (exhausted t e ∙ q))
 
-  module _ (t : Bool) (e : t ≡ eqb broken d && isSome size) (q : t ≡ false) where
+  module _ (t : Bool) (e : t ≡ eqb broken d && someOpposed size) (q : t ≡ false) where
     pub no-branch : branchingVariable row a f ≡ none → DeadEnd ≡ pickOf f row d a
     no-branch b = rw (exhausted t e, q, b)
 

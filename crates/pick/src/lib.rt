@@ -10,7 +10,7 @@ ghost use lib.ListN.{length};
 ghost use Rattle.formula.specs.Formula.{clauses};
 ghost use Rattle.distance.specs.Distance.{disagreement};
 ghost use Rattle.rule_list.specs.Sound.{SoundList};
-ghost use Rattle.opposed.specs.Opposed.{sizeOf, isSome};
+ghost use Rattle.opposed.specs.Opposed.{sizeOf, someOpposed};
 ghost use Rattle.walk.specs.Walk.{firstValue};
 ghost use Rattle.pick.specs.Pick.{pickOf};
 
@@ -48,7 +48,7 @@ pub fn pick_branch(
 
 // Whether a clause asks for one more broken wish than may be.
 fn is_exhausted(size: Fewest, broken: usize, d: usize) -> bool
-    ensures { λ r. ⌜ r ≡ eqb broken d && isSome (sizeOf size) ⌝ }
+    ensures { λ r. ⌜ r ≡ eqb broken d && someOpposed (sizeOf size) ⌝ }
 {
     match size {
         Fewest::Nothing => false,

@@ -16,7 +16,7 @@ use Rattle.propagation.specs.Trail.{undone, undone-assigned, undone-none
 pub record Searching (n : ℕ) (row a trail : List ℕ) (settled broken : ℕ) : Type 0 where
   pub state : State n a
   pub long : length trail ≡ n
-  pub counted : settled + unassigned a ≡ n
+  pub assigned-and-not : settled + unassigned a ≡ n
   pub breaks : broken ≡ disagreement row a
   pub few : broken ≤ maxWeight * settled
   pub kept : undone settled trail a ≡ a
@@ -42,7 +42,7 @@ module _ (n : ℕ) (row a trail : List ℕ) (settled broken : ℕ) (s : Searchin
       record {
         state = assign-state (s .state) v b (omega arith);
         long = length-set trail (v - 1) settled ∙ s .long;
-        counted = omega (arith, s .counted, assign-fewer (s .state) v b low high free bit);
+        assigned-and-not = omega (arith, s .assigned-and-not, assign-fewer (s .state) v b low high free bit);
         breaks = omega (arith, s .breaks, assign-cost (s .state) row v b low high free);
         few = omega (arith, s .few, cost-most (value row v) b);
         kept =
@@ -57,7 +57,7 @@ module _ (n : ℕ) (row a trail : List ℕ) (settled broken : ℕ) (s : Searchin
 
   -- there is room for one more
   pub not-all : settled < n
-  not-all = omega (arith, s .counted, assign-fewer (s .state) v b low high free bit)
+  not-all = omega (arith, s .assigned-and-not, assign-fewer (s .state) v b low high free bit)
 
 -- after a search that found nothing, what was assigned since is taken away
 module _ (n : ℕ) (row a trail : List ℕ) (settled broken : ℕ) (s : Searching n row a trail settled broken)
@@ -73,7 +73,7 @@ module _ (n : ℕ) (row a trail : List ℕ) (settled broken : ℕ) (s : Searchin
       record {
         state = s .state;
         long = long ∙ s .long;
-        counted = s .counted;
+        assigned-and-not = s .assigned-and-not;
         breaks = s .breaks;
         few = s .few;
         kept = restored-later settled (omega arith) ∙ s .kept;

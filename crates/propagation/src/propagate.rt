@@ -8,6 +8,7 @@ ghost use mathlib.Core.Bool.{true};
 ghost use Prim.Native.Nat.{_≤_};
 ghost use lib.ListN.{length};
 ghost use Rattle.formula.specs.Formula.{clauses};
+ghost use Rattle.limits.specs.Limits.{maxVariables};
 ghost use Rattle.walk.specs.State.{fits};
 ghost use Rattle.propagation.specs.Propagated.{PropagatedBy};
 ghost use Rattle.propagation.specs.Searching.{Searching};
@@ -29,7 +30,7 @@ pub fn propagate_units(
     trail: &mut [u16],
 ) -> Propagated
     requires { ⌜ Searching (length (now a)) (now row) (now a) (now trail) (tally .settled) (tally .broken) ⌝ }
-    requires { ⌜ (fits (length (now a)) (clauses (now list)) ≡ true) × (length (now a) ≤ 640) ⌝ }
+    requires { ⌜ (fits (length (now a)) (clauses (now list)) ≡ true) × (length (now a) ≤ maxVariables) ⌝ }
     ensures { λ r. ⌜ PropagatedBy (length (now (a .entry))) (clauses (now (list .entry))) (now (row .entry)) d (tally .settled) (now (a .entry)) (now (trail .entry)) (now (a .exit)) (now (trail .exit)) r ⌝ }
 {
     let mut present = tally;

@@ -30,7 +30,7 @@ startable s room a = record { few = a .0 .most; sound = a .0 .soundRules; wide =
 pub record Reaches (o : Outcome) (n : ℕ) (before after : List ℕ) (r : Tried) : Type 0 where
   pub answered : brokenIn r ≡ brokenBy (o .answer)
   pub output : after ≡ choiceAfter none (o .answer) n before
-  pub counted : forksIn r ≡ clip (o .forks)
+  pub forks-clipped : forksIn r ≡ clip (o .forks)
 
 pub reaches-found : (o : Outcome) (n : ℕ) (before after a : List ℕ) (broken forks : ℕ) → RootSays o a (Found broken forks) → after ≡ a ++ drop n before
     → Reaches o n before after (Found broken forks)
@@ -38,7 +38,7 @@ reaches-found o n before after a broken forks w e =
     record {
       answered = sym (ap brokenBy (w .0));
       output = e ∙ sym (ap (λ (x : Option Answer). choiceAfter none x n before) (w .0));
-      counted = w .1;
+      forks-clipped = w .1;
     }
 
 pub reaches-nothing : (o : Outcome) (n : ℕ) (before a : List ℕ) (forks : ℕ) → RootSays o a (Nothing forks) → Reaches o n before before (Nothing forks)
@@ -46,5 +46,5 @@ reaches-nothing o n before a forks w =
     record {
       answered = sym (ap brokenBy (w .0));
       output = sym (ap (λ (x : Option Answer). choiceAfter none x n before) (w .0));
-      counted = w .1;
+      forks-clipped = w .1;
     }

@@ -43,7 +43,7 @@ root-searching n row trail a l e =
     (record {
       state = start-state n;
       long = l;
-      counted = omega (arith, start-unassigned n);
+      assigned-and-not = omega (arith, start-unassigned n);
       breaks = sym (nothing-broken row n);
       few = omega arith;
       kept = nothing-undone trail n l;

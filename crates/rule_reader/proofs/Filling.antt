@@ -16,7 +16,7 @@ use Rattle.dimacs.specs.Tokens.{Token, tokensFrom}
 use Rattle.rule_tokens.specs.declared.NextToken as T
 use Rattle.rule_tokens.specs.Laws.{Good, token-end, token-bad, token-good, number-held}
 use Rattle.rule_tokens.specs.NextToken.{nextOf}
-use Rattle.rule_reader.specs.Passes.{isSome, readable}
+use Rattle.rule_reader.specs.Passes.{isSigned, readable}
 
 -- With the numbers of the tokens still to come, the list is what it is to be.
 pub record Filling (file : List ℕ) (from : ℕ) (rules₀ : List ℤ) (rules : List ℤ) (at i : ℕ) : Type 0 where
@@ -34,9 +34,9 @@ module _ {file : List ℕ} {from : ℕ} {rules₀ rules : List ℤ} {at i : ℕ}
   pub never : (place : ℕ) → T.the-variants.Malformed place ≡ nextOf (tokensFrom file at) → ⊥
   never place e =
       let b = token-bad file at place (sym e) in
-      let head : isSome (signed (b .bytes)) ≡ true =
-      and-eq-true-iff (isSome (signed (b .bytes))) (readable (b .rest)) .0 (sym (ap readable (b .split)) ∙ s .good) .0 in
-      false≢true (sym (ap isSome (b .malformed)) ∙ head)
+      let head : isSigned (signed (b .bytes)) ≡ true =
+      and-eq-true-iff (isSigned (signed (b .bytes))) (readable (b .rest)) .0 (sym (ap readable (b .split)) ∙ s .good) .0 in
+      false≢true (sym (ap isSigned (b .malformed)) ∙ head)
 
   -- the next one gives x
   module _ {place next : ℕ} {x : ℤ} (e : T.the-variants.Element place x next ≡ nextOf (tokensFrom file at)) where
@@ -56,7 +56,7 @@ module _ {file : List ℕ} {from : ℕ} {rules₀ rules : List ℤ} {at i : ℕ}
     unfolding rest
     stored =
         record {
-          good = and-eq-true-iff (isSome (signed (g .bytes))) (readable (tokensFrom file next)) .0 (sym (ap readable (g .split)) ∙ s .good) .1;
+          good = and-eq-true-iff (isSigned (signed (g .bytes))) (readable (tokensFrom file next)) .0 (sym (ap readable (g .split)) ∙ s .good) .1;
           room = omega (arith, s .room, ap length (g .split), length-set rules i (toZ w32 (ofZ w32 x)));
           long = length-set rules i (toZ w32 (ofZ w32 x)) ∙ s .long;
           so-far =

@@ -12,13 +12,13 @@ use Rattle.dimacs.specs.Format.{signed, element, badToken, badTokens}
 use Rattle.dimacs.specs.Tokens.{Token}
 
 -- every token is well formed
-abbrev pub isSome : Option ℤ → Bool
-isSome none = false
-isSome (some x) = true
+abbrev pub isSigned : Option ℤ → Bool
+isSigned none = false
+isSigned (some x) = true
 
 abbrev pub readable : List Token → Bool
 readable [] = true
-readable (t ∷ ts) = isSome (signed (t .bytes)) && readable ts
+readable (t ∷ ts) = isSigned (signed (t .bytes)) && readable ts
 
 -- the tokens of a good file are well formed
 first-passed : (o p : Option Refusal) → first (o ∷ p ∷ []) ≡ none → (o ≡ none) × (p ≡ none)
@@ -26,7 +26,7 @@ first-passed none none e = (refl, refl)
 first-passed none (some r) e = absurd (Option·some-ne-none r e)
 first-passed (some r) p e = absurd (Option·some-ne-none r e)
 
-well-formed : (n c : ℕ) (s : Scan) (place : ℕ) (o : Option ℤ) → badToken n c s place o ≡ none → isSome o ≡ true
+well-formed : (n c : ℕ) (s : Scan) (place : ℕ) (o : Option ℤ) → badToken n c s place o ≡ none → isSigned o ≡ true
 well-formed n c s place none e = absurd (Option·some-ne-none (refusal 3 place) e)
 well-formed n c s place (some x) e = refl
 

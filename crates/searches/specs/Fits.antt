@@ -13,17 +13,17 @@ use Rattle.rule_list.specs.Sound.{mayJoin, SoundList}
 use Rattle.soundness.specs.Flat.{joining}
 use Rattle.soundness.specs.Laws.{and-left, and-right, and-both, all-weaken}
 use Rattle.soundness.specs.Soundness.{sound}
-use Rattle.walk.specs.State.{isWithin, fits}
+use Rattle.walk.specs.State.{hasVariable, fits}
 
-within : (n : ℕ) (read c : List ℤ) → joining n read c ≡ true → all (isWithin n) c ≡ true
+within : (n : ℕ) (read c : List ℤ) → joining n read c ≡ true → all (hasVariable n) c ≡ true
 within n read [] e = refl
 within n read (x ∷ c) e =
     let one : not (closes x) && (leb (variable x) n && mayJoin read x) ≡ true = and-left (not (closes x) && (leb (variable x) n && mayJoin read x)) (joining n (x ∷ read) c) e in
     let literal : variable x ≡ 0 → ⊥ = eqb-false (variable x) 0 (not-true (closes x) (and-left (not (closes x)) (leb (variable x) n && mayJoin read x) one)) in
     let inside : leb (variable x) n ≡ true = and-left (leb (variable x) n) (mayJoin read x) (and-right (not (closes x)) (leb (variable x) n && mayJoin read x) one) in
-    and-both (isWithin n x) (all (isWithin n) c)
+    and-both (hasVariable n x) (all (hasVariable n) c)
     (and-both (ltb 0 (variable x)) (leb (variable x) n) (lt-ltb 0 (variable x) (omega arith)) inside)
     (within n (x ∷ read) c (and-right (not (closes x) && (leb (variable x) n && mayJoin read x)) (joining n (x ∷ read) c) e))
 
 pub sound-fits : (n : ℕ) (list : List ℤ) → SoundList n list → fits n (clauses list) ≡ true
-sound-fits n list e = all-weaken (joining n []) (all (isWithin n)) (within n []) (clauses list) (sound n list e .formed)
+sound-fits n list e = all-weaken (joining n []) (all (hasVariable n)) (within n []) (clauses list) (sound n list e .formed)

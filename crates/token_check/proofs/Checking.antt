@@ -36,7 +36,7 @@ pub record Checking (n c : ℕ) (file : List ℕ) (from : ℕ) (stamps : List �
   pub few : k ≤ c
   pub many : m ≤ 31000
   pub so-far : badTokens n c (length file) unread (tokensFrom file from) ≡ badTokens n c (length file) (scan k m clause) (tokensFrom file at)
-  pub counted : length (tokensFrom file from) ≡ k + m + length (tokensFrom file at)
+  pub tokens-passed : length (tokensFrom file from) ≡ k + m + length (tokensFrom file at)
   pub opened : unclosed clause ≡ is-open
   pub stamped : Stamped stamps (k + 1) clause
 
@@ -47,7 +47,7 @@ start n c file from stamps l z =
       few = zero-le;
       many = zero-le;
       so-far = refl;
-      counted = omega arith;
+      tokens-passed = omega arith;
       opened = refl;
       stamped = stamped-none stamps l z;
     }
@@ -61,7 +61,7 @@ module _ {n c : ℕ} {file : List ℕ} {from : ℕ} {stamps : List ℕ} {k m : �
   pub ended : T.the-variants.End ≡ nextOf (tokensFrom file at) → checkAs (cause (ltb k c || is-open) 6 (length file)) (k + m) ≡ answer n c file from
   ended e =
       let done : tokensFrom file at ≡ [] = token-end file at (sym e) in
-      let all : k + m ≡ length (tokensFrom file from) = omega (arith, s .counted, ap length done) in
+      let all : k + m ≡ length (tokensFrom file from) = omega (arith, s .tokens-passed, ap length done) in
       ap₂ checkAs
       (ap (λ (b : Bool). cause (ltb k c || b) 6 (length file)) (sym (s .opened))
       ∙ ap (badTokens n c (length file) (scan k m (s .clause))) (sym done)
@@ -89,7 +89,7 @@ module _ {n c : ℕ} {file : List ℕ} {from : ℕ} {stamps : List ℕ} {k m : �
     here = ap (badTokens n c (length file) (scan k m (s .clause))) (g .split)
 
     counting : length (tokensFrom file from) ≡ k + m + suc (length (tokensFrom file next))
-    counting = omega (arith, s .counted, ap length (g .split))
+    counting = omega (arith, s .tokens-passed, ap length (g .split))
 
     pub faulty : (number : ℕ) → number ≡ faultOf n c k m x → (number ≡ 0 → ⊥) → C.the-variants.Refused (refusal number place) ≡ answer n c file from
     faulty number f z =
@@ -103,7 +103,7 @@ module _ {n c : ℕ} {file : List ℕ} {from : ℕ} {stamps : List ℕ} {k m : �
             few = omega (arith, open-clause n c k m x fine);
             many = s .many;
             so-far = s .so-far ∙ here ∙ accepted-zero n c (length file) k m (s .clause) place (g .bytes) (tokensFrom file next) x (g .number) fine z;
-            counted = omega (arith, counting);
+            tokens-passed = omega (arith, counting);
             opened = refl;
             stamped = stamped-closed stamps (k + 1) (s .clause) (s .stamped);
           }
@@ -128,7 +128,7 @@ module _ {n c : ℕ} {file : List ℕ} {from : ℕ} {stamps : List ℕ} {k m : �
               few = s .few;
               many = omega (arith, room-left n c k m x fine z);
               so-far = s .so-far ∙ here ∙ accepted-literal n c (length file) k m (s .clause) place (g .bytes) (tokensFrom file next) x (g .number) fine z free;
-              counted = omega (arith, counting);
+              tokens-passed = omega (arith, counting);
               opened = refl;
               stamped =
                   subst (λ (l : List ℕ). Stamped l (k + 1) (x ∷ s .clause)) (ap (λ (j : ℕ). set stamps j (k + 1)) (sym same) ∙ sym a)

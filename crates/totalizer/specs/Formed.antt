@@ -16,20 +16,20 @@ use Rattle.soundness.specs.Laws.{and-both, all-append, joins, mayJoin-new}
 use Rattle.totalizer.specs.Totalizer.{Tree, leaf, node, tree, size, added, output, lower, upper, up, down, below, adder, totalizer, limit, atMost, Over}
 use Rattle.totalizer.specs.Meaning.{below-all, not-first, not-last, output-variable, parts}
 use Rattle.totalizer.specs.Trees.{leavesOf, tree-leaves, tree-size}
-use Rattle.totalizer.specs.Rows.{Rising}
+use Rattle.totalizer.specs.Rows.{RisingLiterals}
 
 -- leaves with variables above lo and up to hi, those of a left part below those of its right part
 abbrev Ordered : ℕ → ℕ → Tree → Type 0
 Ordered lo hi (leaf x) = (lo < variable x) × (variable x ≤ hi)
 Ordered lo hi (node s t) = (mid : ℕ) × Ordered lo mid s × Ordered mid hi t
 
-rising-split : (lo hi : ℕ) (l m : List ℤ) → Rising lo hi (l ++ m) → (mid : ℕ) × Rising lo mid l × Rising mid hi m
+rising-split : (lo hi : ℕ) (l m : List ℤ) → RisingLiterals lo hi (l ++ m) → (mid : ℕ) × RisingLiterals lo mid l × RisingLiterals mid hi m
 rising-split lo hi [] m r = (lo, le-refl lo, r)
 rising-split lo hi (x ∷ l) m r =
     let (mid, rl, rm) = rising-split (variable x) hi l m (r .1) in
     (mid, (r .0, rl), rm)
 
-rising-ordered : (lo hi : ℕ) (t : Tree) → Rising lo hi (leavesOf t) → Ordered lo hi t
+rising-ordered : (lo hi : ℕ) (t : Tree) → RisingLiterals lo hi (leavesOf t) → Ordered lo hi t
 rising-ordered lo hi (leaf x) r = r
 rising-ordered lo hi (node s t) r =
     let (mid, rs, rt) = rising-split lo hi (leavesOf s) (leavesOf t) r in
@@ -181,7 +181,7 @@ totalizer-formed N n lo hi (node s t) o h l =
     omega (arith, z .2, output-range (n + added s) (n + added s + added t) t ot (omega arith) w y)))
 
 -- The clauses over leaves whose variables rise and are among 1 to n are well-formed over those and the added ones.
-pub atMost-formed : (n : ℕ) (l : List ℤ) (d : ℕ) → Rising 0 n l → wellFormed (n + added (tree l)) (atMost n l d) ≡ true
+pub atMost-formed : (n : ℕ) (l : List ℤ) (d : ℕ) → RisingLiterals 0 n l → wellFormed (n + added (tree l)) (atMost n l d) ≡ true
 atMost-formed n [] d r = rw (le-ltb d 0 (omega arith))
 atMost-formed n (x ∷ l) d r =
     let t : Tree = tree (x ∷ l) in

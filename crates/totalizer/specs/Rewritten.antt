@@ -16,7 +16,7 @@ use Rattle.soundness.specs.Soundness.{sound, clauses-behind}
 use Rattle.choices.specs.Choices.{Choice}
 use Rattle.totalizer.specs.Totalizer.{leaves, atMost, rewrittenVariables, rewritten, completion}
 use Rattle.totalizer.specs.Trees.{held, Within}
-use Rattle.totalizer.specs.Rows.{Rising, leaves-rising, leaves-within, held-leaves}
+use Rattle.totalizer.specs.Rows.{RisingLiterals, leaves-rising, leaves-within, held-leaves}
 use Rattle.totalizer.specs.Choice.{holds-take, value-take}
 use Rattle.totalizer.specs.Counters.{atMost-says, atMost-met}
 use Rattle.totalizer.specs.Completion.{held-same, segment-completion, completion-segment}
@@ -27,7 +27,7 @@ pub row-within : (n : ℕ) (row : List ℕ) → length row ≡ n → Within n (l
 row-within n row long = rw long at (leaves-within row)
 
 pub row-formed : (n : ℕ) (row : List ℕ) (d : ℕ) → length row ≡ n → wellFormed (rewrittenVariables n row) (atMost n (leaves row) d) ≡ true
-row-formed n row d long = let r : Rising 0 n (leaves row) = rw long at (leaves-rising row) in atMost-formed n (leaves row) d r
+row-formed n row d long = let r : RisingLiterals 0 n (leaves row) = rw long at (leaves-rising row) in atMost-formed n (leaves row) d r
 
 module _ (n : ℕ) (list : List ℤ) (row : List ℕ) (d : ℕ) (ok : SoundList n list) (long : length row ≡ n) where
   -- "The result holds the given rules, then the groups' rules in that same order, then, if d < m, one rule -s(d+1)."
@@ -55,10 +55,10 @@ module _ (n : ℕ) (list : List ℤ) (row : List ℕ) (d : ℕ) (ok : SoundList 
         → (models (take n e) (clauses list) ≡ true) × (disagreement row (take n e) ≤ d) × (e ≡ completion row (take n e))
     rewritten-says m =
         let given : Bool = models (take n e) (clauses list) in
-        let counted : Bool = models e (atMost n (leaves row) d) in
-        let both : given && counted ≡ true = sym rewritten-models ∙ m in
-        let (near, own) = atMost-says (rewrittenVariables n row) e ch n (leaves row) d (row-within n row long) (omega arith) (and-right given counted both) in (
-          and-left given counted both,
+        let limited : Bool = models e (atMost n (leaves row) d) in
+        let both : given && limited ≡ true = sym rewritten-models ∙ m in
+        let (near, own) = atMost-says (rewrittenVariables n row) e ch n (leaves row) d (row-within n row long) (omega arith) (and-right given limited both) in (
+          and-left given limited both,
           omega (arith, broken, near),
           segment-completion n row e ch (row-within n row long) own,
         )

@@ -64,15 +64,15 @@ pub held-leaves : (a row : List ℕ) → length row ≤ length a → held (holds
 held-leaves a row h = held-from a 0 row (omega arith)
 
 -- literals whose variables rise, above lo and up to hi: those of leaves do while a wish has one leaf
-abbrev pub Rising : ℕ → ℕ → List ℤ → Type 0
-Rising lo hi [] = lo ≤ hi
-Rising lo hi (x ∷ l) = (lo < variable x) × Rising (variable x) hi l
+abbrev pub RisingLiterals : ℕ → ℕ → List ℤ → Type 0
+RisingLiterals lo hi [] = lo ≤ hi
+RisingLiterals lo hi (x ∷ l) = (lo < variable x) × RisingLiterals (variable x) hi l
 
-rising-from : (lo mid hi : ℕ) (l : List ℤ) → lo ≤ mid → Rising mid hi l → Rising lo hi l
+rising-from : (lo mid hi : ℕ) (l : List ℤ) → lo ≤ mid → RisingLiterals mid hi l → RisingLiterals lo hi l
 rising-from lo mid hi [] h r = omega arith
 rising-from lo mid hi (x ∷ l) h r = (omega arith, r .1)
 
-rising-row : (v : ℕ) (row : List ℕ) → Rising v (v + length row) (leavesFrom (suc v) row)
+rising-row : (v : ℕ) (row : List ℕ) → RisingLiterals v (v + length row) (leavesFrom (suc v) row)
 rising-row v [] = omega arith
 rising-row v (w ∷ row) = go (isWish w) refl (rising-row (suc v) row)
   where
@@ -83,19 +83,19 @@ rising-row v (w ∷ row) = go (isWish w) refl (rising-row (suc v) row)
     rest = leavesFrom (suc (suc v)) row
 
     with-leaves : ℕ → Type 0
-    with-leaves k = Rising v (v + suc (length row)) (replicate k leaf ++ rest)
+    with-leaves k = RisingLiterals v (v + suc (length row)) (replicate k leaf ++ rest)
 
     top : suc v + length row ≡ v + suc (length row)
     top = omega arith
 
-    go : (b : Bool) → isWish w ≡ b → Rising (suc v) (suc v + length row) rest → with-leaves (weight w)
+    go : (b : Bool) → isWish w ≡ b → RisingLiterals (suc v) (suc v + length row) rest → with-leaves (weight w)
     go true e r =
         let q : variable leaf ≡ suc v = breaking-variable v w in
         subst with-leaves (sym (unit-weight w e)) (omega arith, rw (q, ← top) r)
     go false e r =
         subst with-leaves (sym (weight-free w e)) (rising-from v (suc v) (v + suc (length row)) rest (omega arith) (rw (← top) r))
 
-pub leaves-rising : (row : List ℕ) → Rising 0 (length row) (leaves row)
+pub leaves-rising : (row : List ℕ) → RisingLiterals 0 (length row) (leaves row)
 leaves-rising row = let top : 0 + length row ≡ length row = omega arith in rw top at (rising-row 0 row)
 
 -- they are literals of the row's variables

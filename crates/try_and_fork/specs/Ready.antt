@@ -4,13 +4,14 @@ use mathlib.Core.List.{List}
 use Prim.Native.Nat.{ℕ, _+_, _*_, _≤_, _<_}
 use lib.IntN.{ℤ}
 use lib.ListN.{length}
+use Rattle.limits.specs.Limits.{maxVariables}
 use Rattle.rule_list.specs.Sound.{SoundList}
 use Rattle.walk.specs.Promises.{Branches}
 use Rattle.propagation.specs.Searching.{Searching}
 
 -- for n variables: no more than document 01 admits, a sound list, and tables of so many numbers that each literal's weight and each variable's mark has a place
 pub record Ready (list : List ℤ) (n weights marks : ℕ) : Type 0 where
-  pub few : n ≤ 640
+  pub few : n ≤ maxVariables
   pub sound : SoundList n list
   pub weighs : 2 * n + 1 < weights
   pub mark : n < marks

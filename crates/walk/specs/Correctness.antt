@@ -51,7 +51,7 @@ module _ (n : ℕ) (f : List (List ℤ)) (fit : fits n f ≡ true) (row : List �
 
   of-completion : (a : List ℕ) → State n a → isDeadEnd f row d a ≡ false → models (complete row a) f ≡ true → Right n f row d a (completed row a .answer)
   of-completion a s e t =
-      record { model = record { choice = complete-choice row s; satisfies = t }; counted = refl; limited = omega (arith, complete-cost row a, dead-causes f row d a e .1) }
+      record { model = record { choice = complete-choice row s; satisfies = t }; own-count = refl; limited = omega (arith, complete-cost row a, dead-causes f row d a e .1) }
 
   after-fork : (a : List ℕ) (v b : ℕ) → Branches a n v → b < 2 → (x y : Option Answer)
       → Right n f row d (assign a v b) x → Right n f row d (assign a v (1 - b)) y → Right n f row d a (firstAnswer x y)

@@ -30,7 +30,7 @@ module _ (n : ℕ) (f : List (List ℤ)) (fit : fits n f ≡ true) (row : List �
   at-limit d h none p = λ a m. p a m (start-extends n a)
   at-limit d h (some x) p =
       let r : ModelWithin n f row d x = p in
-      record { model = r .model; counted = r .counted; below = λ a m. omega (arith, h a m, r .limited) }
+      record { model = r .model; own-count = r .own-count; below = λ a m. omega (arith, h a m, r .limited) }
 
   climb-right : (k d m : ℕ) → m ≡ d + k → ((a : List ℕ) → Model n f a → d ≤ disagreement row a) → RightUpTo n f row m (climb n f row k d)
   climb-right zero d m e h =

@@ -13,13 +13,13 @@ use Rattle.walk.specs.Walk.{Answer, isDeadEnd, complete, isExhausted}
 -- an answer of the walk: a model, with its own count, within the limit
 pub record ModelWithin (n : ℕ) (f : List (List ℤ)) (row : List ℕ) (d : ℕ) (x : Answer) : Type 0 where
   pub model : Model n f (x .choice)
-  pub counted : disagreement row (x .choice) ≡ x .broken
+  pub own-count : disagreement row (x .choice) ≡ x .broken
   pub limited : x .broken ≤ d
 
 -- an answer of nearest: a model, with its own count, and no model breaks fewer
 pub record Closest (n : ℕ) (f : List (List ℤ)) (row : List ℕ) (x : Answer) : Type 0 where
   pub model : Model n f (x .choice)
-  pub counted : disagreement row (x .choice) ≡ x .broken
+  pub own-count : disagreement row (x .choice) ≡ x .broken
   pub below : (a : List ℕ) → Model n f a → x .broken ≤ disagreement row a
 
 -- steps 1 to 3 decide nothing

@@ -57,11 +57,11 @@ abbrev pub isFalsified : List ℕ → List ℤ → Bool
 isFalsified a c = isOpen a c && eqb (unassignedIn a c) 0
 
 -- every literal of a formula speaks of one of the variables 1 to n
-abbrev pub isWithin : ℕ → ℤ → Bool
-isWithin n x = ltb 0 (variable x) && leb (variable x) n
+abbrev pub hasVariable : ℕ → ℤ → Bool
+hasVariable n x = ltb 0 (variable x) && leb (variable x) n
 
 abbrev pub fits : ℕ → List (List ℤ) → Bool
-fits n f = all (all (isWithin n)) f
+fits n f = all (all (hasVariable n)) f
 
 -- a state over n variables
 pub record State (n : ℕ) (a : List ℕ) : Type 0 where

@@ -40,14 +40,14 @@ walk-none n f fit row d = (forth, λ g. back g (walk n f row d .answer) (start-r
     back g none p = refl
     back g (some x) p =
         let r : ModelWithin n f row d x = p in
-        absurd (omega (arith, g (x .choice) (r .model), r .counted, r .limited))
+        absurd (omega (arith, g (x .choice) (r .model), r .own-count, r .limited))
 
 -- The same of the choices that are listed.
 pub walk-listed : (n : ℕ) (list : List ℤ) → fits n (clauses list) ≡ true → (row : List ℕ) (d : ℕ) (x : Answer)
     → walk n (clauses list) row d .answer ≡ some x → List·Memᴰ (x .choice) (within n list row d)
 walk-listed n list fit row d x e =
     let r = walk-sound n (clauses list) fit row d x e in
-    within-iff n list row d (x .choice) .1 (r .model, omega (arith, r .counted, r .limited))
+    within-iff n list row d (x .choice) .1 (r .model, omega (arith, r .own-count, r .limited))
 
 pub walk-within : (n : ℕ) (list : List ℤ) → fits n (clauses list) ≡ true → (row : List ℕ) (d : ℕ)
     → (walk n (clauses list) row d .answer ≡ none) ↔ (within n list row d ≡ [])
@@ -79,7 +79,7 @@ nearest-count n list fit row = go (nearestWalk n (clauses list) row) (nearest-ri
     go none p = sym (nearest-none n list row .1 (λ a m. omega (arith, p a m, disagreement-most row a)))
     go (some x) p =
         let r : Closest n (clauses list) row x = p in
-        sym (nearest-some n list row (x .broken) .1 (record { attained = (x .choice, r .model, r .counted); below = r .below }))
+        sym (nearest-some n list row (x .broken) .1 (record { attained = (x .choice, r .model, r .own-count); below = r .below }))
 
 -- Where steps 1 to 3 decide nothing there is a branching variable; it is unassigned and one of 1 to n.
 pub branching-variable : (n : ℕ) (f : List (List ℤ)) → fits n f ≡ true → (row : List ℕ) (d : ℕ) (a : List ℕ) → State n a → Undecided f row d a

@@ -13,10 +13,10 @@ use borrow.Author.Tests.{leb-true, ne-eqb}
 use Rattle.literal.specs.Literal.{variable}
 use Rattle.formula.specs.Formula.{any, all, clauses, clauseLength}
 use Rattle.formula.specs.Laws.{clauses-step}
-use Rattle.walk.specs.State.{isWithin}
+use Rattle.walk.specs.State.{hasVariable}
 use Rattle.walk.specs.Branching.{offers}
 use Rattle.walk.specs.Extension.{wanted-bit}
-use Rattle.weighing.specs.Weights.{isMarked, weightAt, distinct, isClean, Weighable, Weighed, Ready, Totals}
+use Rattle.weighing.specs.Weights.{isMarked, weightAt, distinct, isClean, Weighable, Weighed, WeighableList, Totals}
 use Rattle.weighing.specs.ClauseLaws.{weight-most}
 
 -- a test that every literal passes, at an index
@@ -33,7 +33,7 @@ pub record Weighing (n : ℕ) (row a : List ℕ) (size : Option ℕ) (list : Lis
   pub sums : (j : ℕ) → getD weights j 0 + weightAt a j (clauses (drop i list)) ≡ weightAt a j (clauses list)
   pub marked : (v : ℕ) → isMarked marks v || any (offers row a size v) (clauses (drop i list)) ≡ any (offers row a size v) (clauses list)
 
-module _ (n : ℕ) (row a : List ℕ) (size : Option ℕ) (list : List ℤ) (before beforeMarks : List ℕ) (ready : Ready n list before beforeMarks) where
+module _ (n : ℕ) (row a : List ℕ) (size : Option ℕ) (list : List ℤ) (before beforeMarks : List ℕ) (weighable : WeighableList n list before beforeMarks) where
   -- nothing has been weighed
   pub weighing-start : (weights marks : List ℕ) → length weights ≡ length before → length marks ≡ length beforeMarks
       → ((j : ℕ) → getD weights j 0 ≡ 0) → ((v : ℕ) → getD marks v 0 ≡ 0) → Weighing n row a size list before beforeMarks weights marks 0
@@ -41,7 +41,7 @@ module _ (n : ℕ) (row a : List ℕ) (size : Option ℕ) (list : List ℤ) (bef
       record {
         wide = p;
         long = q;
-        clean = ready .clean;
+        clean = weighable .clean;
         sums = λ j. omega (arith, z j);
         marked = λ v. ap (λ (b : Bool). b || any (offers row a size v) (clauses list)) (ne-eqb (getD marks v 0) 1 (λ e. omega (arith, w v)));
       }
@@ -60,18 +60,18 @@ module _ (n : ℕ) (row a : List ℕ) (size : Option ℕ) (list : List ℤ) (bef
       -- the next clause can be weighed
       pub weighing-clause : Weighable c weights marks
       weighing-clause =
-          let good = and-eq-true-iff (all (isWithin n) c) (distinct c) .0 (parts .0) in
+          let good = and-eq-true-iff (all (hasVariable n) c) (distinct c) .0 (parts .0) in
           record {
-            slots = λ k l. omega (arith, inside k (good .0) l, wanted-bit (getD c k (pos 0)), s .wide, ready .slots);
-            places = λ k l. omega (arith, inside k (good .0) l, s .long, ready .places);
+            slots = λ k l. omega (arith, inside k (good .0) l, wanted-bit (getD c k (pos 0)), s .wide, weighable .slots);
+            places = λ k l. omega (arith, inside k (good .0) l, s .long, weighable .places);
             once = good .1;
-            fits = λ j. omega (arith, s .sums j, weight-most a j (clauses list), ready .few);
+            fits = λ j. omega (arith, s .sums j, weight-most a j (clauses list), weighable .few);
           }
         where
-          inside : (k : ℕ) → all (isWithin n) c ≡ true → k < length c → variable (getD c k (pos 0)) ≤ n
+          inside : (k : ℕ) → all (hasVariable n) c ≡ true → k < length c → variable (getD c k (pos 0)) ≤ n
           inside k good l =
               let x : ℤ = getD c k (pos 0) in
-              leb-true (variable x) n (and-eq-true-iff (ltb 0 (variable x)) (leb (variable x) n) .0 (all-index (isWithin n) c k good l) .1)
+              leb-true (variable x) n (and-eq-true-iff (ltb 0 (variable x)) (leb (variable x) n) .0 (all-index (hasVariable n) c k good l) .1)
 
       -- and then it has been
       pub weighing-next : (weights′ marks′ : List ℕ) → length weights′ ≡ length weights → length marks′ ≡ length marks → Weighed row a size c weights marks weights′ marks′
@@ -106,7 +106,7 @@ module _ (n : ℕ) (row a : List ℕ) (size : Option ℕ) (list : List ℤ) (bef
         kept false = refl
 
 -- only the lengths matter
-pub ready-kept : (n : ℕ) (list : List ℤ) (weights marks weights′ marks′ : List ℕ) → Ready n list weights marks → length weights′ ≡ length weights → length marks′ ≡ length marks
-    → Ready n list weights′ marks′
-ready-kept n list weights marks weights′ marks′ r p q =
+pub weighable-kept : (n : ℕ) (list : List ℤ) (weights marks weights′ marks′ : List ℕ) → WeighableList n list weights marks → length weights′ ≡ length weights → length marks′ ≡ length marks
+    → WeighableList n list weights′ marks′
+weighable-kept n list weights marks weights′ marks′ r p q =
     record { clean = r .clean; few = r .few; slots = omega (arith, r .slots); places = omega (arith, r .places) }

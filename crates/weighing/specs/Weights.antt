@@ -9,7 +9,7 @@ use lib.IntN.{ℤ, pos}
 use lib.ListN.{length, getD}
 use Rattle.literal.specs.Literal.{variable, wanted}
 use Rattle.formula.specs.Formula.{any, all, clauses}
-use Rattle.walk.specs.State.{isWithin}
+use Rattle.walk.specs.State.{hasVariable}
 use Rattle.walk.specs.Branching.{clauseWeight, offers}
 
 -- the weight of -v stands at 2v, that of v at 2v + 1
@@ -34,7 +34,7 @@ distinct (x ∷ c) = not (any (isAt (slot x)) c) && distinct c
 
 -- a clause over the variables 1 to n with no literal twice
 abbrev pub isClean : ℕ → List ℤ → Bool
-isClean n c = all (isWithin n) c && distinct c
+isClean n c = all (hasVariable n) c && distinct c
 
 -- a clause's weight can be added: its literals have slots, each is added once, and the sums fit
 pub record Addable (c : List ℤ) (w : ℕ) (weights : List ℕ) : Type 0 where
@@ -55,7 +55,7 @@ pub record Weighed (row a : List ℕ) (size : Option ℕ) (c : List ℤ) (weight
   pub marked : (v : ℕ) → isMarked marks′ v ≡ isMarked marks v || offers row a size v c
 
 -- a list can be weighed over n variables: its clauses are clean, and few enough for the sums to fit; every literal has its slot, and every variable its place
-pub record Ready (n : ℕ) (list : List ℤ) (weights marks : List ℕ) : Type 0 where
+pub record WeighableList (n : ℕ) (list : List ℤ) (weights marks : List ℕ) : Type 0 where
   pub clean : all (isClean n) (clauses list) ≡ true
   pub few : length (clauses list) ≤ 2 ^ 40
   pub slots : 2 * n + 1 < length weights

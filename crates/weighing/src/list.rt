@@ -5,7 +5,7 @@ use opposed::Fewest;
 ghost use lib.ListN.{length};
 ghost use Rattle.formula.specs.Formula.{clauses};
 ghost use Rattle.opposed.specs.Opposed.{sizeOf};
-ghost use Rattle.weighing.specs.Weights.{Ready, Totals};
+ghost use Rattle.weighing.specs.Weights.{WeighableList, Totals};
 
 // Weighs the clauses in one pass over the list.
 pub fn weigh_list(
@@ -16,7 +16,7 @@ pub fn weigh_list(
     weights: &mut [u64],
     marks: &mut [u64],
 )
-    requires { ⌜ Ready (length (now assignment)) (now list) (now weights) (now marks) ⌝ }
+    requires { ⌜ WeighableList (length (now assignment)) (now list) (now weights) (now marks) ⌝ }
     ensures { λ _. ⌜ Totals (now (row .entry)) (now (assignment .entry)) (sizeOf fewest) (clauses (now (list .entry))) (now (weights .exit)) (now (marks .exit)) ⌝ }
 {
     clear(&mut *weights);

@@ -7,7 +7,7 @@ use lib.ListN.{length, getD}
 use Rattle.literal.specs.Laws.{as-read}
 use Rattle.literal.specs.Literal.{closes, holds}
 use Rattle.walk.specs.State.{isUnassigned}
-use Rattle.clause_standing.specs.Reading.{Reads, reads-start, reads-closed, reads-past, reads-satisfied, reads-unassigned, reads-assigned}
+use Rattle.clause_standing.specs.Reads.{Reads, reads-start, reads-closed, reads-past, reads-satisfied, reads-unassigned, reads-assigned}
 use borrow.Author.Needs.{needs}
 use Rattle.clause_standing.proofs.read_clause.Statement.{statement}
 use Rattle.clause_standing.proofs.read_clause.Tie as tie

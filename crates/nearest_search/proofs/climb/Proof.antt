@@ -22,6 +22,16 @@ Inv-loop n rules row last choice₀ d₀ choice d = (d ≤ last) × (choice ≡ 
 abbrev μ-loop : tie.MeasureT-loop
 μ-loop n rules row last choice₀ d₀ choice d = last - d
 
+-- Points of the program: the entry; the loop's head; after the walk of a turn; after the last walk.
+abbrev entry : tie.At-loop Inv-loop μ-loop → tie.Start Inv-loop μ-loop
+entry c = c .before .before .before
+
+abbrev head : tie.After-walk-into Inv-loop μ-loop → tie.At-loop Inv-loop μ-loop
+head c = c .before .before .before
+
+abbrev past : tie.After-walk-into2 Inv-loop μ-loop → tie.At-loop Inv-loop μ-loop
+past c = c .before .before .before
+
 loop-holds : tie.Need-loop-holds Inv-loop μ-loop
 loop-holds c =
     let g = c .before .before in
@@ -29,73 +39,76 @@ loop-holds c =
 
 walk-into-requires : tie.Need-walk-into-requires Inv-loop μ-loop
 walk-into-requires c κs =
-    let g = c .before .before .before .before .before in
-    subst (λ (l : List ℕ). Startable (g .args .n) (g .args .rules .now) (length l)) (sym (c .before .before .loop .inv .1)) (g .pre .0)
+    let top = c .before .before in
+    let g = entry top in
+    subst (λ (l : List ℕ). Startable (g .args .n) (g .args .rules .now) (length l)) (sym (top .loop .inv .1)) (g .pre .0)
 
 enum-known-broken : tie.Need-enum-known-broken Inv-loop μ-loop
-enum-known-broken c =
-    search needs
+enum-known-broken c = search needs
 
 same-length : tie.Need-same-length Inv-loop μ-loop
 same-length c =
-    c .before .before .before .before .before .walk-into .kept .1 .1 .1 .1 .0 ∙ ap length (c .before .before .before .before .before .before .before .before .loop .inv .1)
+    let walked = c .before .before .before .before .before in
+    walked .walk-into .kept .1 .1 .1 .1 .0 ∙ ap length (head walked .loop .inv .1)
 
 returns : tie.Need-returns Inv-loop μ-loop
 returns c =
-    let args = c .before .before .before .before .before .before .before .before .before .before .before .args in
+    let walked = c .before .before .before .before .before in
+    let args = entry (head walked) .args in
     let f = clauses (args .rules .now) in
-    let at = c .before .before .before .before .before .before .before .before .loop in
-    let call = c .before .before .before .before .before .walk-into in
+    let at = head walked .loop in
+    let call = walked .walk-into in
     let answered : some (c .before .broken .given .0 .0) ≡ brokenBy (walk (args .n) f (args .row .now) (at .d) .answer) = ap brokenIn (sym (c .before .broken .given .1)) ∙ call .ensures .answered in
-    let same = climb-found (args .n) f (args .row .now) (args .last) (at .d) (at .inv .2) (c .before .before .before .before .before .before .before .loop-test .taken) (c .before .broken .given .0 .0) answered in (
+    let same = climb-found (args .n) f (args .row .now) (args .last) (at .d) (at .inv .2) (walked .before .before .loop-test .taken) (c .before .broken .given .0 .0) answered in (
       ap searchedOf (answered ∙ ap brokenBy (sym same)),
       call .ensures .output ∙ ap₂ (λ (o : Option Answer) (l : List ℕ). choiceAfter none o (args .n) l) (sym same) (at .inv .1),
     )
 
 enum-told : tie.Need-enum-told Inv-loop μ-loop
-enum-told c =
-    search needs
+enum-told c = search needs
 
 add-d : tie.Need-add-d Inv-loop μ-loop
-add-d c =
-    search needs
+add-d c = search needs
 
 loop-less : tie.Need-loop-less Inv-loop μ-loop
-loop-less c =
-    search needs
+loop-less c = search needs
 
 loop-again : tie.Need-loop-again Inv-loop μ-loop
 loop-again c =
-    let args = c .before .before .before .before .before .before .before .before .before .before .args in
+    let walked = c .before .before .before .before in
+    let args = entry (head walked) .args in
     let f = clauses (args .rules .now) in
-    let at = c .before .before .before .before .before .before .before .loop in
-    let call = c .before .before .before .before .walk-into in
+    let at = head walked .loop in
+    let call = walked .walk-into in
+    let below = walked .before .before .loop-test .taken in
     let answered : none ≡ brokenBy (walk (args .n) f (args .row .now) (at .d) .answer) = ap brokenIn (sym (c .enum-told .given .1)) ∙ call .ensures .answered in (
-      omega (arith, c .before .before .before .before .before .before .loop-test .taken),
+      omega (arith, below),
       left-alone (walk (args .n) f (args .row .now) (at .d) .answer) (args .n) (at .choice) (call .last .1 .1 .1 .1 .0) answered (call .ensures .output) ∙ at .inv .1,
-      climb-on (args .n) f (args .row .now) (args .last) (at .d) (at .inv .2) (c .before .before .before .before .before .before .loop-test .taken) answered,
+      climb-on (args .n) f (args .row .now) (args .last) (at .d) (at .inv .2) below answered,
     )
 
 walk-into-requires-2 : tie.Need-walk-into-requires-2 Inv-loop μ-loop
 walk-into-requires-2 c κs =
-    let g = c .before .before .before .before .before in
-    subst (λ (l : List ℕ). Startable (g .args .n) (g .args .rules .now) (length l)) (sym (c .before .before .loop .inv .1)) (g .pre .0)
+    let top = c .before .before in
+    let g = entry top in
+    subst (λ (l : List ℕ). Startable (g .args .n) (g .args .rules .now) (length l)) (sym (top .loop .inv .1)) (g .pre .0)
 
 answer-of-requires : tie.Need-answer-of-requires Inv-loop μ-loop
-answer-of-requires c κs =
-    search needs
+answer-of-requires c κs = search needs
 
 same-length-2 : tie.Need-same-length-2 Inv-loop μ-loop
 same-length-2 c =
-    c .before .before .before .walk-into2 .kept .1 .1 .1 .1 .0 ∙ ap length (c .before .before .before .before .before .before .loop .inv .1)
+    let walked = c .before .before .before in
+    walked .walk-into2 .kept .1 .1 .1 .1 .0 ∙ ap length (past walked .loop .inv .1)
 
 returns-2 : tie.Need-returns-2 Inv-loop μ-loop
 returns-2 c =
-    let args = c .before .before .before .before .before .before .before .before .before .args in
+    let walked = c .before .before .before in
+    let args = entry (past walked) .args in
     let f = clauses (args .rules .now) in
-    let at = c .before .before .before .before .before .before .loop in
-    let call = c .before .before .before .walk-into2 in
-    let same = climb-last (args .n) f (args .row .now) (args .last) (at .d) (at .inv .2) (c .before .before .before .before .before .loop-test .left) in (
+    let at = past walked .loop in
+    let call = walked .walk-into2 in
+    let same = climb-last (args .n) f (args .row .now) (args .last) (at .d) (at .inv .2) (walked .before .before .loop-test .left) in (
       c .answer-of .ensures ∙ ap searchedOf (call .ensures .answered ∙ ap brokenBy (sym same)),
       call .ensures .output ∙ ap₂ (λ (o : Option Answer) (l : List ℕ). choiceAfter none o (args .n) l) (sym same) (at .inv .1),
     )

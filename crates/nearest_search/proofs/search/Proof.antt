@@ -20,24 +20,40 @@ use borrow.Author.Needs.{needs}
 use Rattle.nearest_search.proofs.search.Statement.{statement}
 use Rattle.nearest_search.proofs.search.Tie as tie
 
+-- Points of the program: the entry; after the checks; past them, with the counts; after the climb.
+abbrev entry : tie.After-with-room → tie.Start
+entry c = c .before .before .before .before
+
+abbrev checked : tie.After-known-told2 → tie.After-with-room
+checked c = c .before .before .before
+
+abbrev counts : tie.After-climb → tie.After-known-told2
+counts c = c .before .before
+
 -- after the checks: what was lent, and what they say of it
 module _ (c : tie.After-with-room) where
+  abbrev n : ℕ
+  n = entry c .args .n
+
+  abbrev room : ℕ
+  room = length (entry c .args .choice .now)
+
   abbrev problem-of : Lent
-  problem-of = wishedProblem (c .before .before .before .before .args .n) (c .before .before .before .before .args .rules .now) (c .before .before .before .before .args .row .now) 0
+  problem-of = wishedProblem n (entry c .args .rules .now) (entry c .args .row .now) 0
 
   abbrev lent : Lent
-  lent = lentToSearch (c .before .before .before .before .args .n) (c .before .before .before .before .args .rules .now) (c .before .before .before .before .args .row .now) 0 (length (c .before .before .before .before .args .choice .now))
+  lent = lentToSearch n (entry c .args .rules .now) (entry c .args .row .now) 0 room
 
   told : c .with-room .result ≡ start lent
-  told = c .with-room .ensures ∙ started (c .before .admit-wishes .result) problem-of (c .before .before .before .before .args .n) (length (c .before .before .before .before .args .choice .now)) (c .before .admit-wishes .ensures)
+  told = c .with-room .ensures ∙ started (c .before .admit-wishes .result) problem-of n room (c .before .admit-wishes .ensures)
 
 -- past them, with the counts
 module _ (c : tie.After-known-told2) where
-  counted : (refusalOf (lent (c .before .before .before)) ≡ none) × (c .before .counts .given .0 .0 ≡ countsOf (lent (c .before .before .before)))
-  counted = admitted-by (refusalOf (lent (c .before .before .before))) (countsOf (lent (c .before .before .before))) (c .before .counts .given .0 .0) (sym (told (c .before .before .before)) ∙ c .before .counts .given .1)
+  passed : (refusalOf (lent (checked c)) ≡ none) × (c .before .counts .given .0 .0 ≡ countsOf (lent (checked c)))
+  passed = admitted-by (refusalOf (lent (checked c))) (countsOf (lent (checked c))) (c .before .counts .given .0 .0) (sym (told (checked c)) ∙ c .before .counts .given .1)
 
-  ready : Admitted (problem-of (c .before .before .before)) × (c .before .before .before .before .before .before .before .args .n ≤ length (c .before .before .before .before .before .before .before .args .choice .now))
-  ready = unrefused (problem-of (c .before .before .before)) (c .before .before .before .before .before .before .before .args .n) (length (c .before .before .before .before .before .before .before .args .choice .now)) (counted .0)
+  ready : Admitted (problem-of (checked c)) × (n (checked c) ≤ room (checked c))
+  ready = unrefused (problem-of (checked c)) (n (checked c)) (room (checked c)) (passed .0)
 
 admit-wishes-requires : tie.Need-admit-wishes-requires
 admit-wishes-requires c κs = search needs
@@ -54,12 +70,12 @@ enum-known-counts c = search needs
 climb-requires : tie.Need-climb-requires
 climb-requires c κs =
     let past = c .before in
-    (startable (problem-of (past .before .before .before)) (length (c .before .before .before .before .before .before .before .before .args .choice .now)) (ready past), ap (λ (k : Counts). k .weight) (counted past .1))
+    (startable (problem-of (checked past)) (room (checked past)) (ready past), ap (λ (k : Counts). k .weight) (passed past .1))
 
 returns : tie.Need-returns
 returns c =
     let p = c .before .before .before in
-    let args = c .before .before .before .before .before .before .before .args in
+    let args = entry p .args in
     let r = c .before .r .given .0 .0 in
     let refuses : refusalOf (lent p) ≡ some r = refused-by (refusalOf (lent p)) (countsOf (lent p)) r (sym (told p) ∙ c .before .r .given .1) in (
       refused-reply (refusalOf (lent p)) r (found (nearest (args .n) (args .rules .now) (args .row .now))) refuses,
@@ -71,14 +87,15 @@ same-length c = search needs
 
 returns-2 : tie.Need-returns-2
 returns-2 c =
-    let args = c .before .before .before .before .before .before .before .before .before .before .before .args in
-    let past = c .before .before .before .before in
-    let p = c .before .before .before .before .before .before .before in
+    let climbed = c .before .before in
+    let past = counts climbed in
+    let p = checked past in
+    let args = entry p .args in
     let answer = nearestWalk (args .n) (clauses (args .rules .now)) (args .row .now) in
-    let call = c .before .before .climb in
+    let call = climbed .climb in
     let after = call .last .1 .1 .1 .1 .0 in
     let sound = ready past .0 .soundRules in
-    let w = given-answer (refusalOf (lent p)) answer (args .n) (args .choice .now) (counted past .0) (call .result) after (call .ensures .0) (call .ensures .1) in (
+    let w = given-answer (refusalOf (lent p)) answer (args .n) (args .choice .now) (passed past .0) (call .result) after (call .ensures .0) (call .ensures .1) in (
       w .0 ∙ ap (λ (o : Option ℕ). unless (refusalOf (lent p)) (found o)) (nearest-is (args .n) (args .rules .now) sound (args .row .now)),
       (
         w .1,

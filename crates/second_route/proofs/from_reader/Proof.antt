@@ -1,7 +1,9 @@
 -- `second_route::from_reader` meets its contract: the reader is refused, or plain search has the part of the list that it filled.
-use mathlib.Core.Path.{_≡_, sym, ap, _∙_}
-use Prim.Native.Nat.{_≤_}
+use mathlib.Core.Path.{_≡_, sym, ap, subst, _∙_}
+use mathlib.Core.List.{List}
+use Prim.Native.Nat.{ℕ, _≤_}
 use native.Mathlib.Omega.{arith}
+use lib.IntN.{ℤ}
 use lib.ListN.{length, length-take}
 use borrow.Author.Needs.{needs}
 use Rattle.refusal.specs.Reply.{answering}
@@ -12,6 +14,16 @@ use Rattle.second_route.specs.Routes.{inBuffers}
 use Rattle.second_route.proofs.from_reader.Statement.{statement}
 use Rattle.second_route.proofs.from_reader.Tie as tie
 
+-- Points of the program: the entry; after the reader; with the counts that it gave; after the search.
+abbrev entry : tie.After-read-rules → tie.Start
+entry c = c .before .before .before .before
+
+abbrev read : tie.After-known-told2 → tie.After-read-rules
+read c = c .before .before .before .before
+
+abbrev counts : tie.After-search → tie.After-known-told2
+counts c = c .before .before .before
+
 read-rules-requires : tie.Need-read-rules-requires
 read-rules-requires c κs = search needs
 
@@ -21,15 +33,28 @@ enum-known-r c = search needs
 enum-known-counts : tie.Need-enum-known-counts
 enum-known-counts c = search needs
 
--- what the reader said, and the part that it filled
-said : (c : tie.After-known-told2)
-    → answering 1 (c .before .counts .given .0 .0 .variables) (c .before .counts .given .0 .0 .clauses) (c .before .counts .given .0 .0 .length) ≡ readReply (c .before .before .before .before .before .before .before .before .args .file .now) (length (c .before .before .before .before .before .before .before .before .args .list .now))
-said c = sym (ap replyOf (c .before .counts .given .1)) ∙ c .before .before .before .before .read-rules .ensures .0
+-- with the counts: what the reader said, and the part that it filled
+module _ (c : tie.After-known-told2) where
+  abbrev start : tie.Start
+  start = entry (read c)
 
-inside : (c : tie.After-known-told2) → c .before .counts .given .0 .0 .length ≤ length (c .before .before .before .before .read-rules .last .1 .0)
-inside c =
-    let held = c .before .counts .given .0 .0 in
-    rw (c .before .before .before .before .read-rules .ensures .1) (read-inside (c .before .before .before .before .before .before .before .before .args .file .now) (c .before .before .before .before .before .before .before .before .args .list .now) (held .variables) (held .clauses) (held .length) (said c))
+  abbrev variables : ℕ
+  variables = c .before .counts .given .0 .0 .variables
+
+  abbrev clauses : ℕ
+  clauses = c .before .counts .given .0 .0 .clauses
+
+  abbrev size : ℕ
+  size = c .before .counts .given .0 .0 .length
+
+  abbrev list : List ℤ
+  list = read c .read-rules .last .1 .0
+
+  said : answering 1 variables clauses size ≡ readReply (start .args .file .now) (length (start .args .list .now))
+  said = sym (ap replyOf (c .before .counts .given .1)) ∙ read c .read-rules .ensures .0
+
+  inside : size ≤ length list
+  inside = subst (λ (l : List ℤ). size ≤ length l) (sym (read c .read-rules .ensures .1)) (read-inside (start .args .file .now) (start .args .list .now) variables clauses size said)
 
 slice-reshare-prefix-search : tie.Need-slice-reshare-prefix-search
 slice-reshare-prefix-search c = omega (arith, inside c)
@@ -45,8 +70,9 @@ same-length c = search needs
 
 returns : tie.Need-returns
 returns c =
-    let args = c .before .before .before .before .before .before .before .before .args in
-    let call = c .before .before .before .before .read-rules in
+    let told = c .before .before .before .before in
+    let args = entry told .args in
+    let call = told .read-rules in
     let held = c .before .r .given in
     let out = reader-refused (inBuffers (args .list .now) (args .file .now) (args .list .now) (args .choice .now)) (args .file .now) (held .0 .0) (sym (ap replyOf (held .1)) ∙ call .ensures .0) in
     (out .0, (call .ensures .1, out .1))
@@ -59,11 +85,12 @@ same-length-3 c = search needs
 
 returns-2 : tie.Need-returns-2
 returns-2 c =
-    let args = c .before .before .before .before .before .before .before .before .before .before .before .before .before .args in
-    let call = c .before .before .before .before .before .before .before .before .before .read-rules in
-    let held = c .before .before .before .before .before .before .counts .given .0 .0 in
-    let searched = c .before .before .search in
-    let out = reader-answered (inBuffers (args .list .now) (args .file .now) (args .list .now) (args .choice .now)) (args .file .now) (held .variables) (held .clauses) (held .length) (said (c .before .before .before .before .before)) (call .last .1 .0) (call .ensures .1) (searches.replyOf (searched .result)) (searched .last .1 .1 .0) (searched .ensures .0) (searched .ensures .1 .0) in
+    let walked = c .before .before in
+    let known = counts walked in
+    let args = start known .args in
+    let call = read known .read-rules in
+    let searched = walked .search in
+    let out = reader-answered (inBuffers (args .list .now) (args .file .now) (args .list .now) (args .choice .now)) (args .file .now) (variables known) (clauses known) (size known) (said known) (list known) (call .ensures .1) (searches.replyOf (searched .result)) (searched .last .1 .1 .0) (searched .ensures .0) (searched .ensures .1 .0) in
     (out .0, (call .ensures .1, out .1))
 
 pub from-reader-spec : {M : Type 1} → statement M

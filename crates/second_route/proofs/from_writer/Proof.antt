@@ -1,6 +1,7 @@
 -- `second_route::from_writer` meets its contract: the writer is refused, or the reader has the part of the file that it filled.
-use mathlib.Core.Path.{_≡_, sym, ap, _∙_}
-use Prim.Native.Nat.{_≤_}
+use mathlib.Core.Path.{_≡_, sym, ap, subst, _∙_}
+use mathlib.Core.List.{List}
+use Prim.Native.Nat.{ℕ, _≤_}
 use native.Mathlib.Omega.{arith}
 use lib.ListN.{length, length-take}
 use borrow.Author.Needs.{needs}
@@ -12,6 +13,16 @@ use Rattle.second_route.specs.Routes.{inBuffers}
 use Rattle.second_route.proofs.from_writer.Statement.{statement}
 use Rattle.second_route.proofs.from_writer.Tie as tie
 
+-- Points of the program: the entry; after the writer; with the length that it gave; after the rest of the route.
+abbrev entry : tie.After-write-rules → tie.Start
+entry c = c .before .before .before .before
+
+abbrev wrote : tie.After-known-told2 → tie.After-write-rules
+wrote c = c .before .before .before .before .before
+
+abbrev measured : tie.After-from-reader → tie.After-known-told2
+measured c = c .before .before .before .before
+
 write-rules-requires : tie.Need-write-rules-requires
 write-rules-requires c κs = search needs
 
@@ -21,15 +32,24 @@ enum-known-r c = search needs
 enum-known-k : tie.Need-enum-known-k
 enum-known-k c = search needs
 
--- what the writer said, and the part that it filled
-said : (c : tie.After-known-told2)
-    → answering 1 (c .before .k .given .0 .0) 0 0 ≡ writeReply (c .before .before .before .before .before .before .before .before .before .args .n) (c .before .before .before .before .before .before .before .before .before .args .rules .now) (length (c .before .before .before .before .before .before .before .before .before .args .file .now))
-said c = sym (ap replyOf (c .before .k .given .1)) ∙ c .before .before .before .before .before .write-rules .ensures .0
+-- with the length: what the writer said, and the part that it filled
+module _ (c : tie.After-known-told2) where
+  abbrev start : tie.Start
+  start = entry (wrote c)
 
-inside : (c : tie.After-known-told2) → c .before .k .given .0 .0 ≤ length (c .before .before .before .before .before .write-rules .last .1 .1 .0)
-inside c =
-    let args = c .before .before .before .before .before .before .before .before .before .args in
-    rw (c .before .before .before .before .before .write-rules .ensures .1) (written-inside (args .n) (args .rules .now) (args .file .now) (c .before .k .given .0 .0) (said c))
+  abbrev size : ℕ
+  size = c .before .k .given .0 .0
+
+  abbrev written : List ℕ
+  written = wrote c .write-rules .last .1 .1 .0
+
+  said : answering 1 size 0 0 ≡ writeReply (start .args .n) (start .args .rules .now) (length (start .args .file .now))
+  said = sym (ap replyOf (c .before .k .given .1)) ∙ wrote c .write-rules .ensures .0
+
+  inside : size ≤ length written
+  inside =
+      let args = start .args in
+      subst (λ (l : List ℕ). size ≤ length l) (sym (wrote c .write-rules .ensures .1)) (written-inside (args .n) (args .rules .now) (args .file .now) size said)
 
 slice-reshare-prefix-from-reader : tie.Need-slice-reshare-prefix-from-reader
 slice-reshare-prefix-from-reader c = omega (arith, inside c)
@@ -45,8 +65,9 @@ same-length c = search needs
 
 returns : tie.Need-returns
 returns c =
-    let args = c .before .before .before .before .before .before .before .before .before .args in
-    let call = c .before .before .before .before .before .write-rules in
+    let told = c .before .before .before .before .before in
+    let args = entry told .args in
+    let call = told .write-rules in
     let held = c .before .r .given in
     let out = writer-refused (inBuffers (args .rules .now) (args .file .now) (args .list .now) (args .choice .now)) (args .n) (args .rules .now) (held .0 .0) (sym (ap replyOf (held .1)) ∙ call .ensures .0) in
     (out .0, (call .ensures .1, (out .1, out .2)))
@@ -62,10 +83,12 @@ same-length-4 c = search needs
 
 returns-2 : tie.Need-returns-2
 returns-2 c =
-    let args = c .before .before .before .before .before .before .before .before .before .before .before .before .before .before .before .before .args in
-    let call = c .before .before .before .before .before .before .before .before .before .before .before .before .write-rules in
-    let rest = c .before .before .before .from-reader in
-    let out = writer-answered (inBuffers (args .rules .now) (args .file .now) (args .list .now) (args .choice .now)) (args .n) (args .rules .now) (c .before .before .before .before .before .before .before .before .k .given .0 .0) (said (c .before .before .before .before .before .before .before)) (call .last .1 .1 .0) (call .ensures .1) (searches.replyOf (rest .result)) (rest .last .1 .0) (rest .last .1 .1 .0) (rest .ensures .0) (rest .ensures .1 .0) (rest .ensures .1 .1) in
+    let walked = c .before .before .before in
+    let known = measured walked in
+    let args = start known .args in
+    let call = wrote known .write-rules in
+    let rest = walked .from-reader in
+    let out = writer-answered (inBuffers (args .rules .now) (args .file .now) (args .list .now) (args .choice .now)) (args .n) (args .rules .now) (size known) (said known) (written known) (call .ensures .1) (searches.replyOf (rest .result)) (rest .last .1 .0) (rest .last .1 .1 .0) (rest .ensures .0) (rest .ensures .1 .0) (rest .ensures .1 .1) in
     (out .0, (call .ensures .1, (out .1, out .2)))
 
 pub from-writer-spec : {M : Type 1} → statement M

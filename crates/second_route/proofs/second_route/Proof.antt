@@ -1,7 +1,9 @@
 -- `second_route::second_route` meets its contract: rewriting is refused, or the writer has the part of the list that it filled.
-use mathlib.Core.Path.{_≡_, sym, ap, _∙_}
-use Prim.Native.Nat.{_≤_}
+use mathlib.Core.Path.{_≡_, sym, ap, subst, _∙_}
+use mathlib.Core.List.{List}
+use Prim.Native.Nat.{ℕ, _≤_}
 use native.Mathlib.Omega.{arith}
+use lib.IntN.{ℤ}
 use lib.ListN.{length, length-take}
 use borrow.Author.Needs.{needs}
 use Rattle.refusal.specs.Reply.{answering}
@@ -12,6 +14,16 @@ use Rattle.second_route.specs.Routes.{inBuffers}
 use Rattle.second_route.proofs.second_route.Statement.{statement}
 use Rattle.second_route.proofs.second_route.Tie as tie
 
+-- Points of the program: the entry; after rewriting; with the sizes that it gave; after the rest of the route.
+abbrev entry : tie.After-rewrite → tie.Start
+entry c = c .before .before .before .before .before
+
+abbrev rewrote : tie.After-known-told2 → tie.After-rewrite
+rewrote c = c .before .before .before .before
+
+abbrev sized : tie.After-from-writer → tie.After-known-told2
+sized c = c .before .before .before .before .before
+
 rewrite-requires : tie.Need-rewrite-requires
 rewrite-requires c κs = search needs
 
@@ -21,16 +33,27 @@ enum-known-r c = search needs
 enum-known-sizes : tie.Need-enum-known-sizes
 enum-known-sizes c = search needs
 
--- what rewriting said, and the part that it filled
-said : (c : tie.After-known-told2)
-    → answering 1 (c .before .sizes .given .0 .0 .variables) (c .before .sizes .given .0 .0 .length) 0 ≡ rewriteReply (c .before .before .before .before .before .before .before .before .before .args .n) (c .before .before .before .before .before .before .before .before .before .args .rules .now) (c .before .before .before .before .before .before .before .before .before .args .row .now) (c .before .before .before .before .before .before .before .before .before .args .d) (length (c .before .before .before .before .before .before .before .before .before .args .rewritten .now))
-said c = sym (ap replyOf (c .before .sizes .given .1)) ∙ c .before .before .before .before .rewrite .ensures .0
+-- with the sizes: what rewriting said, and the part that it filled
+module _ (c : tie.After-known-told2) where
+  abbrev start : tie.Start
+  start = entry (rewrote c)
 
-inside : (c : tie.After-known-told2) → c .before .sizes .given .0 .0 .length ≤ length (c .before .before .before .before .rewrite .last .1 .1 .1 .1 .0)
-inside c =
-    let args = c .before .before .before .before .before .before .before .before .before .args in
-    let held = c .before .sizes .given .0 .0 in
-    rw (c .before .before .before .before .rewrite .ensures .1) (rewritten-inside (args .n) (args .rules .now) (args .row .now) (args .d) (args .rewritten .now) (held .variables) (held .length) (said c))
+  abbrev variables : ℕ
+  variables = c .before .sizes .given .0 .0 .variables
+
+  abbrev size : ℕ
+  size = c .before .sizes .given .0 .0 .length
+
+  abbrev rewritten : List ℤ
+  rewritten = rewrote c .rewrite .last .1 .1 .1 .1 .0
+
+  said : answering 1 variables size 0 ≡ rewriteReply (start .args .n) (start .args .rules .now) (start .args .row .now) (start .args .d) (length (start .args .rewritten .now))
+  said = sym (ap replyOf (c .before .sizes .given .1)) ∙ rewrote c .rewrite .ensures .0
+
+  inside : size ≤ length rewritten
+  inside =
+      let args = start .args in
+      subst (λ (l : List ℤ). size ≤ length l) (sym (rewrote c .rewrite .ensures .1)) (rewritten-inside (args .n) (args .rules .now) (args .row .now) (args .d) (args .rewritten .now) variables size said)
 
 slice-reshare-prefix-from-writer : tie.Need-slice-reshare-prefix-from-writer
 slice-reshare-prefix-from-writer c = omega (arith, inside c)
@@ -46,8 +69,9 @@ same-length c = search needs
 
 returns : tie.Need-returns
 returns c =
-    let args = c .before .before .before .before .before .before .before .before .before .args in
-    let call = c .before .before .before .before .rewrite in
+    let told = c .before .before .before .before in
+    let args = entry told .args in
+    let call = told .rewrite in
     let held = c .before .r .given in
     rewriting-refused (args .n) (args .rules .now) (args .row .now) (args .d) (inBuffers (args .rewritten .now) (args .file .now) (args .list .now) (args .choice .now)) (held .0 .0) (sym (ap replyOf (held .1)) ∙ call .ensures .0) (call .last .1 .1 .1 .1 .0) (call .ensures .1)
 
@@ -65,11 +89,11 @@ same-length-5 c = search needs
 
 returns-2 : tie.Need-returns-2
 returns-2 c =
-    let args = c .before .before .before .before .before .before .before .before .before .before .before .before .before .before .before .before .before .before .before .args in
-    let call = c .before .before .before .before .before .before .before .before .before .before .before .before .before .before .rewrite in
-    let held = c .before .before .before .before .before .before .before .before .before .before .before .sizes .given .0 .0 in
-    let rest = c .before .before .before .before .before .from-writer in
-    rewriting-answered (args .n) (args .rules .now) (args .row .now) (args .d) (inBuffers (args .rewritten .now) (args .file .now) (args .list .now) (args .choice .now)) (held .variables) (held .length) (said (c .before .before .before .before .before .before .before .before .before .before)) (call .last .1 .1 .1 .1 .0) (call .ensures .1) (searches.replyOf (rest .result)) (rest .last .1 .1 .0) (rest .last .1 .1 .1 .0) (rest .last .1 .1 .1 .1 .0) (rest .ensures .0) (rest .ensures .1 .0) (rest .ensures .1 .1 .0) (rest .ensures .1 .1 .1)
+    let walked = c .before .before .before .before .before in
+    let known = sized walked in
+    let args = start known .args in
+    let rest = walked .from-writer in
+    rewriting-answered (args .n) (args .rules .now) (args .row .now) (args .d) (inBuffers (args .rewritten .now) (args .file .now) (args .list .now) (args .choice .now)) (variables known) (size known) (said known) (rewritten known) (rewrote known .rewrite .ensures .1) (searches.replyOf (rest .result)) (rest .last .1 .1 .0) (rest .last .1 .1 .1 .0) (rest .last .1 .1 .1 .1 .0) (rest .ensures .0) (rest .ensures .1 .0) (rest .ensures .1 .1 .0) (rest .ensures .1 .1 .1)
 
 pub second-route-spec : {M : Type 1} → statement M
 second-route-spec =

@@ -1,7 +1,7 @@
 -- `wish_search::search` meets its contract: refused, or what the walk comes to.
 use mathlib.Core.Path.{_≡_, refl, sym, ap, subst, _∙_}
 use mathlib.Core.Option.{none}
-use Prim.Native.Nat.{_≤_}
+use Prim.Native.Nat.{ℕ, _≤_}
 use lib.ListN.{length}
 use Rattle.formula.specs.Formula.{clauses}
 use Rattle.causes.specs.Admitted.{Admitted, unrefused}
@@ -16,24 +16,40 @@ use borrow.Author.Needs.{needs}
 use Rattle.wish_search.proofs.search.Statement.{statement}
 use Rattle.wish_search.proofs.search.Tie as tie
 
+-- Points of the program: the entry; after the checks; past them; after the walk.
+abbrev entry : tie.After-with-room → tie.Start
+entry c = c .before .before .before .before
+
+abbrev checked : tie.After-enum-told → tie.After-with-room
+checked c = c .before .before
+
+abbrev begun : tie.After-walk-into → tie.After-enum-told
+begun c = c .before .before
+
 -- after the checks: what was lent, and what they say of it
 module _ (c : tie.After-with-room) where
+  abbrev n : ℕ
+  n = entry c .args .n
+
+  abbrev room : ℕ
+  room = length (entry c .args .choice .now)
+
   abbrev problem-of : Lent
-  problem-of = wishedProblem (c .before .before .before .before .args .n) (c .before .before .before .before .args .rules .now) (c .before .before .before .before .args .row .now) (c .before .before .before .before .args .d)
+  problem-of = wishedProblem n (entry c .args .rules .now) (entry c .args .row .now) (entry c .args .d)
 
   abbrev lent : Lent
-  lent = lentToSearch (c .before .before .before .before .args .n) (c .before .before .before .before .args .rules .now) (c .before .before .before .before .args .row .now) (c .before .before .before .before .args .d) (length (c .before .before .before .before .args .choice .now))
+  lent = lentToSearch n (entry c .args .rules .now) (entry c .args .row .now) (entry c .args .d) room
 
   told : c .with-room .result ≡ start lent
-  told = c .with-room .ensures ∙ started (c .before .admit-wishes .result) problem-of (c .before .before .before .before .args .n) (length (c .before .before .before .before .args .choice .now)) (c .before .admit-wishes .ensures)
+  told = c .with-room .ensures ∙ started (c .before .admit-wishes .result) problem-of n room (c .before .admit-wishes .ensures)
 
 -- past them
 module _ (c : tie.After-enum-told) where
-  passed : refusalOf (lent (c .before .before)) ≡ none
-  passed = admitted-by (refusalOf (lent (c .before .before))) (countsOf (lent (c .before .before))) (c .enum-told .given .0 .0) (sym (told (c .before .before)) ∙ c .enum-told .given .1) .0
+  passed : refusalOf (lent (checked c)) ≡ none
+  passed = admitted-by (refusalOf (lent (checked c))) (countsOf (lent (checked c))) (c .enum-told .given .0 .0) (sym (told (checked c)) ∙ c .enum-told .given .1) .0
 
-  ready : Admitted (problem-of (c .before .before)) × (c .before .before .before .before .before .before .args .n ≤ length (c .before .before .before .before .before .before .args .choice .now))
-  ready = unrefused (problem-of (c .before .before)) (c .before .before .before .before .before .before .args .n) (length (c .before .before .before .before .before .before .args .choice .now)) passed
+  ready : Admitted (problem-of (checked c)) × (n (checked c) ≤ room (checked c))
+  ready = unrefused (problem-of (checked c)) (n (checked c)) (room (checked c)) passed
 
 admit-wishes-requires : tie.Need-admit-wishes-requires
 admit-wishes-requires c κs = search needs
@@ -49,7 +65,8 @@ enum-told c = search needs
 
 walk-into-requires : tie.Need-walk-into-requires
 walk-into-requires c κs =
-    startable (problem-of (c .before .before .before)) (length (c .before .before .before .before .before .before .before .args .choice .now)) (ready (c .before))
+    let p = checked (c .before) in
+    startable (problem-of p) (room p) (ready (c .before))
 
 answer-of-requires : tie.Need-answer-of-requires
 answer-of-requires c κs = search needs
@@ -57,7 +74,7 @@ answer-of-requires c κs = search needs
 returns : tie.Need-returns
 returns c =
     let p = c .before .before .before in
-    let args = c .before .before .before .before .before .before .before .args in
+    let args = entry p .args in
     let r = c .before .r .given .0 .0 in
     let w = refused-answer (refusalOf (lent p)) (walk (args .n) (clauses (args .rules .now)) (args .row .now) (args .d) .answer) (args .n) (args .choice .now) r (refused-by (refusalOf (lent p)) (countsOf (lent p)) r (sym (told p) ∙ c .before .r .given .1)) in
     (w .0, (w .1, tt))
@@ -67,13 +84,14 @@ same-length c = search needs
 
 returns-2 : tie.Need-returns-2
 returns-2 c =
-    let args = c .before .before .before .before .before .before .before .before .before .before .before .args in
-    let past = c .before .before .before .before .before in
+    let walked = c .before .before .before in
+    let past = begun walked in
+    let args = entry (checked past) .args in
     let answer = walk (args .n) (clauses (args .rules .now)) (args .row .now) (args .d) .answer in
-    let after = c .before .before .before .walk-into .last .1 .1 .1 .1 .0 in
-    let reaches = c .before .before .before .walk-into .ensures in
+    let after = walked .walk-into .last .1 .1 .1 .1 .0 in
+    let reaches = walked .walk-into .ensures in
     let answered : c .answer-of .result ≡ searchedOf (brokenBy answer) = c .answer-of .ensures ∙ ap searchedOf (reaches .answered) in
-    let w = given-answer (refusalOf (lent (past .before .before))) answer (args .n) (args .choice .now) (passed past) (c .answer-of .result) after answered (reaches .output) in (
+    let w = given-answer (refusalOf (lent (checked past))) answer (args .n) (args .choice .now) (passed past) (c .answer-of .result) after answered (reaches .output) in (
       w .0,
       (
         w .1,

@@ -1,6 +1,7 @@
 -- `branching::score_of` meets its contract.
-use Prim.Native.Nat.{_+_, _*_}
+use Prim.Native.Nat.{_+_, _*_, _^_, _≤_}
 use native.Mathlib.Omega.{arith}
+use lib.ListN.{getD}
 use borrow.Author.Needs.{needs}
 use Rattle.branching.proofs.score.score_of.Statement.{statement}
 use Rattle.branching.proofs.score.score_of.Tie as tie
@@ -23,23 +24,27 @@ mul-on c = search needs
 shared-slice-read-on : tie.Need-shared-slice-read-on
 shared-slice-read-on c = search needs
 
+-- the two weights of the variable are small enough for the sum
+small : (c : tie.Start) → (getD (c .args .weights .now) (2 * c .args .v .0) 0 ≤ 2 ^ 60) × (getD (c .args .weights .now) (2 * c .args .v .0 + 1) 0 ≤ 2 ^ 60)
+small c = (c .pre .1 (2 * c .args .v .0), c .pre .1 (2 * c .args .v .0 + 1))
+
 mul-result : tie.Need-mul-result
-mul-result c = omega (arith, c .before .before .before .before .pre .1 (2 * c .before .before .before .before .args .v .0), c .before .before .before .before .pre .1 (2 * c .before .before .before .before .args .v .0 + 1))
+mul-result c = omega (arith, small (c .before .before .before .before))
 
 mul-result-2 : tie.Need-mul-result-2
-mul-result-2 c = omega (arith, c .before .before .before .before .pre .1 (2 * c .before .before .before .before .args .v .0), c .before .before .before .before .pre .1 (2 * c .before .before .before .before .args .v .0 + 1))
+mul-result-2 c = omega (arith, small (c .before .before .before .before))
 
 add-result : tie.Need-add-result
-add-result c = omega (arith, c .before .before .before .before .pre .1 (2 * c .before .before .before .before .args .v .0), c .before .before .before .before .pre .1 (2 * c .before .before .before .before .args .v .0 + 1))
+add-result c = omega (arith, small (c .before .before .before .before))
 
 lesser-requires : tie.Need-lesser-requires
 lesser-requires c κs = search needs
 
 mul-result-3 : tie.Need-mul-result-3
-mul-result-3 c = omega (arith, c .before .before .before .before .before .pre .1 (2 * c .before .before .before .before .before .args .v .0), c .before .before .before .before .before .pre .1 (2 * c .before .before .before .before .before .args .v .0 + 1), c .lesser .ensures)
+mul-result-3 c = omega (arith, small (c .before .before .before .before .before), c .lesser .ensures)
 
 add-result-2 : tie.Need-add-result-2
-add-result-2 c = omega (arith, c .before .before .before .before .before .pre .1 (2 * c .before .before .before .before .before .args .v .0), c .before .before .before .before .before .pre .1 (2 * c .before .before .before .before .before .args .v .0 + 1), c .lesser .ensures)
+add-result-2 c = omega (arith, small (c .before .before .before .before .before), c .lesser .ensures)
 
 returns : tie.Need-returns
 returns c = search needs

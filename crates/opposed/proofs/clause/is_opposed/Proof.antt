@@ -1,8 +1,9 @@
 -- `opposed::is_opposed` meets its contract. The loop's invariant: the literals passed oppose.
 use mathlib.Core.Path.{_≡_, sym, ap, _∙_}
-use Prim.Native.Nat.{_-_, _≤_}
+use mathlib.Core.List.{List}
+use Prim.Native.Nat.{ℕ, _-_, _≤_}
 use native.Mathlib.Omega.{arith}
-use lib.IntN.{pos}
+use lib.IntN.{ℤ, pos}
 use lib.ListN.{length, getD, drop}
 use borrow.Author.Tests.{not-true, not-false}
 use Rattle.literal.specs.Laws.{as-read}
@@ -21,8 +22,28 @@ Inv-loop clause row assignment i₀ i = (i ≤ length clause) × (isOpposed row 
 abbrev μ-loop : tie.MeasureT-loop
 μ-loop clause row assignment i₀ i = length clause - i
 
+-- Points of the program: the entry; the loop's head, before the literal there was tested.
+abbrev entry : tie.At-loop Inv-loop μ-loop → tie.Start Inv-loop μ-loop
+entry c = c .before .before .before
+
+abbrev head : tie.After-is-opposing Inv-loop μ-loop → tie.At-loop Inv-loop μ-loop
+head c = c .before .before .before
+
+-- the values there
+module _ (c : tie.At-loop Inv-loop μ-loop) where
+  abbrev row : List ℕ
+  row = entry c .args .row .now
+
+  abbrev a : List ℕ
+  a = entry c .args .assignment .now
+
+  abbrev clause : List ℤ
+  clause = entry c .args .clause .now
+
 loop-holds : tie.Need-loop-holds Inv-loop μ-loop
-loop-holds c = (omega arith, opposed-all (c .before .before .args .row .now) (c .before .before .args .assignment .now) (c .before .before .args .clause .now))
+loop-holds c =
+    let args = c .before .before .args in
+    (omega arith, opposed-all (args .row .now) (args .assignment .now) (args .clause .now))
 
 mul-is-opposing : tie.Need-mul-is-opposing Inv-loop μ-loop
 mul-is-opposing c = search needs
@@ -35,11 +56,16 @@ is-opposing-requires c κs = search needs
 
 -- the callee's answer is about the clause's literal
 handed : (c : tie.After-is-opposing Inv-loop μ-loop)
-    → c .is-opposing .result ≡ opposes (c .before .before .before .before .before .before .args .row .now) (c .before .before .before .before .before .before .args .assignment .now) (getD (c .before .before .before .before .before .before .args .clause .now) (c .before .before .before .loop .i) (pos 0))
-handed c = c .is-opposing .ensures ∙ ap (opposes (c .before .before .before .before .before .before .args .row .now) (c .before .before .before .before .before .before .args .assignment .now)) (as-read (getD (c .before .before .before .before .before .before .args .clause .now) (c .before .before .before .loop .i) (pos 0)) (c .before .is-opposing-arg .given))
+    → c .is-opposing .result ≡ opposes (row (head c)) (a (head c)) (getD (clause (head c)) (head c .loop .i) (pos 0))
+handed c =
+    let top = head c in
+    c .is-opposing .ensures ∙ ap (opposes (row top) (a top)) (as-read (getD (clause top) (top .loop .i) (pos 0)) (c .before .is-opposing-arg .given))
 
 returns : tie.Need-returns Inv-loop μ-loop
-returns c = sym (c .before .before .before .before .loop .inv .1 ∙ all-fails (opposes (c .before .before .before .before .before .before .before .args .row .now) (c .before .before .before .before .before .before .before .args .assignment .now)) (c .before .before .before .before .before .before .before .args .clause .now) (c .before .before .before .before .loop .i) (pos 0) (c .before .before .before .loop-test .taken) (sym (handed (c .before)) ∙ not-true _ (c .if1 .taken)))
+returns c =
+    let asked = c .before in
+    let top = head asked in
+    sym (top .loop .inv .1 ∙ all-fails (opposes (row top) (a top)) (clause top) (top .loop .i) (pos 0) (asked .before .before .loop-test .taken) (sym (handed asked) ∙ not-true _ (c .if1 .taken)))
 
 add-i : tie.Need-add-i Inv-loop μ-loop
 add-i c = search needs
@@ -48,10 +74,15 @@ loop-less : tie.Need-loop-less Inv-loop μ-loop
 loop-less c = search needs
 
 loop-again : tie.Need-loop-again Inv-loop μ-loop
-loop-again c = (omega arith, c .before .before .before .before .loop .inv .1 ∙ all-here (opposes (c .before .before .before .before .before .before .before .args .row .now) (c .before .before .before .before .before .before .before .args .assignment .now)) (c .before .before .before .before .before .before .before .args .clause .now) (c .before .before .before .before .loop .i) (pos 0) (c .before .before .before .loop-test .taken) (sym (handed (c .before)) ∙ not-false _ (c .if1 .left)))
+loop-again c =
+    let asked = c .before in
+    let top = head asked in
+    (omega arith, top .loop .inv .1 ∙ all-here (opposes (row top) (a top)) (clause top) (top .loop .i) (pos 0) (asked .before .before .loop-test .taken) (sym (handed asked) ∙ not-false _ (c .if1 .left)))
 
 returns-2 : tie.Need-returns-2 Inv-loop μ-loop
-returns-2 c = sym (c .before .loop .inv .1 ∙ all-past (opposes (c .before .before .before .before .args .row .now) (c .before .before .before .before .args .assignment .now)) (c .before .before .before .before .args .clause .now) (c .before .loop .i) (c .loop-test .left))
+returns-2 c =
+    let top = c .before in
+    sym (top .loop .inv .1 ∙ all-past (opposes (row top) (a top)) (clause top) (top .loop .i) (c .loop-test .left))
 
 pub is-opposed-spec : {M : Type 1} → statement M
 is-opposed-spec =

@@ -2,11 +2,11 @@
 use mathlib.Core.Path.{_≡_, sym, ap, _∙_}
 use Prim.Native.Nat.{_+_, _-_}
 use native.Mathlib.Omega.{arith}
-use lib.ListN.{length, take, drop}
+use lib.ListN.{length, drop}
 use Rattle.formula.specs.Formula.{clauses}
-use Rattle.formula.specs.Laws.{end-inside, clauses-step}
-use Rattle.walk.specs.Branching.{isOpposed, shortest}
-use Rattle.clause_standing.specs.Clause.{clause-at}
+use Rattle.formula.specs.Laws.{end-inside}
+use Rattle.walk.specs.Branching.{shortest}
+use Rattle.clause_standing.specs.Clause.{clauseAt, clauses-at}
 use Rattle.opposed.specs.Laws.{shortest-other, shortest-past}
 use borrow.Author.Needs.{needs}
 use Rattle.opposed.proofs.shortest.find_opposed.Statement.{statement}
@@ -18,64 +18,48 @@ Inv-loop list row assignment from₀ from = shortest row assignment (clauses lis
 abbrev μ-loop : tie.MeasureT-loop
 μ-loop list row assignment from₀ from = length list - from
 
+-- Points of the program: the entry; the loop's head, before the clause there was read.
+abbrev entry : tie.At-loop Inv-loop μ-loop → tie.Start Inv-loop μ-loop
+entry c = c .before .before .before
+
+abbrev head : tie.After-read-opposed Inv-loop μ-loop → tie.At-loop Inv-loop μ-loop
+head c = c .before .before
+
 loop-holds : tie.Need-loop-holds Inv-loop μ-loop
 loop-holds c = search needs
 
-clause-end-requires : tie.Need-clause-end-requires Inv-loop μ-loop
-clause-end-requires c κs = search needs
-
-mul-is-opposed : tie.Need-mul-is-opposed Inv-loop μ-loop
-mul-is-opposed c = search needs
-
-sub-is-opposed : tie.Need-sub-is-opposed Inv-loop μ-loop
-sub-is-opposed c = search needs
-
-part-is-opposed-start : tie.Need-part-is-opposed-start Inv-loop μ-loop
-part-is-opposed-start c = search needs
-
-part-is-opposed-end : tie.Need-part-is-opposed-end Inv-loop μ-loop
-part-is-opposed-end c =
-    end-inside (c .before .before .before .before .before .args .list .now) (c .before .before .loop .from) (c .clause-end .result) (omega arith) (c .clause-end .ensures)
-
-is-opposed-requires : tie.Need-is-opposed-requires Inv-loop μ-loop
-is-opposed-requires c κs = search needs
+read-opposed-requires : tie.Need-read-opposed-requires Inv-loop μ-loop
+read-opposed-requires c κs = search needs
 
 returns : tie.Need-returns Inv-loop μ-loop
 returns c =
-    let called = c .before .before .before in
-    let here = called .before .before in
-    let args = here .before .before .before .args in (
-      called .before .loop-test .taken,
-      sym (ap (isOpposed (args .row .now) (args .assignment .now)) (clause-at (args .list .now) (here .loop .from) (called .clause-end .result) (called .clause-end .ensures)))
-          ∙ sym (c .before .is-opposed .ensures)
-          ∙ c .if1 .taken,
-      here .loop .inv,
-    )
+    let called = c .before in
+    (called .before .loop-test .taken, sym (called .read-opposed .ensures .1) ∙ c .if1 .taken, head called .loop .inv)
 
 add-from : tie.Need-add-from Inv-loop μ-loop
 add-from c =
-    let called = c .before .before .before in
-    let here = called .before .before in
-    omega (arith, end-inside (here .before .before .before .args .list .now) (here .loop .from) (called .clause-end .result) (omega arith) (called .clause-end .ensures))
+    let called = c .before in
+    let here = head called in
+    omega (arith, end-inside (entry here .args .list .now) (here .loop .from) (called .read-opposed .result .end) (omega arith) (called .read-opposed .ensures .0))
 
 loop-less : tie.Need-loop-less Inv-loop μ-loop
 loop-less c = search needs
 
 loop-again : tie.Need-loop-again Inv-loop μ-loop
 loop-again c =
-    let called = c .before .before .before in
-    let here = called .before .before in
-    let args = here .before .before .before .args in
+    let called = c .before in
+    let here = head called in
+    let args = entry here .args in
     let l = args .list .now in
     let from = here .loop .from in
-    let end = called .clause-end .result in
+    let end = called .read-opposed .result .end in
     here .loop .inv
-    ∙ ap (shortest (args .row .now) (args .assignment .now)) (clauses-step l from end (called .before .loop-test .taken) (called .clause-end .ensures))
-    ∙ shortest-other (args .row .now) (args .assignment .now) (take (end - from) (drop from l)) (clauses (drop (end + 1) l)) (sym (c .before .is-opposed .ensures) ∙ c .if1 .left)
+    ∙ ap (shortest (args .row .now) (args .assignment .now)) (clauses-at l from end (called .read-opposed .ensures .0) (called .before .loop-test .taken))
+    ∙ shortest-other (args .row .now) (args .assignment .now) (clauseAt from l) (clauses (drop (end + 1) l)) (sym (called .read-opposed .ensures .1) ∙ c .if1 .left)
 
 returns-2 : tie.Need-returns-2 Inv-loop μ-loop
 returns-2 c =
-    let args = c .before .before .before .before .args in
+    let args = entry (c .before) .args in
     c .before .loop .inv ∙ shortest-past (args .row .now) (args .assignment .now) (args .list .now) (c .before .loop .from) (c .loop-test .left)
 
 pub find-opposed-spec : {M : Type 1} → statement M
@@ -85,12 +69,7 @@ find-opposed-spec =
     Inv-loop
     μ-loop
     loop-holds
-    clause-end-requires
-    mul-is-opposed
-    sub-is-opposed
-    part-is-opposed-start
-    part-is-opposed-end
-    is-opposed-requires
+    read-opposed-requires
     returns
     add-from
     loop-less

@@ -3,7 +3,7 @@ use mathlib.Core.Path.{_≡_, sym, ap, _∙_}
 use mathlib.Core.List.{List, _∷_}
 use mathlib.Core.Logic.{⊎-elim}
 use mathlib.Core.Option.{Option, some}
-use Prim.Native.Nat.{_+_, _-_}
+use Prim.Native.Nat.{_+_, _-_, _≤_}
 use native.Mathlib.Omega.{arith}
 use lib.IntN.{ℤ}
 use lib.ListN.{length, take, drop}
@@ -23,6 +23,13 @@ Inv-loop list first row assignment first-end kept₀ from₀ kept from =
 
 abbrev μ-loop : tie.MeasureT-loop
 μ-loop list first row assignment first-end kept₀ from₀ kept from = length list - from
+
+-- Points of the program: the entry; the loop's head, before the clause there was read.
+abbrev entry : tie.At-loop Inv-loop μ-loop → tie.Start Inv-loop μ-loop
+entry c = c .before .before .before .before .before
+
+abbrev head : tie.After-read-opposed Inv-loop μ-loop → tie.At-loop Inv-loop μ-loop
+head c = c .before .before
 
 clause-end-requires : tie.Need-clause-end-requires Inv-loop μ-loop
 clause-end-requires c κs = search needs
@@ -58,65 +65,69 @@ loop-holds c =
     ∙ shortest-first row a (take (end - first) (drop first l)) (clauses (drop (end + 1) l))
     (ap (isOpposed row a) (clause-at l first end (c .before .clause-end .ensures)) ∙ start .pre .1)
 
-clause-end-requires-2 : tie.Need-clause-end-requires-2 Inv-loop μ-loop
-clause-end-requires-2 c κs = search needs
+read-opposed-requires : tie.Need-read-opposed-requires Inv-loop μ-loop
+read-opposed-requires c κs = search needs
 
-mul-clause : tie.Need-mul-clause Inv-loop μ-loop
-mul-clause c = search needs
+mul-shorter : tie.Need-mul-shorter Inv-loop μ-loop
+mul-shorter c = search needs
 
-sub-clause : tie.Need-sub-clause Inv-loop μ-loop
-sub-clause c = search needs
+sub-shorter : tie.Need-sub-shorter Inv-loop μ-loop
+sub-shorter c = search needs
 
-part-clause-start : tie.Need-part-clause-start Inv-loop μ-loop
-part-clause-start c = search needs
+part-shorter-start : tie.Need-part-shorter-start Inv-loop μ-loop
+part-shorter-start c = search needs
 
-part-clause-end : tie.Need-part-clause-end Inv-loop μ-loop
-part-clause-end c =
-    let here = c .before .before in
-    end-inside (here .before .before .before .before .before .args .list .now) (here .loop .from) (c .clause-end2 .result) (omega arith) (c .clause-end2 .ensures)
+-- a clause that was read ends inside the list, and its part of the list is opposed if it is
+module _ (c : tie.After-read-opposed Inv-loop μ-loop) where
+  inside : c .read-opposed .result .end ≤ length (entry (head c) .args .list .now)
+  inside =
+      end-inside (entry (head c) .args .list .now) (head c .loop .from) (c .read-opposed .result .end) (omega (arith, c .before .loop-test .taken)) (c .read-opposed .ensures .0)
 
-is-opposed-requires : tie.Need-is-opposed-requires Inv-loop μ-loop
-is-opposed-requires c κs = search needs
+  told : c .read-opposed .result .opposed ≡ isOpposed (entry (head c) .args .row .now) (entry (head c) .args .assignment .now) (take (c .read-opposed .result .end - head c .loop .from) (drop (head c .loop .from) (entry (head c) .args .list .now)))
+  told =
+      let args = entry (head c) .args in
+      c .read-opposed .ensures .1
+      ∙ sym (ap (isOpposed (args .row .now) (args .assignment .now)) (clause-at (args .list .now) (head c .loop .from) (c .read-opposed .result .end) (c .read-opposed .ensures .0)))
+
+part-shorter-end : tie.Need-part-shorter-end Inv-loop μ-loop
+part-shorter-end c = inside (c .before)
 
 shorter-requires : tie.Need-shorter-requires Inv-loop μ-loop
 shorter-requires c κs = search needs
 
 add-from-2 : tie.Need-add-from-2 Inv-loop μ-loop
-add-from-2 c =
-    let called = c .before .before .before in
-    let here = called .before .before in
-    omega (arith, end-inside (here .before .before .before .before .before .args .list .now) (here .loop .from) (called .clause-end2 .result) (omega arith) (called .clause-end2 .ensures))
+add-from-2 c = omega (arith, inside (c .before))
 
 loop-less : tie.Need-loop-less Inv-loop μ-loop
 loop-less c = search needs
 
 loop-again : tie.Need-loop-again Inv-loop μ-loop
 loop-again c =
-    let called = c .before .before .before in
-    let here = called .before .before in
-    let args = here .before .before .before .before .before .args in
+    let called = c .before in
+    let here = head called in
+    let args = entry here .args in
     let row = args .row .now in
     let a = args .assignment .now in
     let l = args .list .now in
     let from = here .loop .from in
-    let end = called .clause-end2 .result in
+    let end = called .read-opposed .result .end in
     let kept = here .loop .kept .now in
     let clause : List ℤ = take (end - from) (drop from l) in
     let rest : List (List ℤ) = clauses (drop (end + 1) l) in
     let before : shortest row a (clauses (drop (args .first) l)) ≡ some (shorterOf a kept (shortest row a (clause ∷ rest))) =
-    here .loop .inv ∙ ap (λ (f : List (List ℤ)). some (shorterOf a kept (shortest row a f))) (clauses-step l from end (called .before .loop-test .taken) (called .clause-end2 .ensures)) in
+    here .loop .inv ∙ ap (λ (f : List (List ℤ)). some (shorterOf a kept (shortest row a f))) (clauses-step l from end (called .before .loop-test .taken) (called .read-opposed .ensures .0)) in
     let next : (s : List ℤ) → c .if1 .kept .now ≡ s → shorterOf a kept (shortest row a (clause ∷ rest)) ≡ shorterOf a s (shortest row a rest)
     → shortest row a (clauses (drop (args .first) l)) ≡ some (shorterOf a (c .if1 .kept .now) (shortest row a rest)) =
     λ s p e. before ∙ ap {B = Option (List ℤ)} some (e ∙ sym (ap (λ (t : List ℤ). shorterOf a t (shortest row a rest)) p)) in
     ⊎-elim
-    (λ w. next _ (ap now (w .2) ∙ w .1 .ensures) (kept-shorter row a clause rest (sym (c .before .is-opposed .ensures) ∙ w .0 .taken) kept))
-    (λ w. next kept (ap now (w .1)) (kept-other row a clause rest (sym (c .before .is-opposed .ensures) ∙ w .0 .left) kept))
+    (λ w. next _ (ap now (w .3) ∙ w .2 .ensures) (kept-shorter row a clause rest (sym (told called) ∙ w .0 .taken) kept))
+    (λ w. next kept (ap now (w .1)) (kept-other row a clause rest (sym (told called) ∙ w .0 .left) kept))
     (c .if1 .came)
 
 returns : tie.Need-returns Inv-loop μ-loop
 returns c =
     let here = c .before in
-    let args = here .before .before .before .before .before .args in
+    let args = entry here .args in
     sym (here .loop .inv
     ∙ ap (λ (o : Option (List ℤ)). some (shorterOf (args .assignment .now) (here .loop .kept .now) o)) (shortest-past (args .row .now) (args .assignment .now) (args .list .now) (here .loop .from) (c .loop-test .left)))
 
@@ -133,12 +144,11 @@ shortest-opposed-spec =
     part-kept-end
     add-from
     loop-holds
-    clause-end-requires-2
-    mul-clause
-    sub-clause
-    part-clause-start
-    part-clause-end
-    is-opposed-requires
+    read-opposed-requires
+    mul-shorter
+    sub-shorter
+    part-shorter-start
+    part-shorter-end
     shorter-requires
     add-from-2
     loop-less

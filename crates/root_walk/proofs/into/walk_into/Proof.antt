@@ -129,22 +129,29 @@ walk-from-root-requires c κs =
       },
     )
 
+-- The ways on from there: something was found, and is copied; nothing was.
+abbrev found-by : tie.After-known-told → tie.After-walk-from-root
+found-by c = c .before .before .before .before .before .before .before
+
+abbrev nothing-by : tie.After-known-told2 → tie.After-walk-from-root
+nothing-by c = c .before .before .before .before .before .before .before
+
 enum-known-broken : tie.Need-enum-known-broken
 enum-known-broken c = search needs
 
 array-share-prefix-a : tie.Need-array-share-prefix-a
 array-share-prefix-a c =
-    let walked = c .before .before .before .before .before .before .before in
+    let walked = found-by c in
     omega (arith, length-append (values walked) (drop (given walked .args .n) (a-space (space walked))), values-length walked)
 
 slice-aggregate-copy-to : tie.Need-slice-aggregate-copy-to
 slice-aggregate-copy-to c =
-    let walked = c .before .before .before .before .before .before .before .before in
+    let walked = found-by (c .before) in
     sym (ap length (front walked) ∙ values-length walked)
 
 copy-to-requires : tie.Need-copy-to-requires
 copy-to-requires c κs =
-    let walked = c .before .before .before .before .before .before .before .before .before in
+    let walked = found-by (c .before .before) in
     omega (arith, ap length (front walked), values-length walked, given walked .pre .wide)
 
 enum-known-forks : tie.Need-enum-known-forks
@@ -156,8 +163,9 @@ same-length c = search needs
 returns : tie.Need-returns
 returns c =
     let copied = c .before .before in
-    let found = c .before .before .before .before .before .before .broken .given in
-    let walked = c .before .before .before .before .before .before .before .before .before .before .before .before in
+    let known = copied .before .before .before in
+    let found = known .before .broken .given in
+    let walked = found-by known in
     let choice = given walked .args .choice .now in
     let said = subst (RootSays (reached walked) (values walked)) (found .1) (says walked) in
     reaches-found (reached walked) (given walked .args .n) choice (copied .copy-to .last .1 .0) (values walked) (found .0 .0) (found .0 .1 .0) said
@@ -166,7 +174,7 @@ returns c =
 returns-2 : tie.Need-returns-2
 returns-2 c =
     let none = c .before .forks .given in
-    let walked = c .before .before .before .before .before .before .before in
+    let walked = nothing-by c in
     reaches-nothing (reached walked) (given walked .args .n) (given walked .args .choice .now) (values walked) (none .0 .0) (subst (RootSays (reached walked) (values walked)) (none .1) (says walked))
 
 pub walk-into-spec : {M : Type 1} → statement M

@@ -10,6 +10,7 @@ use borrow.Author.Needs.{needs}
 use borrow.Author.Tests.{eqb-true, eqb-false}
 use Rattle.literal.specs.Laws.{as-read}
 use Rattle.literal.specs.Literal.{variable}
+use Rattle.limits.specs.Limits.{maxVariables}
 use Rattle.rule_list.proofs.Scanning.{Scanning, start, clauses-over, closed, outside, literals-over, twice, joined, left-open, complete}
 use Rattle.rule_list.proofs.scan.scan_rules.Statement.{statement}
 use Rattle.rule_list.proofs.scan.scan_rules.Tie as tie
@@ -38,34 +39,44 @@ shared-slice-copy-out-variable-of c = search needs
 variable-of-requires : tie.Need-variable-of-requires Inv-loop μ-loop
 variable-of-requires c κs = search needs
 
--- The points of a turn. After the call: the values at the turn's start, and its element's variable.
+-- The points of the program: the entry; the loop's head, before the variable was asked for.
+abbrev entry : tie.At-loop Inv-loop μ-loop → tie.Start Inv-loop μ-loop
+entry c = c .before .before
+
+abbrev head : tie.After-variable-of Inv-loop μ-loop → tie.At-loop Inv-loop μ-loop
+head c = c .before .before .before
+
+-- A turn with its variable: the values at the turn's start, and its element's variable.
 module _ (c : tie.After-variable-of Inv-loop μ-loop) where
   abbrev n : ℕ
-  n = c .before .before .before .before .before .args .n
+  n = entry (head c) .args .n
 
   abbrev list : List ℤ
-  list = c .before .before .before .before .before .args .rules .now
+  list = entry (head c) .args .rules .now
 
   abbrev stamps : List ℕ
-  stamps = c .before .before .before .loop .stamps
+  stamps = head c .loop .stamps
 
   abbrev k : ℕ
-  k = c .before .before .before .loop .clauses
+  k = head c .loop .clauses
 
   abbrev m : ℕ
-  m = c .before .before .before .loop .literals
+  m = head c .loop .literals
 
   abbrev is-open : Bool
-  is-open = c .before .before .before .loop .is-open
+  is-open = head c .loop .is-open
 
   abbrev i : ℕ
-  i = c .before .before .before .loop .i
+  i = head c .loop .i
 
   abbrev v : ℕ
   v = c .variable-of .result .0
 
+  few : n ≤ maxVariables
+  few = entry (head c) .pre
+
   at : Scanning n list stamps k m is-open i
-  at = c .before .before .before .loop .inv
+  at = head c .loop .inv
 
   inside : i < length list
   inside = c .before .before .loop-test .taken
@@ -73,19 +84,23 @@ module _ (c : tie.After-variable-of Inv-loop μ-loop) where
   handed : v ≡ variable (getD list i (pos 0))
   handed = c .variable-of .ensures ∙ ap variable (as-read (getD list i (pos 0)) (c .before .variable-of-arg .given))
 
--- After the look at the stamp, of a literal that is within the limits.
-module _ (c : tie.After-is-stamped Inv-loop μ-loop) where
+-- Past the limits, at a literal.
+module _ (c : tie.Else4 Inv-loop μ-loop) where
   abbrev turn : tie.After-variable-of Inv-loop μ-loop
-  turn = c .before .before .before .before .before
+  turn = c .before .before .before
 
   literal : v turn ≡ 0 → ⊥
-  literal = c .before .before .before .before .if1 .left
+  literal = c .before .before .if1 .left
 
   within : v turn ≤ n turn
-  within = c .before .before .before .if3 .left
+  within = c .before .if3 .left
 
   below : m turn ≡ 31000 → ⊥
-  below = c .before .before .if4 .left
+  below = c .if4 .left
+
+-- After the look at the stamp.
+abbrev limited : tie.After-is-stamped Inv-loop μ-loop → tie.Else4 Inv-loop μ-loop
+limited c = c .before .before
 
 returns : tie.Need-returns Inv-loop μ-loop
 returns c =
@@ -109,20 +124,22 @@ add-t19 : tie.Need-add-t19 Inv-loop μ-loop
 add-t19 c = search needs
 
 is-stamped-requires : tie.Need-is-stamped-requires Inv-loop μ-loop
-is-stamped-requires c κs = omega (arith, c .before .before .before .before .before .before .before .before .before .pre)
+is-stamped-requires c κs = omega (arith, few (turn (c .before)))
 
 returns-4 : tie.Need-returns-4 Inv-loop μ-loop
 returns-4 c =
-    let p = c .before in
+    let p = limited (c .before) in
     let t = turn p in
     twice (n t) (list t) (stamps t) (k t) (m t) (is-open t) (i t) (at t) (inside t) (v t) (handed t) (literal p) (within p) (below p)
-    (eqb-true (getD (stamps t) (v t) 0) (k t + 1) (sym (p .is-stamped .ensures) ∙ c .if5 .taken))
+    (eqb-true (getD (stamps t) (v t) 0) (k t + 1) (sym (c .before .is-stamped .ensures) ∙ c .if5 .taken))
 
 stamp-requires : tie.Need-stamp-requires Inv-loop μ-loop
-stamp-requires c κs = (omega (arith, c .before .before .before .before .before .before .before .before .before .before .before .before .pre), omega (arith, at (c .before .before .before .before .before .before .before) .few))
+stamp-requires c κs =
+    let t = turn (limited (c .before .before)) in
+    (omega (arith, few t), omega (arith, at t .few))
 
 add-literals : tie.Need-add-literals Inv-loop μ-loop
-add-literals c = omega (arith, at (c .before .before .before .before .before .before .before .before) .many)
+add-literals c = omega (arith, at (turn (limited (c .before .before .before))) .many)
 
 loop-less : tie.Need-loop-less Inv-loop μ-loop
 loop-less c = search needs
@@ -137,22 +154,23 @@ loop-less-2 c = search needs
 
 loop-again-2 : tie.Need-loop-again-2 Inv-loop μ-loop
 loop-again-2 c =
-    let p = c .before .before .before in
+    let looked = c .before .before .before in
+    let p = limited looked in
     let t = turn p in
     subst (λ (l : List ℕ). Scanning (n t) (list t) l (k t) (m t + 1) true (i t + 1)) (sym (c .stamp .ensures))
-    (joined (n t) (list t) (stamps t) (k t) (m t) (is-open t) (i t) (at t) (inside t) (v t) (handed t) (literal p) (within p) (below p) (c .before .before .before .before .before .before .before .before .before .before .before .before .before .pre)
-    (eqb-false (getD (stamps t) (v t) 0) (k t + 1) (sym (p .is-stamped .ensures) ∙ c .before .before .if5 .left)))
+    (joined (n t) (list t) (stamps t) (k t) (m t) (is-open t) (i t) (at t) (inside t) (v t) (handed t) (literal p) (within p) (below p) (few t)
+    (eqb-false (getD (stamps t) (v t) 0) (k t + 1) (sym (looked .is-stamped .ensures) ∙ c .before .before .if5 .left)))
 
 -- past the loop
 returns-5 : tie.Need-returns-5 Inv-loop μ-loop
 returns-5 c =
-    let g = c .before .before .before .before .args in
+    let g = entry (c .before .before) .args in
     let e = c .before .before .loop in
     left-open (g .n) (g .rules .now) (e .stamps) (e .clauses) (e .literals) (e .is-open) (e .i) (e .inv) (c .before .loop-test .left) (c .if6 .taken)
 
 returns-6 : tie.Need-returns-6 Inv-loop μ-loop
 returns-6 c =
-    let g = c .before .before .before .before .args in
+    let g = entry (c .before .before) .args in
     let e = c .before .before .loop in
     complete (g .n) (g .rules .now) (e .stamps) (e .clauses) (e .literals) (e .is-open) (e .i) (e .inv) (c .before .loop-test .left) (c .if6 .left)
 

@@ -7,8 +7,8 @@ use Rattle.formula.specs.Laws.{end-inside}
 use Rattle.clause_standing.specs.Clause.{clause-at}
 use Rattle.clause_standing.specs.Standing.{standingOf}
 use Rattle.opposed.specs.Opposed.{sizeOf}
-use Rattle.weighing.specs.Weights.{Ready}
-use Rattle.weighing.specs.ListLaws.{Weighing, weighing-start, weighing-clause, weighing-next, weighing-end, ready-kept}
+use Rattle.weighing.specs.Weights.{WeighableList}
+use Rattle.weighing.specs.ListLaws.{Weighing, weighing-start, weighing-clause, weighing-next, weighing-end, weighable-kept}
 use borrow.Author.Needs.{needs}
 use Rattle.weighing.proofs.list.weigh_list.Statement.{statement}
 use Rattle.weighing.proofs.list.weigh_list.Tie as tie
@@ -42,12 +42,12 @@ clear-requires-2 : tie.Need-clear-requires-2 Inv-loop μ-loop
 clear-requires-2 c κs = search needs
 
 -- the list can be weighed with the cleared numbers
-ready : (c : tie.After-slice-known4 Inv-loop μ-loop) → Ready (length (entry c .args .assignment .now)) (entry c .args .list .now) (weights-cleared c .clear .last .0) (marks-cleared c .clear2 .last .0)
-ready c =
+weighable : (c : tie.After-slice-known4 Inv-loop μ-loop) → WeighableList (length (entry c .args .assignment .now)) (entry c .args .list .now) (weights-cleared c .clear .last .0) (marks-cleared c .clear2 .last .0)
+weighable c =
     let args = entry c .args in
     let weights = weights-cleared c .clear in
     let marks = marks-cleared c .clear2 in
-    ready-kept (length (args .assignment .now)) (args .list .now) (args .weights .now) (args .marks .now) (weights .last .0) (marks .last .0) (entry c .pre) (weights .kept .0) (marks .kept .0)
+    weighable-kept (length (args .assignment .now)) (args .list .now) (args .weights .now) (args .marks .now) (weights .last .0) (marks .last .0) (entry c .pre) (weights .kept .0) (marks .kept .0)
 
 loop-holds : tie.Need-loop-holds Inv-loop μ-loop
 loop-holds c =
@@ -55,7 +55,7 @@ loop-holds c =
     let a = args .assignment .now in
     let weights = weights-cleared c .clear in
     let marks = marks-cleared c .clear2 in
-    weighing-start (length a) (args .row .now) a (sizeOf (args .fewest)) (args .list .now) (weights .last .0) (marks .last .0) (ready c) (weights .last .0) (marks .last .0) refl refl (weights .ensures) (marks .ensures)
+    weighing-start (length a) (args .row .now) a (sizeOf (args .fewest)) (args .list .now) (weights .last .0) (marks .last .0) (weighable c) (weights .last .0) (marks .last .0) refl refl (weights .ensures) (marks .ensures)
 
 read-clause-requires : tie.Need-read-clause-requires Inv-loop μ-loop
 read-clause-requires c κs = search needs
@@ -87,7 +87,7 @@ weigh-clause-requires c κs =
     let end = now .read-clause .result .end in
     let ends = now .read-clause .ensures .ends in (
       now .read-clause .ensures .stands ∙ sym (ap (standingOf a) (clause-at list (top .loop .from) end ends)),
-      weighing-clause (length a) (args .row .now) a (sizeOf (args .fewest)) list (weights-cleared cleared .clear .last .0) (marks-cleared cleared .clear2 .last .0) (ready cleared) (top .loop .weights) (top .loop .marks) (top .loop .from) (top .loop .inv) end (now .before .loop-test .taken) ends,
+      weighing-clause (length a) (args .row .now) a (sizeOf (args .fewest)) list (weights-cleared cleared .clear .last .0) (marks-cleared cleared .clear2 .last .0) (weighable cleared) (top .loop .weights) (top .loop .marks) (top .loop .from) (top .loop .inv) end (now .before .loop-test .taken) ends,
     )
 
 add-from : tie.Need-add-from Inv-loop μ-loop
@@ -107,7 +107,7 @@ loop-again c =
     let args = entry cleared .args in
     let a = args .assignment .now in
     let call = weighed .weigh-clause in
-    weighing-next (length a) (args .row .now) a (sizeOf (args .fewest)) (args .list .now) (weights-cleared cleared .clear .last .0) (marks-cleared cleared .clear2 .last .0) (ready cleared) (top .loop .weights) (top .loop .marks) (top .loop .from) (top .loop .inv)
+    weighing-next (length a) (args .row .now) a (sizeOf (args .fewest)) (args .list .now) (weights-cleared cleared .clear .last .0) (marks-cleared cleared .clear2 .last .0) (weighable cleared) (top .loop .weights) (top .loop .marks) (top .loop .from) (top .loop .inv)
     (now .read-clause .result .end) (now .before .loop-test .taken) (now .read-clause .ensures .ends)
     (call .last .1 .1 .1 .1 .1 .0) (call .last .1 .1 .1 .1 .1 .1 .0) (call .kept .1 .1 .1 .1 .1 .0) (call .kept .1 .1 .1 .1 .1 .1 .0) (call .ensures)
 
@@ -123,7 +123,7 @@ returns c =
     let cleared = top .before in
     let args = entry cleared .args in
     let a = args .assignment .now in
-    weighing-end (length a) (args .row .now) a (sizeOf (args .fewest)) (args .list .now) (weights-cleared cleared .clear .last .0) (marks-cleared cleared .clear2 .last .0) (ready cleared) (top .loop .weights) (top .loop .marks) (top .loop .from) (top .loop .inv) (c .loop-test .left)
+    weighing-end (length a) (args .row .now) a (sizeOf (args .fewest)) (args .list .now) (weights-cleared cleared .clear .last .0) (marks-cleared cleared .clear2 .last .0) (weighable cleared) (top .loop .weights) (top .loop .marks) (top .loop .from) (top .loop .inv) (c .loop-test .left)
 
 pub weigh-list-spec : {M : Type 1} → statement M
 weigh-list-spec =

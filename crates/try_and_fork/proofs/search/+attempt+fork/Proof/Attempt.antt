@@ -26,12 +26,18 @@ use Rattle.try_and_fork.proofs.search.+attempt+fork.Lts-attempt as lts
 use Rattle.try_and_fork.proofs.search.+attempt+fork.Proof.Claims.{attempt-at, attempt-claims}
 
 module _ (t : ℕ) where
-  -- The points of the program: the call; after propagation; with the tally of the settled state; after the test of its completion; after the pick; with the variable to branch on; and after the fork.
+  -- The points of the program: the call; its parameters known; after propagation; what that was lent back again; with the tally of the settled state; after the test of its completion; after the pick; its loans back; with the variable to branch on; after the fork; and its loans back.
   abbrev Call : Type 0
   Call = lts.Start (attempt-claims t) (attempt-at t) attempt.Post
 
+  abbrev Known : Type 0
+  Known = lts.After-slice-known4 (attempt-claims t) (attempt-at t) attempt.Post
+
   abbrev Propagation : Type 0
   Propagation = lts.After-propagate-units (attempt-claims t) (attempt-at t) attempt.Post
+
+  abbrev PropagationBack : Type 0
+  PropagationBack = lts.After-slice-known6 (attempt-claims t) (attempt-at t) attempt.Post
 
   abbrev Alive : Type 0
   Alive = lts.After-known-told (attempt-claims t) (attempt-at t) attempt.Post
@@ -42,18 +48,30 @@ module _ (t : ℕ) where
   abbrev Picked : Type 0
   Picked = lts.After-pick-branch (attempt-claims t) (attempt-at t) attempt.Post
 
+  abbrev PickedBack : Type 0
+  PickedBack = lts.After-slice-known9 (attempt-claims t) (attempt-at t) attempt.Post
+
   abbrev Branching : Type 0
   Branching = lts.After-known-told2 (attempt-claims t) (attempt-at t) attempt.Post
 
   abbrev Forked : Type 0
   Forked = lts.After-fork (attempt-claims t) (attempt-at t) attempt.Post
 
+  abbrev ForkedBack : Type 0
+  ForkedBack = lts.After-slice-known13 (attempt-claims t) (attempt-at t) attempt.Post
+
   -- The way back from each.
+  abbrev entry : Known → Call
+  entry c = c .before .before .before .before .before
+
   abbrev call : Propagation → Call
-  call c = c .before .before .before .before .before .before .before .before
+  call c = entry (c .before .before .before)
+
+  abbrev propagated : PropagationBack → Propagation
+  propagated c = c .before .before .before .before
 
   abbrev propagation : Alive → Propagation
-  propagation c = c .before .before .before .before .before .before .before
+  propagation c = propagated (c .before .before .before)
 
   abbrev alive : Tested → Alive
   alive c = c .before .before
@@ -61,11 +79,17 @@ module _ (t : ℕ) where
   abbrev tested : Picked → Tested
   tested c = c .before .before .before .before .before
 
+  abbrev chose : PickedBack → Picked
+  chose c = c .before .before .before .before
+
   abbrev picked : Branching → Picked
-  picked c = c .before .before .before .before .before .before .before
+  picked c = chose (c .before .before .before)
 
   abbrev branching : Forked → Branching
   branching c = c .before .before .before .before .before
+
+  abbrev forked : ForkedBack → Forked
+  forked c = c .before .before .before .before .before .before .before .before
 
   -- the call: n variables, the clauses f
   module _ (c : Call) where
@@ -135,7 +159,7 @@ module _ (t : ℕ) where
 
   pub propagate-units-requires : lts.Need-propagate-units-requires (attempt-claims t) (attempt-at t) attempt.Post
   propagate-units-requires c κs =
-      let call = c .before .before .before .before .before .before .before in
+      let call = entry (c .before .before) in
       (given call, (fit call, ready call .few))
 
   pub enum-told : lts.Need-enum-told (attempt-claims t) (attempt-at t) attempt.Post
@@ -198,7 +222,7 @@ module _ (t : ℕ) where
   -- step 1: a dead end
   pub returns-2 : lts.Need-returns-2 (attempt-claims t) (attempt-at t) attempt.Post
   returns-2 c =
-      let propagation = c .before .before .before .before .before .before in
+      let propagation = propagated (c .before .before) in
       let call = call propagation in
       laws.by-propagation (given call) (f call) (fit call) (call .args .d) (trail propagation) (a propagation) (told-as propagation _ (c .enum-told .given .1))
 
@@ -217,18 +241,18 @@ module _ (t : ℕ) where
   -- steps 3 and 4: a dead end
   pub returns-3 : lts.Need-returns-3 (attempt-claims t) (attempt-at t) attempt.Post
   returns-3 c =
-      let picked = c .before .before .before .before .before .before in
+      let picked = chose (c .before .before) in
       let tested = tested picked in
       laws.by-exhaustion (lives (alive tested)) (sym (tested .completes .ensures) ∙ picked .before .before .before .before .if1 .left) (sym (picked .pick-branch .ensures) ∙ c .enum-told2 .given .1)
 
   pub same-length-9 : lts.Need-same-length-9 (attempt-claims t) (attempt-at t) attempt.Post
   same-length-9 c =
-      let forked = c .before .before .before .before .before .before .before .before in
+      let forked = forked c in
       forked .fork .kept .1 .1 .1 .1 .1 .1 .0 ∙ state (from (branching forked)) .state .size
 
   pub same-length-10 : lts.Need-same-length-10 (attempt-claims t) (attempt-at t) attempt.Post
   same-length-10 c =
-      let forked = c .before .before .before .before .before .before .before .before in
+      let forked = forked c in
       forked .fork .kept .1 .1 .1 .1 .1 .1 .1 .0 ∙ propagation (from (branching forked)) .propagate-units .kept .1 .1 .1 .1 .1 .0
 
   pub same-length-11 : lts.Need-same-length-11 (attempt-claims t) (attempt-at t) attempt.Post
@@ -240,7 +264,7 @@ module _ (t : ℕ) where
   -- step 5: what the fork says
   pub returns-4 : lts.Need-returns-4 (attempt-claims t) (attempt-at t) attempt.Post
   returns-4 c =
-      let forked = c .before .before .before .before .before .before .before .before in
+      let forked = forked c in
       let branching = branching forked in
       laws.by-fork (lives (from branching)) (incomplete branching) (v branching) (value branching) (chosen branching)
       (forked .fork .last .1 .1 .1 .1 .1 .1 .1 .0) (forked .fork .last .1 .1 .1 .1 .1 .1 .0) (forked .fork .result) (forked .fork .ensures)

@@ -18,15 +18,27 @@ use Rattle.try_and_fork.proofs.search.+attempt+fork.Lts-fork as lts
 use Rattle.try_and_fork.proofs.search.+attempt+fork.Proof.Claims.{fork-at, fork-claims}
 
 module _ (t : ℕ) where
-  -- The points of the program: the call; with the first value; after that was tried; undone; with the other value; and after that was tried.
+  -- The points of the program: the call; its parameters known; with the first value; what it was lent back again; after that value was tried; the loans back; nothing found; undone; with the other value; its loans back; after that was tried; and at the end.
   abbrev Call : Type 0
   Call = lts.Start (fork-claims t) (fork-at t) fork.Post
+
+  abbrev Known : Type 0
+  Known = lts.After-slice-known4 (fork-claims t) (fork-at t) fork.Post
 
   abbrev First : Type 0
   First = lts.After-assign-to (fork-claims t) (fork-at t) fork.Post
 
+  abbrev FirstBack : Type 0
+  FirstBack = lts.After-slice-known6 (fork-claims t) (fork-at t) fork.Post
+
   abbrev FirstTried : Type 0
   FirstTried = lts.After-attempt (fork-claims t) (fork-at t) fork.Post
+
+  abbrev FirstTriedBack : Type 0
+  FirstTriedBack = lts.After-slice-known10 (fork-claims t) (fork-at t) fork.Post
+
+  abbrev Fruitless : Type 0
+  Fruitless = lts.After-known-told2 (fork-claims t) (fork-at t) fork.Post
 
   abbrev Undone : Type 0
   Undone = lts.After-undo (fork-claims t) (fork-at t) fork.Post
@@ -34,24 +46,48 @@ module _ (t : ℕ) where
   abbrev Second : Type 0
   Second = lts.After-assign-to2 (fork-claims t) (fork-at t) fork.Post
 
+  abbrev SecondBack : Type 0
+  SecondBack = lts.After-slice-known13 (fork-claims t) (fork-at t) fork.Post
+
   abbrev SecondTried : Type 0
   SecondTried = lts.After-attempt2 (fork-claims t) (fork-at t) fork.Post
 
+  abbrev End : Type 0
+  End = lts.After-with-forks (fork-claims t) (fork-at t) fork.Post
+
   -- The way back from each.
+  abbrev entry : Known → Call
+  entry c = c .before .before .before .before .before
+
   abbrev call : First → Call
-  call c = c .before .before .before .before .before .before .before .before
+  call c = entry (c .before .before .before)
+
+  abbrev assigned : FirstBack → First
+  assigned c = c .before .before .before .before
 
   abbrev first : FirstTried → First
-  first c = c .before .before .before .before .before .before .before .before .before
+  first c = assigned (c .before .before .before .before .before)
+
+  abbrev tried-first : FirstTriedBack → FirstTried
+  tried-first c = c .before .before .before .before .before .before .before .before
+
+  abbrev fruitless : Fruitless → FirstTried
+  fruitless c = tried-first (c .before .before .before)
 
   abbrev first-tried : Undone → FirstTried
-  first-tried c = c .before .before .before .before .before .before .before .before .before .before .before .before .before .before
+  first-tried c = fruitless (c .before .before .before)
 
   abbrev undone : Second → Undone
   undone c = c .before .before .before .before .before
 
+  abbrev assigned-other : SecondBack → Second
+  assigned-other c = c .before .before .before .before
+
   abbrev second : SecondTried → Second
-  second c = c .before .before .before .before .before .before .before .before .before
+  second c = assigned-other (c .before .before .before .before .before)
+
+  abbrev second-tried : End → SecondTried
+  second-tried c = c .before .before .before .before .before .before .before .before .before
 
   -- the call: n variables, and the walk of which two states are tried
   module _ (c : Call) where
@@ -144,7 +180,7 @@ module _ (t : ℕ) where
 
   pub assign-to-requires : lts.Need-assign-to-requires (fork-claims t) (fork-at t) fork.Post
   assign-to-requires c κs =
-      let call = c .before .before .before .before .before .before .before in
+      let call = entry (c .before .before) in
       let h = given call in
       let k = forks call .branch in
       let room = laws.branch-room (forks call) in
@@ -152,7 +188,7 @@ module _ (t : ℕ) where
 
   pub attempt-requires : lts.Need-attempt-requires (fork-claims t) (fork-at t) fork.Post
   attempt-requires c κs =
-      let first = c .before .before .before .before .before .before .before .before in
+      let first = assigned (c .before .before .before .before) in
       let call = call first in (
         omega (arith, laws.first-fewer (forks call) (first .assign-to .ensures), call .pre .0),
         (long-searching (first-state first), ready-still (first-state first .state .size) refl refl (ready call)),
@@ -169,7 +205,7 @@ module _ (t : ℕ) where
 
   pub undo-requires : lts.Need-undo-requires (fork-claims t) (fork-at t) fork.Post
   undo-requires c κs =
-      let tried = c .before .before .before .before .before .before .before .before .before .before .before .before .before in
+      let tried = fruitless (c .before .before) in
       tried-long tried ∙ given (start tried) .long ∙ sym (tried .attempt .kept .1 .1 .1 .1 .0 ∙ first-state (first tried) .state .size)
 
   pub sub-assign-to : lts.Need-sub-assign-to (fork-claims t) (fork-at t) fork.Post
@@ -186,7 +222,7 @@ module _ (t : ℕ) where
 
   pub attempt-requires-2 : lts.Need-attempt-requires-2 (fork-claims t) (fork-at t) fork.Post
   attempt-requires-2 c κs =
-      let second = c .before .before .before .before .before .before .before .before in
+      let second = assigned-other (c .before .before .before .before) in
       let call = origin second in
       let kept = one second .attempt .kept in (
         omega (arith, laws.second-fewer (undoes (undone second)) (second .assign-to2 .ensures), call .pre .0),
@@ -211,28 +247,28 @@ module _ (t : ℕ) where
   -- the first value has the answer
   pub returns : lts.Need-returns (fork-claims t) (fork-at t) fork.Post
   returns c =
-      let tried = c .before .before .before .before .before .before .before .before .before .before .before .before in
+      let tried = tried-first (c .before .before .before .before) in
       let call = start tried in
       let found = c .before .before .broken .given in
       laws.first-found (forks call) (first tried .assign-to .ensures) (try call) (tried-trail tried) (tried-a tried) (found .0 .0) (found .0 .1 .0) (c .add-forks .result)
       (said tried (Found (found .0 .0) (found .0 .1 .0)) (found .1)) (c .add-forks .ensures)
 
   pub same-length-5 : lts.Need-same-length-5 (fork-claims t) (fork-at t) fork.Post
-  same-length-5 c = a-long (c .before .before .before .before .before .before .before .before .before)
+  same-length-5 c = a-long (second-tried c)
 
   pub same-length-6 : lts.Need-same-length-6 (fork-claims t) (fork-at t) fork.Post
-  same-length-6 c = trail-long (c .before .before .before .before .before .before .before .before .before)
+  same-length-6 c = trail-long (second-tried c)
 
   pub same-length-7 : lts.Need-same-length-7 (fork-claims t) (fork-at t) fork.Post
-  same-length-7 c = weights-long (c .before .before .before .before .before .before .before .before .before)
+  same-length-7 c = weights-long (second-tried c)
 
   pub same-length-8 : lts.Need-same-length-8 (fork-claims t) (fork-at t) fork.Post
-  same-length-8 c = marks-long (c .before .before .before .before .before .before .before .before .before)
+  same-length-8 c = marks-long (second-tried c)
 
   -- the other value has it, or neither has
   pub returns-2 : lts.Need-returns-2 (fork-claims t) (fork-at t) fork.Post
   returns-2 c =
-      let tried = c .before .before .before .before .before .before .before .before .before in
+      let tried = second-tried c in
       let call = root tried in
       subst (TriedBy (forkOf (try call) (call .args .a .now) (call .args .v .0) (call .args .value)) (call .args .tally .settled) (call .args .trail .now) (call .args .a .now) (last-trail tried) (last-a tried)) (sym (c .with-forks .ensures))
       (laws.second-said (undoes (undone (second tried))) (second tried .assign-to2 .ensures) (last-trail tried) (last-a tried) (tried .attempt2 .result) (tried .attempt2 .ensures))
