@@ -2,7 +2,6 @@
 use mathlib.Core.List.{List}
 use mathlib.Core.Option.{Option, none, some}
 use Prim.Native.Nat.{ℕ}
-use lib.IntN.{ℤ}
 use lib.ListN.{length}
 use Rattle.formula.specs.Formula as formula
 use Rattle.wish.specs.Wish.{wishCount, totalWeight}
@@ -44,16 +43,7 @@ abbrev pub andThen : Admission → (Counts → Admission) → Admission
 andThen (A.the-variants.Refused r) step = A.the-variants.Refused r
 andThen (A.the-variants.Admitted counts) step = step counts
 
--- the counts, once a rule list or a wish row is counted
-abbrev pub withClauses : List ℤ → Counts → Counts
-withClauses rules k =
-    record {
-      clauses = length (formula.clauses rules);
-      literals = formula.literals (formula.clauses rules);
-      wishes = k .wishes;
-      weight = k .weight;
-    }
-
+-- the counts, once a row's wishes are counted
 abbrev pub withWishes : List ℕ → Counts → Counts
 withWishes row k =
     record { clauses = k .clauses; literals = k .literals; wishes = wishCount row; weight = totalWeight row }

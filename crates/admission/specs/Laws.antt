@@ -4,8 +4,9 @@ use mathlib.Core.List.{List, [], _∷_, map}
 use mathlib.Core.Option.{Option, none, some}
 use Prim.Native.Nat.{ℕ}
 use Rattle.refusal.specs.declared.Refusal.{Refusal}
+use Rattle.refusal.specs.declared.Verdict.{Verdict}
 use Rattle.refusal.specs.Laws.{first-last}
-use Rattle.refusal.specs.Reply.{first, given, tooShort}
+use Rattle.refusal.specs.Reply.{refused, first, given, tooShort}
 use Rattle.causes.specs.Lent.{Lent, withRoom, causes, unadmitted}
 use Rattle.admission.specs.declared.Counts.{Counts}
 use Rattle.admission.specs.declared.Admission.the-variants.{Refused, Admitted}
@@ -49,8 +50,10 @@ then {a} {b} {o} {k} t p f e =
     go (some q) none h = refl
     go (some q) (some r) h = refl
 
-pub then-cause : {a b : Admission} {o : Option Refusal} {k : Counts} → CameTo a o k → (q : Option Refusal) → b ≡ andThen a (answer q) → CameTo b (earlier o q) k
-then-cause t q e = then t (λ (c : Counts). q) (λ (c : Counts). c) e
+pub then-cause : {a b : Admission} {o : Option Refusal} {k : Counts} → CameTo a o k → (v : Verdict) (q : Option Refusal) → refused v ≡ q
+    → b ≡ andThen a (answer (refused v)) → CameTo b (earlier o q) k
+then-cause {a} t v q g e =
+    then t (λ (c : Counts). q) (λ (c : Counts). c) (e ∙ ap (λ (x : Option Refusal). andThen a (answer x)) g)
 
 -- the causes one after another, from the first on
 abbrev from : Option Refusal → List (Option Refusal) → Option Refusal

@@ -1,5 +1,5 @@
-// The steps of admitting. The first looks at the numbers; each other is handed what came before it:
-// what is refused stays refused, and what is admitted is looked at for one more cause.
+// The steps of admitting. The first looks at the numbers and the rules. Each other is handed what came
+// before it: what is refused stays refused, and what is admitted may be refused for one more cause.
 use crate::Admission;
 use crate::Counts;
 use causes::RowScan;
@@ -7,61 +7,44 @@ use refusal::Refusal;
 use refusal::Verdict;
 use rule_list::RuleScan;
 ghost use mathlib.Core.Path.{_≡_};
-ghost use mathlib.Core.Bool.{not};
-ghost use Prim.Native.Nat.{_≤_};
-ghost use lib.Dec.{eqb};
 ghost use Rattle.refusal.specs.Reply.{refused, causeAt, cause, tooShort};
-ghost use Rattle.limits.specs.Limits.{maxVariables};
-ghost use Rattle.rule_list.specs.Sound.{unread, badRule};
-ghost use Rattle.causes.specs.Lent.{only, withLimit, oversized};
-ghost use Rattle.causes.specs.Sound.{badWish, badChoice};
+ghost use Rattle.causes.specs.Lent.{withLimit, plainProblem, oversized};
+ghost use Rattle.causes.specs.Sound.{badWish};
 ghost use Rattle.admission.specs.declared.Counts.{Counts};
-ghost use Rattle.admission.specs.declared.Admission.the-variants.{Admitted};
-ghost use Rattle.admission.specs.Admission.{answer, withClauses, withWishes, admission, andThen};
+ghost use Rattle.admission.specs.Admission.{answer, withWishes, admission, andThen};
 
-// Admitted with these counts, unless there is a cause.
-fn decide(verdict: Verdict, counts: Counts) -> Admission
-    ensures { λ r. ⌜ r ≡ answer (refused verdict) counts ⌝ }
+// 14, then 13: n, the limit and the rules, which are counted.
+pub fn admit_list(n: usize, rules: &[i32], d: usize) -> Admission
+    ensures { λ r. ⌜ r ≡ admission (withLimit d (plainProblem n (now (rules .entry)))) ⌝ }
 {
-    match verdict {
-        Verdict::Refuse(r) => Admission::Refused(r),
-        Verdict::Pass => Admission::Admitted(counts),
+    if let Verdict::Refuse(r) = causes::check_range(n, d) {
+        return Admission::Refused(r);
+    }
+    match rule_list::scan_rules(n, rules) {
+        RuleScan::Unsound(place) => Admission::Refused(Refusal { number: 13, place }),
+        RuleScan::Sound { clauses, literals } => Admission::Admitted(Counts {
+            clauses,
+            literals,
+            wishes: 0,
+            weight: 0,
+        }),
     }
 }
 
-// 14: n and the limit.
-pub fn admit_range(n: usize, d: usize) -> Admission
-    ensures { λ r. ⌜ r ≡ admission (withLimit d (only n)) ⌝ }
-{
-    let nothing = Counts {
-        clauses: 0,
-        literals: 0,
-        wishes: 0,
-        weight: 0,
-    };
-    decide(causes::check_range(n, d), nothing)
-}
-
-// 13: the rules, which are counted too.
-pub fn then_rules(a: Admission, n: usize, rules: &[i32]) -> Admission
-    requires { ⌜ ((k : Counts) → a ≡ Admitted k → n ≤ maxVariables) ⌝ }
-    ensures { λ r. ⌜ r ≡ andThen a (λ (k : Counts). answer (causeAt 13 (badRule n unread 0 (now (rules .entry)))) (withClauses (now (rules .entry)) k)) ⌝ }
+// A cause by itself.
+pub fn and_then(a: Admission, verdict: Verdict) -> Admission
+    ensures { λ r. ⌜ r ≡ andThen a (answer (refused verdict)) ⌝ }
 {
     match a {
         Admission::Refused(r) => Admission::Refused(r),
-        Admission::Admitted(counts) => match rule_list::scan_rules(n, rules) {
-            RuleScan::Unsound(place) => Admission::Refused(Refusal { number: 13, place }),
-            RuleScan::Sound { clauses, literals } => Admission::Admitted(Counts {
-                clauses,
-                literals,
-                wishes: counts.wishes,
-                weight: counts.weight,
-            }),
+        Admission::Admitted(counts) => match verdict {
+            Verdict::Refuse(r) => Admission::Refused(r),
+            Verdict::Pass => Admission::Admitted(counts),
         },
     }
 }
 
-// 13: the wish row, whose wishes are counted too.
+// 13: the wish row, whose wishes are counted.
 pub fn then_row(a: Admission, row: &[u8]) -> Admission
     ensures { λ r. ⌜ r ≡ andThen a (λ (k : Counts). answer (causeAt 13 (badWish 0 0 (now (row .entry)))) (withWishes (now (row .entry)) k)) ⌝ }
 {
@@ -79,35 +62,15 @@ pub fn then_row(a: Admission, row: &[u8]) -> Admission
     }
 }
 
-// 13: the choice.
-pub fn then_choice(a: Admission, choice: &[u8]) -> Admission
-    ensures { λ r. ⌜ r ≡ andThen a (answer (causeAt 13 (badChoice 0 (now (choice .entry))))) ⌝ }
-{
-    match a {
-        Admission::Refused(r) => Admission::Refused(r),
-        Admission::Admitted(counts) => decide(causes::scan_choice(choice), counts),
-    }
-}
-
-// 11: the length of the row or of the choice.
-pub fn then_length(a: Admission, n: usize, length: usize) -> Admission
-    ensures { λ r. ⌜ r ≡ andThen a (answer (cause (not (eqb length n)) 11 0)) ⌝ }
-{
-    match a {
-        Admission::Refused(r) => Admission::Refused(r),
-        Admission::Admitted(counts) => decide(causes::check_length(n, length), counts),
-    }
-}
-
 // 12: the size, from what was counted.
 pub fn then_size(a: Admission, n: usize) -> Admission
     ensures { λ r. ⌜ r ≡ andThen a (λ (k : Counts). answer (cause (oversized n (k .clauses) (k .literals)) 12 0) k) ⌝ }
 {
     match a {
         Admission::Refused(r) => Admission::Refused(r),
-        Admission::Admitted(counts) => decide(
+        Admission::Admitted(counts) => and_then(
+            a,
             causes::check_size(n, counts.clauses, counts.literals),
-            counts,
         ),
     }
 }
@@ -116,8 +79,5 @@ pub fn then_size(a: Admission, n: usize) -> Admission
 pub fn with_room(a: Admission, needed: usize, room: usize) -> Admission
     ensures { λ r. ⌜ r ≡ andThen a (answer (tooShort needed room)) ⌝ }
 {
-    match a {
-        Admission::Refused(r) => Admission::Refused(r),
-        Admission::Admitted(counts) => decide(refusal::check_room(needed, room), counts),
-    }
+    and_then(a, refusal::check_room(needed, room))
 }
