@@ -4,9 +4,8 @@ use mathlib.Core.Option.{Option, none, some}
 use Prim.Native.Nat.{ℕ}
 use lib.ListN.{length}
 use Rattle.formula.specs.Formula as formula
-use Rattle.wish.specs.Wish.{totalWeight}
+use Rattle.wish.specs.Wish.{wishCount, totalWeight}
 use Rattle.refusal.specs.declared.Refusal.{Refusal}
-use Rattle.refusal.specs.Reply.{tooShort}
 use Rattle.causes.specs.Lent.{Lent, unadmitted, refusalOf}
 use Rattle.admission.specs.declared.Counts.{Counts}
 use Rattle.admission.specs.declared.Admission as A
@@ -17,10 +16,10 @@ abbrev pub answer : Option Refusal → Counts → Admission
 answer none counts = A.the-variants.Admitted counts
 answer (some r) counts = A.the-variants.Refused r
 
--- what the wishes of a row weigh, where the call takes one
-abbrev pub weightIn : Option (List ℕ) → ℕ
-weightIn none = 0
-weightIn (some row) = totalWeight row
+-- a number of a row, where the call takes one
+abbrev pub ofRow : (List ℕ → ℕ) → Option (List ℕ) → ℕ
+ofRow count none = 0
+ofRow count (some row) = count row
 
 -- how much was lent: "Entries counted below exclude closing zeros" (document 01, "Words of the trade")
 abbrev pub countsOf : Lent → Counts
@@ -28,7 +27,8 @@ countsOf s =
     record {
       clauses = length (formula.clauses (s .rules));
       literals = formula.literals (formula.clauses (s .rules));
-      weight = weightIn (s .row);
+      wishes = ofRow wishCount (s .row);
+      weight = ofRow totalWeight (s .row);
     }
 
 -- by all causes but that of the room (document 01, "Refusals": "Then lent values: 14, 13 (rules, wishes, choice), 11, 12."), and by all ("Last 15.")
@@ -38,7 +38,12 @@ admission s = answer (unadmitted s) (countsOf s)
 abbrev pub start : Lent → Admission
 start s = answer (refusalOf s) (countsOf s)
 
--- an answer, once the room is looked at: 15 is the last cause, so a refusal stays what it is
-abbrev pub roomed : Admission → ℕ → ℕ → Admission
-roomed (A.the-variants.Refused r) needed room = A.the-variants.Refused r
-roomed (A.the-variants.Admitted counts) needed room = answer (tooShort needed room) counts
+-- one step after another: a refusal stays what it is, and what was admitted goes through the next step
+abbrev pub andThen : Admission → (Counts → Admission) → Admission
+andThen (A.the-variants.Refused r) step = A.the-variants.Refused r
+andThen (A.the-variants.Admitted counts) step = step counts
+
+-- the counts, once a row's wishes are counted
+abbrev pub withWishes : List ℕ → Counts → Counts
+withWishes row k =
+    record { clauses = k .clauses; literals = k .literals; wishes = wishCount row; weight = totalWeight row }

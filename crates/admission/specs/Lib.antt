@@ -1,3 +1,2 @@
 pub mod Admission
 pub mod Laws
-pub mod Order

@@ -1,23 +1,21 @@
 // Whether a call may start: the first cause to refuse what it was lent, or how much that is, so that
-// nothing is scanned or counted twice. A function for each set of values that calls are lent.
-mod choice;
-mod room;
-mod row;
-mod rules;
-mod wishes;
+// nothing is scanned or counted twice. A function for each set of values that calls are lent, made of
+// steps that look at one cause each.
+mod lent;
+mod steps;
 
-pub use choice::admit_choice;
+pub use lent::admit_choice;
+pub use lent::admit_row;
+pub use lent::admit_rules;
+pub use lent::admit_wishes;
 use refusal::Refusal;
-pub use room::check_room;
-pub use room::with_room;
-pub use row::admit_row;
-pub use rules::admit_rules;
-pub use wishes::admit_wishes;
+pub use steps::with_room;
 
-// How many clauses and literals were lent, and what the wishes weigh.
+// How many clauses, literals and wishes were lent, and what the wishes weigh.
 pub struct Counts {
     pub clauses: usize,
     pub literals: usize,
+    pub wishes: usize,
     pub weight: usize,
 }
 

@@ -36,7 +36,7 @@ pub fn rewrite(n: usize, rules: &[i32], row: &[u8], d: usize, out: &mut [i32]) -
         Admission::Refused(r) => Rewritten::Refused(r),
         Admission::Admitted(counts) => {
             let needed = rules.len() + at_most::length_of(counts.weight, d);
-            match admission::check_room(needed, out.len()) {
+            match refusal::check_room(needed, out.len()) {
                 Verdict::Refuse(r) => Rewritten::Refused(r),
                 Verdict::Pass => write(n, rules, row, d, out),
             }

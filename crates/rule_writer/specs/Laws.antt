@@ -1,14 +1,12 @@
 -- The causes of the call, and its answers.
-use mathlib.Core.Path.{_≡_, refl, ap}
+use mathlib.Core.Path.{_≡_, refl, sym, ap, _∙_}
 use mathlib.Core.List.{List, _++_}
 use mathlib.Core.Option.{Option, none, some}
-use Prim.Native.Nat.{ℕ, _≤_, _<_}
-use native.Mathlib.Omega.{arith}
+use Prim.Native.Nat.{ℕ}
 use lib.IntN.{ℤ}
 use lib.ListN.{length, drop}
-use borrow.Author.Tests.{lt-ltb, le-ltb}
 use Rattle.refusal.specs.declared.Refusal.{Refusal}
-use Rattle.refusal.specs.Reply.{Reply, refusal, refusing, answering, unless, filled}
+use Rattle.refusal.specs.Reply.{Reply, refusing, answering, unless, filled, tooShort}
 use Rattle.causes.specs.Lent.{refusalOf, plainProblem, unadmitted}
 use Rattle.dimacs.specs.Written.{written}
 use Rattle.causes.specs.Admitted.{refused-lent, room-decides}
@@ -16,17 +14,16 @@ use Rattle.rule_writer.specs.Write.{lentToWrite, short}
 
 -- the answer and the output without room for the file w, and with it
 module _ (w out : List ℕ) (k : ℕ) (size : k ≡ length w) where
-  pub no-room : length out < k
-      → (refusing (refusal 15 k) ≡ unless (short w out) (answering 1 (length w) 0 0)) × (out ≡ filled (short w out) w out)
-  no-room h =
-      let e : short w out ≡ some (refusal 15 (length w)) = rw (lt-ltb (length out) (length w) (omega arith)) in
-      (rw (e) (ap (λ (j : ℕ). refusing (refusal 15 j)) size), rw e)
+  room-told : (o : Option Refusal) → tooShort k (length out) ≡ o → short w out ≡ o
+  room-told o e = ap (λ (j : ℕ). tooShort j (length out)) (sym size) ∙ e
 
-  pub room : k ≤ length out → (result : List ℕ) → result ≡ w ++ drop (length w) out
+  pub no-room : (r : Refusal) → tooShort k (length out) ≡ some r
+      → (refusing r ≡ unless (short w out) (answering 1 (length w) 0 0)) × (out ≡ filled (short w out) w out)
+  no-room r h = let e = room-told (some r) h in (rw e, rw e)
+
+  pub room : tooShort k (length out) ≡ none → (result : List ℕ) → result ≡ w ++ drop (length w) out
       → (answering 1 k 0 0 ≡ unless (short w out) (answering 1 (length w) 0 0)) × (result ≡ filled (short w out) w out)
-  room h result f =
-      let e : short w out ≡ none = rw (le-ltb (length out) (length w) (omega arith)) in
-      (rw (e) (ap (λ (j : ℕ). answering 1 j 0 0) size), rw (e) f)
+  room h result f = let e = room-told none h in (rw (e) (ap (λ (j : ℕ). answering 1 j 0 0) size), rw (e) f)
 
 -- the reply and the output, for a cause and without one
 module _ (n : ℕ) (l : List ℤ) (out : List ℕ) where

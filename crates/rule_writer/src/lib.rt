@@ -4,6 +4,7 @@ mod put;
 
 use admission::Admission;
 use refusal::Refusal;
+use refusal::Verdict;
 ghost use mathlib.Core.Path.{_≡_};
 ghost use Prim.Native.Nat.{_≤_};
 ghost use lib.ListN.{length};
@@ -36,11 +37,8 @@ fn write_sound(n: usize, count: usize, rules: &[i32], file: &mut [u8]) -> Writte
     ensures output { λ r. ⌜ now (file .exit) ≡ filled (short (written n (now (rules .entry))) (now (file .entry))) (written n (now (rules .entry))) (now (file .entry)) ⌝ }
 {
     let needed = count::header_length(n, count) + count::body_length(rules);
-    if file.len() < needed {
-        return WrittenRules::Refused(Refusal {
-            number: 15,
-            place: needed,
-        });
+    if let Verdict::Refuse(r) = refusal::check_room(needed, file.len()) {
+        return WrittenRules::Refused(r);
     }
     let at = put::put_header(n, count, file);
     WrittenRules::Written(put::put_body(rules, file, at))

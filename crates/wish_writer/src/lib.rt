@@ -26,8 +26,7 @@ pub fn write_wishes(n: usize, row: &[u8], d: usize, file: &mut [u8]) -> WrittenW
 {
     match admission::admit_row(n, row, d) {
         Admission::Refused(r) => WrittenWishes::Refused(r),
-        // every wish weighs 1, so what they weigh is how many there are
-        Admission::Admitted(counts) => write_row(n, row, d, counts.weight, file),
+        Admission::Admitted(counts) => write_row(n, row, d, counts.wishes, file),
     }
 }
 
@@ -38,7 +37,7 @@ fn write_row(n: usize, row: &[u8], d: usize, wishes: usize, file: &mut [u8]) -> 
     ensures output { λ r. ⌜ now (file .exit) ≡ writeOutput n (now (row .entry)) d (now (file .entry)) ⌝ }
 {
     let needed = HEADER_SIZE + WISH_SIZE * wishes;
-    if let Verdict::Refuse(r) = admission::check_room(needed, file.len()) {
+    if let Verdict::Refuse(r) = refusal::check_room(needed, file.len()) {
         return WrittenWishes::Refused(r);
     }
     let at = put::put_header(n, wishes, d, file);

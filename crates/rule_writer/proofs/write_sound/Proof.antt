@@ -1,7 +1,12 @@
 -- `rule_writer::write_sound` meets its contract: no room, or the header and the lines.
+use mathlib.Core.Path.{_≡_, sym, ap, _∙_}
 use mathlib.Core.List.{List}
-use Prim.Native.Nat.{ℕ, _+_}
+use mathlib.Core.Option.{none}
+use Prim.Native.Nat.{ℕ, _+_, _≤_}
 use native.Mathlib.Omega.{arith}
+use lib.ListN.{length}
+use Rattle.refusal.specs.Laws.{enough-room}
+use Rattle.refusal.specs.Reply.{refused, tooShort}
 use Rattle.writing.specs.Wrote.{wrote-more, wrote-as, wrote-whole}
 use Rattle.dimacs.specs.Written.{written}
 use Rattle.rule_writer.specs.Laws.{no-room, room}
@@ -9,6 +14,30 @@ use Rattle.rule_writer.specs.Writing.{written-parts, written-length}
 use borrow.Author.Needs.{needs}
 use Rattle.rule_writer.proofs.write_sound.Statement.{statement}
 use Rattle.rule_writer.proofs.write_sound.Tie as tie
+
+-- after the check of the room: what is needed is the file's length
+module _ (c : tie.After-check-room) where
+  abbrev needed : ℕ
+  needed = c .before .before .header-length .result + c .before .body-length .result
+
+  abbrev out : List ℕ
+  out = c .before .before .before .before .args .file .now
+
+  abbrev file : List ℕ
+  file = written (c .before .before .before .before .args .n) (c .before .before .before .before .args .rules .now)
+
+  size : needed ≡ length file
+  size =
+      let start = c .before .before .before .before in
+      omega (arith, c .before .before .header-length .ensures .0, c .before .body-length .ensures .0, written-length (start .args .n) (start .args .count) (start .args .rules .now) (start .pre .0))
+
+-- past it
+module _ (c : tie.After-enum-told) where
+  passed : tooShort (needed (c .before .before)) (length (out (c .before .before))) ≡ none
+  passed = sym (c .before .before .check-room .ensures) ∙ ap refused (c .enum-told .given .1)
+
+  fits : needed (c .before .before) ≤ length (out (c .before .before))
+  fits = enough-room (needed (c .before .before)) (length (out (c .before .before))) passed
 
 header-length-requires : tie.Need-header-length-requires
 header-length-requires c κs = search needs
@@ -19,41 +48,42 @@ body-length-requires c κs = search needs
 add-needed : tie.Need-add-needed
 add-needed c = search needs
 
+check-room-requires : tie.Need-check-room-requires
+check-room-requires c κs = search needs
+
+enum-known-r : tie.Need-enum-known-r
+enum-known-r c = search needs
+
 returns : tie.Need-returns
 returns c =
-    let args = c .before .before .before .before .args in
-    let w : List ℕ = written (args .n) (args .rules .now) in
-    let needed = c .before .before .header-length .result + c .before .body-length .result in
-    no-room w (args .file .now) needed
-    (omega (arith, c .before .before .header-length .ensures .0, c .before .body-length .ensures .0, written-length (args .n) (args .count) (args .rules .now) (c .before .before .before .before .pre .0)))
-    (c .if1 .taken)
+    let p = c .before .before .before in
+    no-room (file p) (out p) (needed p) (size p) (c .before .r .given .0 .0) (sym (p .check-room .ensures) ∙ ap refused (c .before .r .given .1))
+
+enum-told : tie.Need-enum-told
+enum-told c = search needs
 
 put-header-requires : tie.Need-put-header-requires
-put-header-requires c κs = search needs
+put-header-requires c κs = omega (arith, fits (c .before))
 
 put-body-requires : tie.Need-put-body-requires
-put-body-requires c κs = search needs
+put-body-requires c κs = omega (arith, fits (c .before .before .before .before .before))
 
 same-length : tie.Need-same-length
 same-length c = search needs
 
 returns-2 : tie.Need-returns-2
 returns-2 c =
-    let start = c .before .before .before .before .before .before .before .before .before .before .before .before in
-    let n = start .args .n in
-    let k = start .args .count in
-    let l = start .args .rules .now in
-    let file = start .args .file .now in
+    let past = c .before .before .before .before .before .before .before .before in
+    let p = past .before .before in
+    let start = p .before .before .before .before in
+    let parts = written-parts (start .args .n) (start .args .count) (start .args .rules .now) (start .pre .0) in
     let head = c .before .before .before .before .before .before .put-header in
     let tail = c .before .before .put-body in
-    let size = written-length n k l (start .pre .0) in
-    let needed = c .before .before .before .before .before .before .before .before .if1 .left in
-    let one = c .before .before .before .before .before .before .before .before .before .before .header-length .ensures .0 in
-    let two = c .before .before .before .before .before .before .before .before .before .body-length .ensures .0 in
-    room (written n l) file (tail .result) (omega (arith, head .ensures .place, tail .ensures .place, size))
-    (omega (arith, head .ensures .place, tail .ensures .place, needed, one, two))
+    let whole = wrote-as parts (wrote-more (head .ensures) (tail .ensures)) in
+    room (file p) (out p) (tail .result) (omega (arith, whole .place))
+    (ap (λ (k : ℕ). tooShort k (length (out p))) (omega (arith, whole .place, size p)) ∙ passed past)
     (tail .last .1 .0)
-    (wrote-whole (wrote-as (written-parts n k l (start .pre .0)) (wrote-more (head .ensures) (tail .ensures))) (omega (arith, size, needed, one, two)))
+    (wrote-whole whole (omega (arith, size p, fits past)))
 
 pub write-sound-spec : {M : Type 1} → statement M
 write-sound-spec =
@@ -62,7 +92,10 @@ write-sound-spec =
     header-length-requires
     body-length-requires
     add-needed
+    check-room-requires
+    enum-known-r
     returns
+    enum-told
     put-header-requires
     put-body-requires
     same-length

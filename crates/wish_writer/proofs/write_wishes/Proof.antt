@@ -1,7 +1,6 @@
 -- `wish_writer::write_wishes` meets its contract: refused for what was lent, or written as `write_row` does.
 use mathlib.Core.Path.{_≡_, sym, ap, _∙_}
 use mathlib.Core.Option.{none}
-use Rattle.wish.specs.UnitWeights.{weight-count}
 use Rattle.causes.specs.Admitted.{admitted}
 use Rattle.causes.specs.Lent.{Lent, wishesAlone, unadmitted}
 use Rattle.admission.specs.declared.Counts.{Counts}
@@ -32,7 +31,7 @@ enum-known-counts c = search needs
 write-row-requires : tie.Need-write-row-requires
 write-row-requires c κs =
     let known = counted (c .before) in
-    (admitted (lent (c .before .before .before .before)) (known .0), ap (λ (k : Counts). k .weight) (known .1) ∙ weight-count (c .before .before .before .before .before .before .before .args .row .now))
+    (admitted (lent (c .before .before .before .before)) (known .0), ap (λ (k : Counts). k .wishes) (known .1))
 
 returns : tie.Need-returns
 returns c =

@@ -1,11 +1,11 @@
--- `admission::room::check_room` meets its contract.
+-- `refusal::check_room` meets its contract.
 use mathlib.Core.Path.{sym, ap, _∙_}
 use mathlib.Core.Bool.{Bool}
 use borrow.Author.Tests.{lt-ltb, le-ltb}
 use Rattle.refusal.specs.Reply.{cause}
 use borrow.Author.Needs.{needs}
-use Rattle.admission.proofs.room.check_room.Statement.{statement}
-use Rattle.admission.proofs.room.check_room.Tie as tie
+use Rattle.refusal.proofs.check_room.Statement.{statement}
+use Rattle.refusal.proofs.check_room.Tie as tie
 
 refuse-requires : tie.Need-refuse-requires
 refuse-requires c κs = search needs

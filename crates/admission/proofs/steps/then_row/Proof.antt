@@ -1,0 +1,67 @@
+-- `admission::steps::then_row` meets its contract: refused before, or by the row, or counted.
+use mathlib.Core.Path.{_≡_, sym, ap, ap₂, _∙_}
+use mathlib.Core.Option.{Option}
+use Prim.Native.Nat.{ℕ}
+use Rattle.refusal.specs.Reply.{refusal, causeAt}
+use Rattle.causes.specs.Scans.{row-unsound, row-sound}
+use Rattle.causes.specs.Sound.{badWish}
+use Rattle.admission.specs.declared.Admission.the-variants.{Refused, Admitted}
+use Rattle.admission.specs.declared.Counts.{Counts}
+use Rattle.admission.specs.Admission.{answer, withWishes}
+use Rattle.admission.specs.Laws.{stays, goes-on}
+use borrow.Author.Needs.{needs}
+use Rattle.admission.proofs.steps.then_row.Statement.{statement}
+use Rattle.admission.proofs.steps.then_row.Tie as tie
+
+enum-known-a : tie.Need-enum-known-a
+enum-known-a c = search needs
+
+enum-known-a-2 : tie.Need-enum-known-a-2
+enum-known-a-2 c = search needs
+
+scan-row-requires : tie.Need-scan-row-requires
+scan-row-requires c κs = search needs
+
+enum-known-place : tie.Need-enum-known-place
+enum-known-place c = search needs
+
+enum-known-wishes : tie.Need-enum-known-wishes
+enum-known-wishes c = search needs
+
+returns : tie.Need-returns
+returns c =
+    let args = c .before .before .before .before .args in
+    stays (args .a) (λ (k : Counts). answer (causeAt 13 (badWish 0 0 (args .row .now))) (withWishes (args .row .now) k)) (c .before .a .given .0 .0) (c .before .a .given .1)
+
+returns-2 : tie.Need-returns-2
+returns-2 c =
+    let args = c .before .before .before .before .before .before .before .before .args in
+    let held = c .before .before .before .before .before .a2 .given in
+    let place = c .before .place .given .0 .0 in
+    let bad = row-unsound (badWish 0 0 (args .row .now)) (args .row .now) place (sym (c .before .before .before .scan-row .ensures) ∙ c .before .place .given .1) in
+    goes-on (args .a) (λ (k : Counts). answer (causeAt 13 (badWish 0 0 (args .row .now))) (withWishes (args .row .now) k)) (held .0 .0) (held .1) (Refused (refusal 13 place))
+    (sym (ap (λ (o : Option ℕ). answer (causeAt 13 o) (withWishes (args .row .now) (held .0 .0))) bad))
+
+returns-3 : tie.Need-returns-3
+returns-3 c =
+    let args = c .before .before .before .before .before .before .before .before .args in
+    let held = c .before .before .before .before .before .a2 .given in
+    let k = held .0 .0 in
+    let scanned = c .before .wishes .given in
+    let good = row-sound (badWish 0 0 (args .row .now)) (args .row .now) (scanned .0 .0) (scanned .0 .1 .0) (sym (c .before .before .before .scan-row .ensures) ∙ scanned .1) in
+    goes-on (args .a) (λ (k : Counts). answer (causeAt 13 (badWish 0 0 (args .row .now))) (withWishes (args .row .now) k)) k (held .1) (Admitted (record { clauses = k .clauses; literals = k .literals; wishes = scanned .0 .0; weight = scanned .0 .1 .0 }))
+    (ap₂ (λ (i j : ℕ). Admitted (record { clauses = k .clauses; literals = k .literals; wishes = i; weight = j })) (good .1) (good .2)
+    ∙ sym (ap (λ (o : Option ℕ). answer (causeAt 13 o) (withWishes (args .row .now) k)) (good .0)))
+
+pub then-row-spec : {M : Type 1} → statement M
+then-row-spec =
+    tie.close
+    (tie.spec
+    enum-known-a
+    enum-known-a-2
+    scan-row-requires
+    enum-known-place
+    enum-known-wishes
+    returns
+    returns-2
+    returns-3)

@@ -1,0 +1,43 @@
+// The sets of values that calls are lent: the causes of each, one after another in their order.
+use crate::Admission;
+use crate::steps;
+ghost use mathlib.Core.Path.{_≡_};
+ghost use Rattle.causes.specs.Lent.{plainProblem, wishesAlone, wishedProblem, chosenProblem};
+ghost use Rattle.admission.specs.Admission.{admission};
+
+// n and the rules.
+pub fn admit_rules(n: usize, rules: &[i32]) -> Admission
+    ensures { λ r. ⌜ r ≡ admission (plainProblem n (now (rules .entry))) ⌝ }
+{
+    steps::admit_list(n, rules, 0)
+}
+
+// n, the row and the limit: no rules are as good as an empty list.
+pub fn admit_row(n: usize, row: &[u8], d: usize) -> Admission
+    ensures { λ r. ⌜ r ≡ admission (wishesAlone n (now (row .entry)) d) ⌝ }
+{
+    let rules: [i32; 0] = [];
+    admit_wishes(n, &rules, row, d)
+}
+
+// n, the rules, the row and the limit.
+pub fn admit_wishes(n: usize, rules: &[i32], row: &[u8], d: usize) -> Admission
+    ensures { λ r. ⌜ r ≡ admission (wishedProblem n (now (rules .entry)) (now (row .entry)) d) ⌝ }
+{
+    let listed = steps::admit_list(n, rules, d);
+    let sound = steps::then_row(listed, row);
+    let long = steps::and_then(sound, causes::check_length(n, row.len()));
+    steps::then_size(long, n)
+}
+
+// n, the rules, the row and a given choice.
+pub fn admit_choice(n: usize, rules: &[i32], row: &[u8], choice: &[u8]) -> Admission
+    ensures { λ r. ⌜ r ≡ admission (chosenProblem n (now (rules .entry)) (now (row .entry)) (now (choice .entry))) ⌝ }
+{
+    let listed = steps::admit_list(n, rules, 0);
+    let wished = steps::then_row(listed, row);
+    let sound = steps::and_then(wished, causes::scan_choice(choice));
+    let row_long = steps::and_then(sound, causes::check_length(n, row.len()));
+    let both_long = steps::and_then(row_long, causes::check_length(n, choice.len()));
+    steps::then_size(both_long, n)
+}

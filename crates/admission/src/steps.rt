@@ -1,0 +1,83 @@
+// The steps of admitting. The first looks at the numbers and the rules. Each other is handed what came
+// before it: what is refused stays refused, and what is admitted may be refused for one more cause.
+use crate::Admission;
+use crate::Counts;
+use causes::RowScan;
+use refusal::Refusal;
+use refusal::Verdict;
+use rule_list::RuleScan;
+ghost use mathlib.Core.Path.{_≡_};
+ghost use Rattle.refusal.specs.Reply.{refused, causeAt, cause, tooShort};
+ghost use Rattle.causes.specs.Lent.{withLimit, plainProblem, oversized};
+ghost use Rattle.causes.specs.Sound.{badWish};
+ghost use Rattle.admission.specs.declared.Counts.{Counts};
+ghost use Rattle.admission.specs.Admission.{answer, withWishes, admission, andThen};
+
+// 14, then 13: n, the limit and the rules, which are counted.
+pub fn admit_list(n: usize, rules: &[i32], d: usize) -> Admission
+    ensures { λ r. ⌜ r ≡ admission (withLimit d (plainProblem n (now (rules .entry)))) ⌝ }
+{
+    if let Verdict::Refuse(r) = causes::check_range(n, d) {
+        return Admission::Refused(r);
+    }
+    match rule_list::scan_rules(n, rules) {
+        RuleScan::Unsound(place) => Admission::Refused(Refusal { number: 13, place }),
+        RuleScan::Sound { clauses, literals } => Admission::Admitted(Counts {
+            clauses,
+            literals,
+            wishes: 0,
+            weight: 0,
+        }),
+    }
+}
+
+// A cause by itself.
+pub fn and_then(a: Admission, verdict: Verdict) -> Admission
+    ensures { λ r. ⌜ r ≡ andThen a (answer (refused verdict)) ⌝ }
+{
+    match a {
+        Admission::Refused(r) => Admission::Refused(r),
+        Admission::Admitted(counts) => match verdict {
+            Verdict::Refuse(r) => Admission::Refused(r),
+            Verdict::Pass => Admission::Admitted(counts),
+        },
+    }
+}
+
+// 13: the wish row, whose wishes are counted.
+pub fn then_row(a: Admission, row: &[u8]) -> Admission
+    ensures { λ r. ⌜ r ≡ andThen a (λ (k : Counts). answer (causeAt 13 (badWish 0 0 (now (row .entry)))) (withWishes (now (row .entry)) k)) ⌝ }
+{
+    match a {
+        Admission::Refused(r) => Admission::Refused(r),
+        Admission::Admitted(counts) => match causes::scan_row(row) {
+            RowScan::Unsound(place) => Admission::Refused(Refusal { number: 13, place }),
+            RowScan::Sound { wishes, weight } => Admission::Admitted(Counts {
+                clauses: counts.clauses,
+                literals: counts.literals,
+                wishes,
+                weight,
+            }),
+        },
+    }
+}
+
+// 12: the size, from what was counted.
+pub fn then_size(a: Admission, n: usize) -> Admission
+    ensures { λ r. ⌜ r ≡ andThen a (λ (k : Counts). answer (cause (oversized n (k .clauses) (k .literals)) 12 0) k) ⌝ }
+{
+    match a {
+        Admission::Refused(r) => Admission::Refused(r),
+        Admission::Admitted(counts) => and_then(
+            a,
+            causes::check_size(n, counts.clauses, counts.literals),
+        ),
+    }
+}
+
+// 15: the room that the call's output needs.
+pub fn with_room(a: Admission, needed: usize, room: usize) -> Admission
+    ensures { λ r. ⌜ r ≡ andThen a (answer (tooShort needed room)) ⌝ }
+{
+    and_then(a, refusal::check_room(needed, room))
+}
