@@ -12,7 +12,7 @@ use lib.Seq.{sets, sets-eq, drop-cons, drop-drop, set-append-left}
 use borrow.Author.Tests.{lt-ltb, le-ltb, le-leb, lt-leb, eq-eqb, ne-eqb}
 use Rattle.refusal.specs.declared.Refusal.{Refusal}
 use Rattle.refusal.specs.Laws.{first-last}
-use Rattle.refusal.specs.Reply.{Reply, refusal, first, cause, refusing, answering}
+use Rattle.refusal.specs.Reply.{Reply, refusal, first, cause, refusing, answering, tooShort}
 use Rattle.limits.specs.Limits.{maxWishVariables, maxWishes, maxLimit}
 use Rattle.wish_file.specs.Format.{headerColumns, wishColumns, wishOf, outside, misfit, badLine, wishAt, badLines, wishesIn, Reading, refuses, gives, readLines, readHeader, reading}
 use Rattle.wish_file.specs.Layout.{columnWidth, lineSize, lineNumbers}
@@ -260,8 +260,8 @@ module _ (file out : List ℕ) where
     abbrev ws : List Wish
     ws = wishesIn m (drop (lineSize headerColumns) file)
 
-    pub too-short : length out < n → Answers (refusing (refusal 15 n)) out
-    too-short h = (rw (e, lt-ltb (length out) n h), rw (e, lt-ltb (length out) n h))
+    pub too-short : (r : Refusal) → tooShort n (length out) ≡ some r → Answers (refusing r) out
+    too-short r h = (rw (e, h), rw (e, h))
 
     rising-row : Rising n 0 ws
     rising-row = lines-written m n 0 (lineSize headerColumns) (drop (lineSize headerColumns) file) (accepted-parts file n m d row e .good) .0
