@@ -3,16 +3,16 @@ use mathlib.Core.Path.{_≡_, refl, sym, ap, _∙_}
 use mathlib.Core.Bool.{Bool, true, false, cond, _||_, true≢false}
 use mathlib.Core.List.{List, _++_, map}
 use mathlib.Core.Option.{Option, none, some}
-use Prim.Native.Nat.{ℕ, _+_, _≤_, _<_}
+use Prim.Native.Nat.{ℕ, _+_, _≤_}
 use native.Mathlib.Nat.{zero-add}
 use native.Mathlib.Omega.{arith}
 use lib.Dec.{eqb, ltb}
 use lib.IntN.{ℤ}
 use lib.ListN.{length, drop, length-map}
 use lib.Seq.{sets, sets-eq}
-use borrow.Author.Tests.{lt-ltb, le-ltb, ltb-false}
+use borrow.Author.Tests.{le-ltb, ltb-false}
 use Rattle.refusal.specs.declared.Refusal.{Refusal}
-use Rattle.refusal.specs.Reply.{Reply, refusal, refusing, answering}
+use Rattle.refusal.specs.Reply.{Reply, refusal, refusing, answering, tooShort}
 use Rattle.limits.specs.Limits.{maxVariables, maxClauses}
 use Rattle.rule_list.specs.Sound.{unread}
 use Rattle.dimacs.specs.Format.{pastComments, Header, header, outside, element, badTokens, Reading, refuses, gives, readTokens, readFrom, reading}
@@ -58,10 +58,10 @@ module _ (n c : ℕ) (file : List ℕ) (from : ℕ) (out : List ℤ) where
     given : tokensRead n c file from ≡ gives n c list
     given = ap (readTokens n c ts) good
 
-    pub tokens-short : length out < k → Answers (refusing (refusal 15 k)) out (tokensRead n c file from) out
-    tokens-short h =
-        answered (gives n c list) (tokensRead n c file from) (refusing (refusal 15 k)) out out given
-        (rw (lt-ltb (length out) (length list) (omega (arith, long))) (ap (λ (j : ℕ). refusing (refusal 15 j)) (sym long), refl))
+    pub tokens-short : (r : Refusal) → tooShort k (length out) ≡ some r → Answers (refusing r) out (tokensRead n c file from) out
+    tokens-short r h =
+        let e : tooShort (length list) (length out) ≡ some r = ap (λ (j : ℕ). tooShort j (length out)) long ∙ h in
+        answered (gives n c list) (tokensRead n c file from) (refusing r) out out given (rw (e) (refl, refl))
 
     pub tokens-read : k ≤ length out → (result : List ℤ) → result ≡ sets out 0 list → Answers (answering 1 n c k) result (tokensRead n c file from) out
     tokens-read h result e =

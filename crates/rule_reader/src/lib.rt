@@ -5,6 +5,7 @@ mod fill;
 use limits::MAX_CLAUSES;
 use limits::MAX_VARIABLES;
 use refusal::Refusal;
+use refusal::Verdict;
 use rule_header::ReadHeader;
 use token_check::Check;
 ghost use mathlib.Core.Path.{_≡_};
@@ -71,11 +72,8 @@ fn read_tokens(file: &[u8], from: usize, n: usize, count: usize, rules: &mut [i3
     match token_check::check_tokens(file, from, n, count) {
         Check::Refused(r) => ReadRules::Refused(r),
         Check::Good(needed) => {
-            if rules.len() < needed {
-                return ReadRules::Refused(Refusal {
-                    number: 15,
-                    place: needed,
-                });
+            if let Verdict::Refuse(r) = refusal::check_room(needed, rules.len()) {
+                return ReadRules::Refused(r);
             }
             fill::fill_rules(file, from, rules);
             ReadRules::Read(RuleCounts {

@@ -10,7 +10,7 @@ use lib.ListN.{length, drop, set, replicate, length-set, length-replicate}
 use lib.Seq.{sets, sets-eq, drop-drop, set-append-left}
 use borrow.Author.Tests.{lt-ltb, le-ltb}
 use Rattle.refusal.specs.declared.Refusal.{Refusal}
-use Rattle.refusal.specs.Reply.{Reply, refusal, refusing, answering}
+use Rattle.refusal.specs.Reply.{Reply, refusal, refusing, answering, tooShort}
 use Rattle.wish.specs.Wish.{freeByte, wishFor}
 use Rattle.wish_file.specs.Format.{headerColumns, wishColumns, wishOf, wishAt, wishesIn, refuses, gives, reading}
 use Rattle.wish_file.specs.Layout.{columnWidth, lineSize, lineNumbers}
@@ -108,8 +108,8 @@ module _ (file out : List ℕ) where
     abbrev ws : List Wish
     ws = wishesIn m (drop (lineSize headerColumns) file)
 
-    pub too-short : length out < n → Answers (refusing (refusal 15 n)) out
-    too-short h = (rw (e, lt-ltb (length out) n h), rw (e, lt-ltb (length out) n h))
+    pub too-short : (r : Refusal) → tooShort n (length out) ≡ some r → Answers (refusing r) out
+    too-short r h = (rw (e, h), rw (e, h))
 
     rising-row : Rising n 0 ws
     rising-row = lines-written m n 0 (lineSize headerColumns) (drop (lineSize headerColumns) file) (accepted-parts file n m d row e .good) .0

@@ -3,6 +3,7 @@
 mod fill;
 
 use refusal::Refusal;
+use refusal::Verdict;
 use wish_scan::FileScan;
 ghost use mathlib.Core.Path.{_≡_};
 ghost use lib.ListN.{length};
@@ -33,11 +34,8 @@ pub fn read_wishes(file: &[u8], row: &mut [u8]) -> ReadWishes
             wishes,
             limit,
         } => {
-            if row.len() < variables {
-                return ReadWishes::Refused(Refusal {
-                    number: 15,
-                    place: variables,
-                });
+            if let Verdict::Refuse(r) = refusal::check_room(variables, row.len()) {
+                return ReadWishes::Refused(r);
             }
             fill::free_row(variables, row);
             fill::mark_row(file, wishes, row);

@@ -1,9 +1,12 @@
 -- `rule_reader::read_tokens` meets its contract: refused for a token, for the room, or read.
-use mathlib.Core.Path.{_≡_}
+use mathlib.Core.Path.{_≡_, sym, ap, _∙_}
 use mathlib.Core.List.{List}
 use mathlib.Core.Option.{none}
+use Prim.Native.Nat.{_≤_}
 use native.Mathlib.Omega.{arith}
 use lib.ListN.{length}
+use Rattle.refusal.specs.Laws.{enough-room}
+use Rattle.refusal.specs.Reply.{refused}
 use Rattle.rule_list.specs.Sound.{unread}
 use Rattle.dimacs.specs.Format.{badTokens}
 use Rattle.dimacs.specs.Tokens.{Token, tokensFrom}
@@ -33,16 +36,33 @@ good c =
     check-good (badTokens (args .n) (args .count) (length (args .file .now)) unread ts) (length ts) (c .before .before .before .check-tokens .result)
     (c .before .before .before .check-tokens .ensures) (c .before .needed .given .0 .0) (c .before .needed .given .1)
 
+check-room-requires : tie.Need-check-room-requires
+check-room-requires c κs = search needs
+
+enum-known-r-2 : tie.Need-enum-known-r-2
+enum-known-r-2 c = search needs
+
 returns : tie.Need-returns
 returns c =
-    let args = c .before .before .before .before .before .before .args in
-    tokens-short (args .n) (args .count) (args .file .now) (args .from) (args .rules .now) (good (c .before) .0) (c .before .before .needed .given .0 .0) (good (c .before) .1) (c .if1 .taken)
+    let args = c .before .before .before .before .before .before .before .before .before .args in
+    let p = c .before .before .before .before in
+    tokens-short (args .n) (args .count) (args .file .now) (args .from) (args .rules .now) (good p .0) (p .before .needed .given .0 .0) (good p .1) (c .before .r2 .given .0 .0)
+    (sym (c .before .before .before .check-room .ensures) ∙ ap refused (c .before .r2 .given .1))
+
+enum-told : tie.Need-enum-told
+enum-told c = search needs
+
+-- and the list has room for them
+room : (c : tie.After-enum-told) → c .before .before .before .before .needed .given .0 .0 ≤ length (c .before .before .before .before .before .before .before .before .args .rules .now)
+room c =
+    enough-room (c .before .before .before .before .needed .given .0 .0) (length (c .before .before .before .before .before .before .before .before .args .rules .now)) (sym (c .before .before .check-room .ensures) ∙ ap refused (c .enum-told .given .1))
 
 fill-rules-requires : tie.Need-fill-rules-requires
 fill-rules-requires c κs =
-    let args = c .before .before .before .before .before .before .before .args in
+    let args = c .before .before .before .before .before .before .before .before .before .args in
+    let p = c .before .before .before .before in
     let ts : List Token = tokensFrom (args .file .now) (args .from) in
-    (passed-readable ts (args .n) (args .count) (length (args .file .now)) unread (good (c .before .before) .0), omega (arith, good (c .before .before) .1, c .before .if1 .left))
+    (passed-readable ts (args .n) (args .count) (length (args .file .now)) unread (good p .0), omega (arith, good p .1, room (c .before)))
 
 returns-2 : tie.Need-returns-2
 returns-2 c =
@@ -57,8 +77,9 @@ same-length c = search needs
 
 returns-3 : tie.Need-returns-3
 returns-3 c =
-    let args = c .before .before .before .before .before .before .before .before .before .args in
-    tokens-read (args .n) (args .count) (args .file .now) (args .from) (args .rules .now) (good (c .before .before .before .before) .0) (c .before .before .before .before .before .needed .given .0 .0) (good (c .before .before .before .before) .1) (c .before .before .before .if1 .left)
+    let args = c .before .before .before .before .before .before .before .before .before .before .before .args in
+    let p = c .before .before .before .before .before .before in
+    tokens-read (args .n) (args .count) (args .file .now) (args .from) (args .rules .now) (good p .0) (p .before .needed .given .0 .0) (good p .1) (room (c .before .before .before))
     (c .before .fill-rules .last .1 .1 .0) (c .before .fill-rules .ensures)
 
 pub read-tokens-spec : {M : Type 1} → statement M
@@ -68,7 +89,10 @@ read-tokens-spec =
     check-tokens-requires
     enum-known-r
     enum-known-needed
+    check-room-requires
+    enum-known-r-2
     returns
+    enum-told
     fill-rules-requires
     returns-2
     same-length

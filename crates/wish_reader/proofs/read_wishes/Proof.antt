@@ -1,8 +1,10 @@
 -- `wish_reader::read_wishes` meets its contract: refused for the file, for its row, or read.
 use mathlib.Core.Path.{_≡_, sym, ap, subst, _∙_}
 use mathlib.Core.List.{List}
-use Prim.Native.Nat.{ℕ}
-use lib.ListN.{drop}
+use Prim.Native.Nat.{ℕ, _≤_}
+use lib.ListN.{length, drop}
+use Rattle.refusal.specs.Laws.{enough-room}
+use Rattle.refusal.specs.Reply.{refused}
 use Rattle.wish_file.specs.Format.{wishesIn, gives, reading}
 use Rattle.wish_file.specs.Wishes.{marked, Rising}
 use Rattle.wish_scan.specs.Scan.{scan-refused, scan-sound}
@@ -27,23 +29,38 @@ good c =
     let held = c .before .variables .given in
     scan-sound (c .before .before .before .before .before .before .args .file .now) (c .before .before .before .scan-file .result) (held .0 .0) (held .0 .1 .0) (held .0 .1 .1 .0) (c .before .before .before .scan-file .ensures) (held .1)
 
+check-room-requires : tie.Need-check-room-requires
+check-room-requires c κs = search needs
+
+enum-known-r-2 : tie.Need-enum-known-r-2
+enum-known-r-2 c = search needs
+
 returns : tie.Need-returns
 returns c =
-    let args = c .before .before .before .before .before .before .before .args in
-    let held = c .before .before .variables .given .0 in
-    let read = good (c .before) in
-    too-short (args .file .now) (args .row .now) (held .0) (held .1 .0) (held .1 .1 .0) (read .0) (read .1) (c .if1 .taken)
+    let args = c .before .before .before .before .before .before .before .before .before .before .args in
+    let held = c .before .before .before .before .before .variables .given .0 in
+    let read = good (c .before .before .before .before) in
+    too-short (args .file .now) (args .row .now) (held .0) (held .1 .0) (held .1 .1 .0) (read .0) (read .1) (c .before .r2 .given .0 .0)
+    (sym (c .before .before .before .check-room .ensures) ∙ ap refused (c .before .r2 .given .1))
+
+enum-told : tie.Need-enum-told
+enum-told c = search needs
+
+-- past the check of the room
+room : (c : tie.After-enum-told) → c .before .before .before .before .variables .given .0 .0 ≤ length (c .before .before .before .before .before .before .before .before .before .args .row .now)
+room c =
+    enough-room (c .before .before .before .before .variables .given .0 .0) (length (c .before .before .before .before .before .before .before .before .before .args .row .now)) (sym (c .before .before .check-room .ensures) ∙ ap refused (c .enum-told .given .1))
 
 free-row-requires : tie.Need-free-row-requires
-free-row-requires c κs = search needs
+free-row-requires c κs = room (c .before)
 
 mark-row-requires : tie.Need-mark-row-requires
 mark-row-requires c κs =
-    let args = c .before .before .before .before .before .before .before .before .before .before .before .before .args in
-    let held = c .before .before .before .before .before .before .before .variables .given .0 in
-    let read = good (c .before .before .before .before .before .before) in
+    let args = c .before .before .before .before .before .before .before .before .before .before .before .before .before .before .args in
+    let held = c .before .before .before .before .before .before .before .before .before .variables .given .0 in
+    let read = good (c .before .before .before .before .before .before .before .before) in
     subst (λ (k : ℕ). Rising k 0 (wishesIn (held .1 .0) (drop 16 (args .file .now)))) (sym (c .before .before .before .free-row .kept .1 .0))
-    (rising-room (args .file .now) (args .row .now) (held .0) (held .1 .0) (held .1 .1 .0) (read .0) (read .1) (c .before .before .before .before .before .if1 .left))
+    (rising-room (args .file .now) (args .row .now) (held .0) (held .1 .0) (held .1 .1 .0) (read .0) (read .1) (room (c .before .before .before .before .before)))
 
 returns-2 : tie.Need-returns-2
 returns-2 c =
@@ -56,10 +73,10 @@ same-length c = search needs
 
 returns-3 : tie.Need-returns-3
 returns-3 c =
-    let args = c .before .before .before .before .before .before .before .before .before .before .before .before .before .before .before .args in
-    let held = c .before .before .before .before .before .before .before .before .before .before .variables .given .0 in
-    let read = good (c .before .before .before .before .before .before .before .before .before) in
-    row-read (args .file .now) (args .row .now) (held .0) (held .1 .0) (held .1 .1 .0) (read .0) (read .1) (c .before .before .before .before .before .before .before .before .if1 .left) (c .before .before .mark-row .last .1 .1 .0)
+    let args = c .before .before .before .before .before .before .before .before .before .before .before .before .before .before .before .before .before .args in
+    let held = c .before .before .before .before .before .before .before .before .before .before .before .before .variables .given .0 in
+    let read = good (c .before .before .before .before .before .before .before .before .before .before .before) in
+    row-read (args .file .now) (args .row .now) (held .0) (held .1 .0) (held .1 .1 .0) (read .0) (read .1) (room (c .before .before .before .before .before .before .before .before)) (c .before .before .mark-row .last .1 .1 .0)
     (c .before .before .mark-row .ensures ∙ ap (λ (row : List ℕ). marked row (wishesIn (held .1 .0) (drop 16 (args .file .now)))) (c .before .before .before .before .before .before .free-row .ensures))
 
 pub read-wishes-spec : {M : Type 1} → statement M
@@ -69,7 +86,10 @@ read-wishes-spec =
     scan-file-requires
     enum-known-r
     enum-known-variables
+    check-room-requires
+    enum-known-r-2
     returns
+    enum-told
     free-row-requires
     mark-row-requires
     returns-2
