@@ -28,7 +28,7 @@ stays a step r e = sym (ap (λ (x : Admission). andThen x step) e)
 pub goes-on : (a : Admission) (step : Counts → Admission) (k : Counts) → a ≡ Admitted k → (b : Admission) → b ≡ step k → b ≡ andThen a step
 goes-on a step k e b f = f ∙ sym (ap (λ (x : Admission). andThen x step) e)
 
--- the earlier of two causes; one that does not apply computes away
+-- the earlier of two causes; a second one that does not apply computes away
 abbrev earlier : Option Refusal → Option Refusal → Option Refusal
 earlier o none = o
 earlier none (some r) = some r
@@ -55,7 +55,7 @@ pub then-cause : {a b : Admission} {o : Option Refusal} {k : Counts} → CameTo 
 then-cause {a} t v q g e =
     then t (λ (c : Counts). q) (λ (c : Counts). c) (e ∙ ap (λ (x : Option Refusal). andThen a (answer x)) g)
 
--- the causes one after another, from the first on
+-- the first of several causes, found by going on from one to the next as the steps do
 abbrev from : Option Refusal → List (Option Refusal) → Option Refusal
 from o [] = o
 from o (q ∷ causes) = from (earlier o q) causes
@@ -75,7 +75,7 @@ turn-first : (causes : List (Option Refusal)) → first causes ≡ inTurn causes
 turn-first [] = refl
 turn-first (o ∷ causes) = from-first o causes
 
--- so what is lent is admitted by a line of steps that come to its causes
+-- so what is admitted came to the causes of what is lent, in their order; and steps that came to them admit it
 pub in-order : (a : Admission) (s : Lent) → a ≡ admission s → CameTo a (inTurn (map given (causes s))) (countsOf s)
 in-order a s e = record { told = e ∙ ap (λ (o : Option Refusal). answer o (countsOf s)) (turn-first (map given (causes s))) }
 
