@@ -13,7 +13,7 @@ use borrow.Author.Tests.{eq-eqb, ne-eqb, lt-ltb, le-ltb}
 use Rattle.literal.specs.Literal.{variable, literal}
 use Rattle.decimal.specs.Decimal.{decimal}
 use Rattle.text.specs.Laws.{digits-most, numeral-most}
-use Rattle.nearest_text.specs.Printed.{longest, lineBreak, signedNumber, entry, values, optimum, opening, closing, solution}
+use Rattle.solution_text.specs.Lines.{longest, lineBreak, signedNumber, entry, values, optimum, opening, closing, solution}
 
 -- where a line begins
 pub break-first : (i : ℕ) → i ≡ 0 → lineBreak i ≡ []

@@ -1,4 +1,4 @@
--- `nearest_text::values::put_value` meets its contract: the break, a space and the number, one after the other.
+-- `solution_text::values::put_value` meets its contract: the break, a space and the number, one after the other.
 use mathlib.Core.Path.{_≡_, ap, _∙_}
 use Prim.Native.Nat.{ℕ, suc}
 use native.Mathlib.Numerals.{add-one}
@@ -13,9 +13,9 @@ use Rattle.literal.specs.Laws.{as-read}
 use Rattle.literal.specs.Literal.{literal}
 use Rattle.text.specs.Text.{numeral}
 use Rattle.writing.specs.Wrote.{wrote-more, wrote-as}
-use Rattle.nearest_text.specs.Printed.{lineBreak, signedNumber}
-use Rattle.nearest_text.proofs.values.put_value.Statement.{statement}
-use Rattle.nearest_text.proofs.values.put_value.Tie as tie
+use Rattle.solution_text.specs.Lines.{lineBreak, signedNumber}
+use Rattle.solution_text.proofs.values.put_value.Statement.{statement}
+use Rattle.solution_text.proofs.values.put_value.Tie as tie
 
 -- the call's beginning, seen from where the literal was made
 abbrev start-of : tie.After-literal-of → tie.Start

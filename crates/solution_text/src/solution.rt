@@ -6,7 +6,7 @@ ghost use Prim.Native.Nat.{_≤_};
 ghost use lib.ListN.{length};
 ghost use Rattle.writing.specs.Wrote.{Wrote};
 ghost use Rattle.report.specs.Report.{fitted};
-ghost use Rattle.nearest_text.specs.Printed.{longest, solution};
+ghost use Rattle.solution_text.specs.Lines.{longest, solution};
 
 // The count, that it is the least, and the choice.
 pub fn put_found(broken: usize, choice: &[u8], out: &mut [u8]) -> usize

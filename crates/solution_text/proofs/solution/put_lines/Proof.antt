@@ -1,10 +1,10 @@
--- `nearest_text::solution::put_lines` meets its contract: five texts, one after the other.
+-- `solution_text::solution::put_lines` meets its contract: five texts, one after the other.
 use native.Mathlib.Omega.{arith}
 use borrow.Author.Needs.{needs}
 use Rattle.writing.specs.Wrote.{wrote-more}
-use Rattle.nearest_text.specs.Laws.{solution-length}
-use Rattle.nearest_text.proofs.solution.put_lines.Statement.{statement}
-use Rattle.nearest_text.proofs.solution.put_lines.Tie as tie
+use Rattle.solution_text.specs.Laws.{solution-length}
+use Rattle.solution_text.proofs.solution.put_lines.Statement.{statement}
+use Rattle.solution_text.proofs.solution.put_lines.Tie as tie
 
 slice-aggregate-put-bytes : tie.Need-slice-aggregate-put-bytes
 slice-aggregate-put-bytes c = search needs

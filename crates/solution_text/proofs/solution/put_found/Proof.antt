@@ -1,16 +1,17 @@
--- `nearest_text::solution::put_found` meets its contract: the lines are written apart, and then put where they fit.
+-- `solution_text::solution::put_found` meets its contract: the lines are written apart, and then put where they fit.
+use mathlib.Core.Path.{sym}
 use mathlib.Core.Option.{some}
 use Prim.Native.Nat.{_≤_}
 use native.Mathlib.Omega.{arith}
 use lib.ListN.{length, take}
+use lib.Seq.{length-take-le}
 use Rattle.writing.specs.Wrote.{wrote-front}
 use Rattle.report.specs.Laws.{renamed}
-use Rattle.problem_files.specs.Told.{cut}
-use Rattle.nearest_text.specs.Laws.{solution-most}
-use Rattle.nearest_text.specs.Printed.{longest, solution}
+use Rattle.solution_text.specs.Laws.{solution-most}
+use Rattle.solution_text.specs.Lines.{longest, solution}
 use borrow.Author.Needs.{needs}
-use Rattle.nearest_text.proofs.solution.put_found.Statement.{statement}
-use Rattle.nearest_text.proofs.solution.put_found.Tie as tie
+use Rattle.solution_text.proofs.solution.put_found.Statement.{statement}
+use Rattle.solution_text.proofs.solution.put_found.Tie as tie
 
 space-requires : tie.Need-space-requires
 space-requires c κs = search needs
@@ -37,7 +38,7 @@ slice-aggregate-put-text : tie.Need-slice-aggregate-put-text
 slice-aggregate-put-text c =
     let put = c .before .before .put-lines in
     let start = c .before .before .before .before .before .before .before in
-    cut (put .result) (put .last .1 .1 .0) (omega (arith, few start, put .ensures .place, put .kept, c .before .before .before .before .space .ensures))
+    sym (length-take-le (put .result) (put .last .1 .1 .0) (omega (arith, few start, put .ensures .place, put .kept, c .before .before .before .before .space .ensures)))
 
 put-text-requires : tie.Need-put-text-requires
 put-text-requires c κs = search needs

@@ -1,4 +1,4 @@
--- `nearest_text::values::put_values` meets its contract. The loop's invariant: with the rest of the values put from here, the buffer is what it is to be.
+-- `solution_text::values::put_values` meets its contract. The loop's invariant: with the rest of the values put from here, the buffer is what it is to be.
 use mathlib.Core.Path.{_≡_, sym, ap, _∙_}
 use Prim.Native.Nat.{_+_, _-_, _≤_}
 use native.Mathlib.Omega.{arith}
@@ -6,10 +6,10 @@ use lib.ListN.{length, getD, drop, length-append}
 use lib.Seq.{sets}
 use borrow.Author.Needs.{needs}
 use Rattle.writing.specs.Wrote.{wrote-before}
-use Rattle.nearest_text.specs.Laws.{values-split, values-past}
-use Rattle.nearest_text.specs.Printed.{entry, values}
-use Rattle.nearest_text.proofs.values.put_values.Statement.{statement}
-use Rattle.nearest_text.proofs.values.put_values.Tie as tie
+use Rattle.solution_text.specs.Laws.{values-split, values-past}
+use Rattle.solution_text.specs.Lines.{entry, values}
+use Rattle.solution_text.proofs.values.put_values.Statement.{statement}
+use Rattle.solution_text.proofs.values.put_values.Tie as tie
 
 abbrev Inv-loop : tie.InvT-loop
 Inv-loop choice out₀ from at₀ i₀ out at i = (length out ≡ length out₀) × (at + length (values i (drop i choice)) ≡ from + length (values 0 choice)) × (sets out at (values i (drop i choice)) ≡ sets out₀ from (values 0 choice))

@@ -3,7 +3,7 @@ use literal::Variable;
 ghost use Prim.Native.Nat.{_+_, _<_, _≤_};
 ghost use lib.ListN.{length};
 ghost use Rattle.writing.specs.Wrote.{Wrote};
-ghost use Rattle.nearest_text.specs.Printed.{lineBreak, entry, values};
+ghost use Rattle.solution_text.specs.Lines.{lineBreak, entry, values};
 
 // How many values stand on a line.
 const PER_LINE: usize = 16;

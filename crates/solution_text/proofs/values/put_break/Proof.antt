@@ -1,12 +1,12 @@
--- `nearest_text::values::put_break` meets its contract: no line begins here, or one does.
+-- `solution_text::values::put_break` meets its contract: no line begins here, or one does.
 use mathlib.Core.Path.{sym, ap}
 use native.Mathlib.Omega.{arith}
 use lib.ListN.{length}
 use borrow.Author.Needs.{needs}
 use Rattle.writing.specs.Wrote.{wrote-none, wrote-as}
-use Rattle.nearest_text.specs.Laws.{break-first, break-inside, break-new}
-use Rattle.nearest_text.proofs.values.put_break.Statement.{statement}
-use Rattle.nearest_text.proofs.values.put_break.Tie as tie
+use Rattle.solution_text.specs.Laws.{break-first, break-inside, break-new}
+use Rattle.solution_text.proofs.values.put_break.Statement.{statement}
+use Rattle.solution_text.proofs.values.put_break.Tie as tie
 
 returns : tie.Need-returns
 returns c =
