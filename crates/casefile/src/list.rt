@@ -22,11 +22,11 @@ struct Element {
     back: usize,
 }
 
-// A list of signed numbers.
-pub fn read_numbers(line: &[u8], at: usize, out: &mut [i32]) -> Filled
+// A list of signed numbers where it is there; else an empty list, and the place stays.
+pub fn read_numbers_if(there: bool, line: &[u8], at: usize, out: &mut [i32]) -> Filled
     ensures { λ r. ⌜ Prefix (r .end) (now (out .exit)) ⌝ }
 {
-    let count = text::read_number(line, at);
+    let count = text::read_number_if(there, line, at);
     let end = count.value;
     if out.len() < end {
         return nothing(line);
@@ -46,16 +46,6 @@ pub fn read_numbers(line: &[u8], at: usize, out: &mut [i32]) -> Filled
         end,
         next: element.next,
     }
-}
-
-// The same where the list is there; else an empty list, and the place stays.
-pub fn read_numbers_if(there: bool, line: &[u8], at: usize, out: &mut [i32]) -> Filled
-    ensures { λ r. ⌜ Prefix (r .end) (now (out .exit)) ⌝ }
-{
-    if there {
-        return read_numbers(line, at, out);
-    }
-    Filled { end: 0, next: at }
 }
 
 fn nothing(line: &[u8]) -> Filled
@@ -119,12 +109,12 @@ fn repeat_from(line: &[u8], before: Element) -> Element {
     }
 }
 
-// A list of bytes.
-pub fn read_bytes(line: &[u8], at: usize, out: &mut [u8]) -> Filled
+// A list of bytes, in the same way.
+pub fn read_bytes_if(there: bool, line: &[u8], at: usize, out: &mut [u8]) -> Filled
     ensures { λ r. ⌜ Prefix (r .end) (now (out .exit)) ⌝ }
 {
     let mut wide = arrays::wide();
-    let filled = read_numbers(line, at, &mut wide);
+    let filled = read_numbers_if(there, line, at, &mut wide);
     let end = filled.end;
     let next = filled.next;
     if out.len() < end {
@@ -134,16 +124,6 @@ pub fn read_bytes(line: &[u8], at: usize, out: &mut [u8]) -> Filled
         return Filled { end, next };
     }
     nothing(line)
-}
-
-// The same where the list is there; else an empty list, and the place stays.
-pub fn read_bytes_if(there: bool, line: &[u8], at: usize, out: &mut [u8]) -> Filled
-    ensures { λ r. ⌜ Prefix (r .end) (now (out .exit)) ⌝ }
-{
-    if there {
-        return read_bytes(line, at, out);
-    }
-    Filled { end: 0, next: at }
 }
 
 // Copies numbers that are bytes.

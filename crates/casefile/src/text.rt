@@ -31,6 +31,38 @@ pub fn line_end(text: &[u8], from: usize) -> usize
     place_of(text, from, LINE_FEED)
 }
 
+// Where the line with some number begins, from 0 on: at the end of a text that has fewer lines.
+pub fn line_start(text: &[u8], number: usize) -> usize
+    ensures { λ r. ⌜ r ≤ length (now (text .entry)) ⌝ }
+{
+    let mut from = 0;
+    let mut i = 0;
+    while i < number {
+        let end = line_end(text, from);
+        if end == text.len() {
+            return end;
+        }
+        from = end + 1;
+        i += 1;
+    }
+    from
+}
+
+// Which line of a list of names is the word with which a line begins: their number where none is.
+pub fn name_of(line: &[u8], names: &[u8]) -> usize {
+    let mut from = 0;
+    let mut i = 0;
+    while from < names.len() {
+        let end = line_end(names, from);
+        if past_word(line, &names[from..end]) <= line.len() {
+            return i;
+        }
+        from = end + 1;
+        i += 1;
+    }
+    i
+}
+
 // Where the word ends with which a line begins: at a blank, or at the end of the line.
 pub fn word_end(line: &[u8]) -> usize {
     place_of(line, 0, b' ')

@@ -1,108 +1,88 @@
-// A case: its values are read and the call is made.
-use crate::call;
-use crate::call::Call;
-use crate::check_case;
-use crate::forks_case;
-use crate::nearest_case;
-use crate::plain_case;
-use crate::read_rules_case;
-use crate::read_wishes_case;
-use crate::report;
-use crate::rewrite_case;
-use crate::search_case;
-use crate::write_rules_case;
-use crate::write_wishes_case;
+// A case: its values are read one after the other, each by a function that passes them on.
+use case_calls::bytes_case;
+use case_calls::call;
+use case_calls::call::FORKS;
+use case_calls::call::READ_RULES;
+use case_calls::call::REWRITE;
+use case_calls::call::Values;
+use case_calls::forks_case;
+use case_calls::numbers_case;
+use case_output::report;
 
-pub fn run(line: &[u8], call: Call) {
-    let has = call::values_of(call);
-    let mut rules = casefile::numbers();
-    let mut row = casefile::bytes();
-    let mut bytes = casefile::file();
-    let mut numbers = casefile::numbers();
-    let n = casefile::read_number_if(has.n, line, casefile::word_end(line));
-    let first = casefile::read_numbers_if(has.rules, line, n.next, &mut rules);
-    let second = casefile::read_bytes_if(has.row, line, first.next, &mut row);
-    let d = casefile::read_number_if(has.d, line, second.next);
-    let third = casefile::read_bytes_if(has.bytes, line, d.next, &mut bytes);
-    let fourth = casefile::read_numbers_if(has.numbers, line, third.next, &mut numbers);
-    if fourth.next != line.len() {
+pub fn run(line: &[u8], call: usize) {
+    if FORKS < call {
         report::malformed();
         return;
     }
-    let k = first.end;
-    let w = second.end;
-    let b = third.end;
-    let o = fourth.end;
-    answer(
-        call,
-        n.value,
-        &rules[..k],
-        &row[..w],
-        d.value,
-        &mut bytes[..b],
-        &mut numbers[..o],
-    );
+    let has = call::values_of(call);
+    let n = casefile::read_number_if(has.n, line, casefile::word_end(line));
+    with_n(line, call, has, n.value, n.next);
 }
 
-fn answer(
-    call: Call,
-    n: usize,
-    rules: &[i32],
-    row: &[u8],
-    d: usize,
-    bytes: &mut [u8],
-    numbers: &mut [i32],
-) {
+fn with_n(line: &[u8], call: usize, has: Values, n: usize, at: usize) {
+    let mut rules = casefile::numbers();
+    let filled = casefile::read_numbers_if(has.rules, line, at, &mut rules);
+    let end = filled.end;
+    with_rules(line, call, has, n, &rules[..end], filled.next);
+}
+
+fn with_rules(line: &[u8], call: usize, has: Values, n: usize, rules: &[i32], at: usize) {
+    let mut row = casefile::file();
+    let filled = casefile::read_bytes_if(has.row, line, at, &mut row);
+    let end = filled.end;
+    let d = casefile::read_number_if(has.d, line, filled.next);
+    with_row(line, call, n, rules, &row[..end], d.value, d.next);
+}
+
+// The buffer comes last: a call's output, or a choice that it is lent. The walk has none.
+fn with_row(line: &[u8], call: usize, n: usize, rules: &[i32], row: &[u8], d: usize, at: usize) {
+    if call::longest_row(call) < row.len() {
+        report::malformed();
+        return;
+    }
     match call {
-        Call::Check => {
-            check_case::answer(n, rules, row, bytes);
+        READ_RULES | REWRITE => {
+            with_numbers(line, call, n, rules, row, d, at);
         }
-        Call::ReadRules => {
-            read_rules_case::answer(bytes, numbers);
-        }
-        Call::WriteRules => {
-            write_rules_case::answer(n, rules, bytes);
-        }
-        Call::ReadWishes => {
-            read_wishes_case::answer(row, bytes);
-        }
-        Call::WriteWishes => {
-            write_wishes_case::answer(n, row, d, bytes);
+        FORKS => {
+            if at == line.len() {
+                forks_case::answer(n, rules, row, d);
+            } else {
+                report::malformed();
+            }
         }
         _ => {
-            search(call, n, rules, row, d, bytes, numbers);
+            with_bytes(line, call, n, rules, row, d, at);
         }
     }
 }
 
-// The searches, and rewriting.
-fn search(
-    call: Call,
+fn with_numbers(
+    line: &[u8],
+    call: usize,
     n: usize,
     rules: &[i32],
     row: &[u8],
     d: usize,
-    bytes: &mut [u8],
-    numbers: &mut [i32],
+    at: usize,
 ) {
-    match call {
-        Call::Search => {
-            search_case::answer(n, rules, row, d, bytes);
-        }
-        Call::Plain => {
-            plain_case::answer(n, rules, bytes);
-        }
-        Call::Nearest => {
-            nearest_case::answer(n, rules, row, bytes);
-        }
-        Call::Rewrite => {
-            rewrite_case::answer(n, rules, row, d, numbers);
-        }
-        Call::Forks => {
-            forks_case::answer(n, rules, row, d);
-        }
-        _ => {
-            report::malformed();
-        }
+    let mut numbers = casefile::numbers();
+    let filled = casefile::read_numbers_if(true, line, at, &mut numbers);
+    if filled.next != line.len() {
+        report::malformed();
+        return;
     }
+    let end = filled.end;
+    numbers_case::answer(call, n, rules, row, d, &mut numbers[..end]);
+}
+
+fn with_bytes(line: &[u8], call: usize, n: usize, rules: &[i32], row: &[u8], d: usize, at: usize) {
+    let mut bytes = casefile::file();
+    let filled = casefile::read_bytes_if(true, line, at, &mut bytes);
+    if filled.next != line.len() {
+        report::malformed();
+        return;
+    }
+    let end = filled.end;
+    bytes_case::answer(call, n, rules, row, d, &mut bytes[..end]);
 }

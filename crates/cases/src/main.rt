@@ -2,21 +2,11 @@
 // that starts with # is a label, and is written as it is. Any other line is a case: the name of the
 // call, then its values, as the library casefile reads them. What is no case is answered too, so
 // nothing is left out.
-mod call;
 mod case;
-mod check_case;
-mod forks_case;
-mod held;
-mod nearest_case;
-mod plain_case;
-mod read_rules_case;
-mod read_wishes_case;
-mod report;
-mod rewrite_case;
-mod search_case;
-mod write_rules_case;
-mod write_wishes_case;
 
+use case_calls::call;
+use case_output::report;
+use case_output::words;
 use libc::STDIN_FILENO;
 ghost use mathlib.Core.Path.{_≡_};
 ghost use lib.ListN.{length};
@@ -36,7 +26,7 @@ fn main() {
     if n < INPUT {
         lines(&space[..n]);
     } else {
-        report::too_long();
+        report::line(words::TOO_LONG);
     }
 }
 
@@ -51,7 +41,7 @@ fn lines(input: &[u8]) {
 
 fn line(line: &[u8]) {
     if casefile::past_byte(line, 0, b'#') <= line.len() {
-        report::words(line);
+        report::label(line);
         return;
     }
     case::run(line, call::named(line));

@@ -20,7 +20,8 @@ use Rattle.searches.specs.Searches.{lentToSearch, found, brokenBy, choiceAfter,
 use Rattle.report.specs.Report.{refusalLine}
 use Rattle.problem_files.specs.Problem.{unlessRefused}
 use Rattle.problem_files.specs.Room.{enough, unrefused}
-use Rattle.nearest_text.specs.Printed.{unsatisfiable, solution, nearestRefused, chosen, nearestText}
+use Rattle.solution_text.specs.Lines.{unsatisfiable, solution}
+use Rattle.nearest_text.specs.Printed.{nearestRefused, chosen, nearestText}
 
 module _ (n : ℕ) (rules : List ℤ) (row : List ℕ) where
   abbrev text : Option Refusal → List ℕ

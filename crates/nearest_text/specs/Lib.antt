@@ -1,4 +1,3 @@
 pub mod Answers
 pub mod Example
-pub mod Laws
 pub mod Printed

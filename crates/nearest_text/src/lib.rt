@@ -1,15 +1,13 @@
 // What the program `nearest` prints: the least number of broken wishes and a choice, in the lines
 // that solvers print.
-mod solution;
-mod values;
-
 use problem_files::ReadProblem;
 use searches::Searched;
 ghost use mathlib.Core.Path.{_≡_};
 ghost use Prim.Native.Nat.{_≤_};
 ghost use lib.ListN.{length};
 ghost use Rattle.report.specs.Report.{fitted};
-ghost use Rattle.nearest_text.specs.Printed.{longest, nearestText, nearestPrinted};
+ghost use Rattle.solution_text.specs.Lines.{longest};
+ghost use Rattle.nearest_text.specs.Printed.{nearestText, nearestPrinted};
 
 // Puts what is printed for a rule file and a wish file into the lent bytes, if it fits, and gives
 // its length.
@@ -40,7 +38,7 @@ fn put_nearest(n: usize, rules: &[i32], row: &[u8], out: &mut [u8]) -> usize
     let mut choice = problem_files::row();
     match nearest_search::search(n, rules, row, &mut choice) {
         Searched::Refused(r) => report::put_refusal(r, out),
-        Searched::Found(broken) => solution::put_found(broken, &choice[..n], out),
+        Searched::Found(broken) => solution_text::put_found(broken, &choice[..n], out),
         Searched::Nothing => report::put_text(b"s UNSATISFIABLE\n", out),
     }
 }

@@ -2,6 +2,7 @@
 use crate::report;
 use crate::single;
 use crate::survey;
+use crate::words;
 use rule_reader::ReadRules;
 use wish_reader::ReadWishes;
 
@@ -9,7 +10,7 @@ pub fn run(rule_file: &[u8], wish_file: &[u8], limits: usize) {
     let mut rules = casefile::numbers();
     let mut row = casefile::bytes();
     read(rule_file, wish_file, limits, &mut rules, &mut row);
-    report::line_feed();
+    casefile::line_feed();
 }
 
 fn read(rule_file: &[u8], wish_file: &[u8], limits: usize, rules: &mut [i32], row: &mut [u8]) {
@@ -18,8 +19,8 @@ fn read(rule_file: &[u8], wish_file: &[u8], limits: usize, rules: &mut [i32], ro
             report::refused(r.number, r.place);
         }
         ReadRules::Read(counts) => {
-            report::value(b": settings ", counts.variables);
-            report::value(b" rules ", counts.clauses);
+            report::value(words::SETTINGS, counts.variables);
+            report::value(words::RULES, counts.clauses);
             ruled(
                 counts.variables,
                 rules,
@@ -34,7 +35,7 @@ fn read(rule_file: &[u8], wish_file: &[u8], limits: usize, rules: &mut [i32], ro
 
 fn ruled(n: usize, rules: &[i32], end: usize, wish_file: &[u8], limits: usize, row: &mut [u8]) {
     if rules.len() < end {
-        report::words(b" no room");
+        words::write(words::NO_ROOM);
         return;
     }
     match wish_reader::read_wishes(wish_file, row) {
@@ -42,8 +43,8 @@ fn ruled(n: usize, rules: &[i32], end: usize, wish_file: &[u8], limits: usize, r
             report::refused(r.number, r.place);
         }
         ReadWishes::Read(header) => {
-            report::value(b" wishes ", header.wishes);
-            report::value(b" limit ", header.limit);
+            report::value(words::WISHES, header.wishes);
+            report::value(words::LIMIT, header.limit);
             wished(
                 n,
                 &rules[0..end],
@@ -58,11 +59,15 @@ fn ruled(n: usize, rules: &[i32], end: usize, wish_file: &[u8], limits: usize, r
 
 fn wished(n: usize, rules: &[i32], row: &[u8], end: usize, limit: usize, limits: usize) {
     if row.len() < end {
-        report::words(b" no room");
+        words::write(words::NO_ROOM);
         return;
     }
-    single::nearest(n, rules, &row[0..end]);
-    single::wished(n, rules, &row[0..end], limit);
-    single::plain(n, rules, &row[0..end]);
-    survey::every(n, rules, &row[0..end], limits);
+    searched(n, rules, &row[0..end], limit, limits);
+}
+
+fn searched(n: usize, rules: &[i32], row: &[u8], limit: usize, limits: usize) {
+    single::nearest(n, rules, row);
+    single::wished(n, rules, row, limit);
+    single::plain(n, rules, row);
+    survey::every(n, rules, row, limits);
 }

@@ -2,7 +2,8 @@
 // are run with, the lengths of its two files, and its name. The rule file follows, the wish file, and a
 // line feed.
 use crate::book;
-use crate::report;
+use crate::words;
+use libc::STDOUT_FILENO;
 ghost use Prim.Native.Nat.{_≤_};
 ghost use lib.ListN.{length};
 
@@ -18,14 +19,31 @@ pub fn run(input: &[u8]) {
     let mut from = 0;
     while from < input.len() {
         let end = casefile::line_end(input, from);
-        let heading = heading_of(&input[from..end]);
-        let rules = past(input, end, 1);
-        let wishes = past(input, rules, heading.rules);
-        let next = past(input, wishes, heading.wishes);
-        name(&input[from..end], heading.name);
-        book::run(&input[rules..wishes], &input[wishes..next], heading.limits);
-        from = next + 1;
+        from = book(input, from, end) + 1;
     }
+}
+
+// One book, whose first line stands from one place to another. The place after it.
+fn book(input: &[u8], from: usize, end: usize) -> usize
+    requires { ⌜ (from ≤ end) × (end ≤ length (now input)) ⌝ }
+    ensures { λ r. ⌜ (end ≤ r) × (r ≤ length (now (input .entry))) ⌝ }
+{
+    let line = &input[from..end];
+    let heading = heading_of(line);
+    name(line, heading.name);
+    files(input, end, heading)
+}
+
+// Its two files, from the end of its first line on.
+fn files(input: &[u8], end: usize, heading: Heading) -> usize
+    requires { ⌜ end ≤ length (now input) ⌝ }
+    ensures { λ r. ⌜ (end ≤ r) × (r ≤ length (now (input .entry))) ⌝ }
+{
+    let rules = past(input, end, 1);
+    let wishes = past(input, rules, heading.rules);
+    let next = past(input, wishes, heading.wishes);
+    book::run(&input[rules..wishes], &input[wishes..next], heading.limits);
+    next
 }
 
 fn heading_of(line: &[u8]) -> Heading {
@@ -53,8 +71,8 @@ fn past(input: &[u8], from: usize, size: usize) -> usize
 
 fn name(line: &[u8], from: usize) {
     if from <= line.len() {
-        report::words(&line[from..]);
+        io::write_all(STDOUT_FILENO, &line[from..]);
     } else {
-        report::words(b"bad book");
+        words::write(words::BAD_BOOK);
     }
 }

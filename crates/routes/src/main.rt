@@ -8,6 +8,7 @@ mod route;
 mod single;
 mod survey;
 mod unset;
+mod words;
 
 use libc::STDIN_FILENO;
 ghost use mathlib.Core.Path.{_≡_};
@@ -28,7 +29,7 @@ fn main() {
     if n < INPUT {
         books::run(&space[..n]);
     } else {
-        report::words(b"the input is too long");
-        report::line_feed();
+        words::write(words::TOO_LONG);
+        casefile::line_feed();
     }
 }

@@ -3,6 +3,7 @@ use crate::outcome;
 use crate::report;
 use crate::route;
 use crate::unset;
+use crate::words;
 use searches::Searched;
 
 // The greatest limit, and the greatest number of wishes.
@@ -16,17 +17,17 @@ pub fn nearest(n: usize, rules: &[i32], row: &[u8]) {
 
 fn nearest_into(n: usize, rules: &[i32], row: &[u8], choice: &mut [u8]) {
     let answer = nearest_search::search(n, rules, row, choice);
+    words::write(words::NEAREST);
     match answer {
         Searched::Refused(r) => {
-            report::words(b"; nearest");
             report::refused(r.number, r.place);
         }
         Searched::Nothing => {
-            report::words(b"; nearest none");
+            words::write(words::NONE);
             wished(n, rules, row, GREATEST);
         }
         Searched::Found(count) => {
-            report::value(b"; nearest ", count);
+            report::value(words::BLANK, count);
             report::outcome(outcome::wished(n, rules, row, count, answer, choice));
             around(n, rules, row, count);
         }
@@ -42,7 +43,7 @@ fn around(n: usize, rules: &[i32], row: &[u8], count: usize) {
 
 // The wish search at a limit.
 pub fn wished(n: usize, rules: &[i32], row: &[u8], d: usize) {
-    report::value(b"; limit ", d);
+    report::value(words::AT_LIMIT, d);
     report::outcome(route::first(n, rules, row, d));
 }
 
@@ -50,6 +51,6 @@ pub fn wished(n: usize, rules: &[i32], row: &[u8], d: usize) {
 pub fn plain(n: usize, rules: &[i32], row: &[u8]) {
     let mut choice = unset::choice();
     let answer = plain_search::search(n, rules, &mut choice);
-    report::words(b"; plain");
+    words::write(words::PLAIN);
     report::outcome(outcome::plain(n, rules, row, GREATEST, answer, &choice));
 }

@@ -2,6 +2,7 @@
 use crate::outcome::Outcome;
 use crate::report;
 use crate::route;
+use crate::words;
 ghost use Prim.Native.Nat.{_<_};
 
 // What both routes say at a limit.
@@ -32,9 +33,9 @@ pub fn every(n: usize, rules: &[i32], row: &[u8], limits: usize) {
 }
 
 fn show(survey: Survey) {
-    report::range(b"; routes agree ", 0, survey.agreed);
-    report::range(b", none ", 0, survey.none);
-    report::range(b", found ", survey.none, survey.found);
+    report::range(words::AGREE, 0, survey.agreed);
+    report::range(words::BOTH_NONE, 0, survey.none);
+    report::range(words::BOTH_FOUND, survey.none, survey.found);
 }
 
 // No limit has been tried.

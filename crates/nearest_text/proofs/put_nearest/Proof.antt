@@ -9,7 +9,8 @@ use Rattle.report.specs.Laws.{renamed}
 use Rattle.report.specs.Report.{refusalLine}
 use Rattle.problem_files.specs.Told.{cut}
 use Rattle.nearest_text.specs.Answers.{Given, nearest-refused, nearest-nothing, nearest-given}
-use Rattle.nearest_text.specs.Printed.{unsatisfiable, solution, nearestText}
+use Rattle.solution_text.specs.Lines.{unsatisfiable, solution}
+use Rattle.nearest_text.specs.Printed.{nearestText}
 use borrow.Author.Needs.{needs}
 use Rattle.nearest_text.proofs.put_nearest.Statement.{statement}
 use Rattle.nearest_text.proofs.put_nearest.Tie as tie
