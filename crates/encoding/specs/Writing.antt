@@ -29,9 +29,9 @@ within n (x ∷ l) h w zero = omega (arith, w .1)
 within n (x ∷ l) h w (suc i) = within n l h (w .2) i
 
 -- the length of the rewritten list, from that of the rules and of what any so many leaves add
-pub counted : (n : ℕ) (rules : List ℤ) (row : List ℕ) (d m r : ℕ) → m ≡ totalWeight row
+pub rewritten-length : (n : ℕ) (rules : List ℤ) (row : List ℕ) (d m r : ℕ) → m ≡ totalWeight row
     → ((k : ℕ) (l : List ℤ) → length l ≡ m → r ≡ length (flat (atMost k l d))) → length rules + r ≡ length (rewritten n rules row d)
-counted n rules row d m r e f =
+rewritten-length n rules row d m r e f =
     omega (arith, f n (leaves row) (leaves-length row ∙ sym e), length-append rules (flat (atMost n (leaves row) d)))
 
 module _ (n : ℕ) (rules : List ℤ) (row : List ℕ) (d : ℕ) (out : List ℤ) (ok : Admitted (wishedProblem n rules row d) × (length (rewritten n rules row d) ≤ length out)) where

@@ -2,7 +2,7 @@
 use literal::Variable;
 use tally::Tally;
 ghost use mathlib.Core.Path.{_≡_};
-ghost use Prim.Native.Nat.{_^_, _≤_, _<_, _+_, _-_, _*_};
+ghost use Prim.Native.Nat.{_^_, _≤_, _<_, _-_};
 ghost use lib.ListN.{length};
 ghost use Rattle.propagation.specs.Assigned.{AssignedTo};
 ghost use Rattle.wish.specs.Wish.{cost};

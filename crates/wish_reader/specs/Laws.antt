@@ -8,9 +8,9 @@ use native.Mathlib.Nat.{zero-add, not-suc-le-zero}
 use native.Mathlib.Omega.{arith}
 use lib.ListN.{length, drop, set, replicate, length-set, length-replicate}
 use lib.Seq.{sets, sets-eq, drop-drop, set-append-left}
-use borrow.Author.Tests.{lt-ltb, le-ltb}
+use borrow.Author.Tests.{le-ltb}
 use Rattle.refusal.specs.declared.Refusal.{Refusal}
-use Rattle.refusal.specs.Reply.{Reply, refusal, refusing, answering, tooShort}
+use Rattle.refusal.specs.Reply.{Reply, refusing, answering, tooShort}
 use Rattle.wish.specs.Wish.{freeByte, wishFor}
 use Rattle.wish_file.specs.Format.{headerColumns, wishColumns, wishOf, wishAt, wishesIn, refuses, gives, reading}
 use Rattle.wish_file.specs.Layout.{columnWidth, lineSize, lineNumbers}

@@ -1,5 +1,5 @@
 -- `checking::check` meets its contract: refused for what was lent, or answered.
-use mathlib.Core.Path.{_≡_, sym, _∙_}
+use mathlib.Core.Path.{sym, _∙_}
 use Rattle.causes.specs.Admitted.{admitted}
 use Rattle.causes.specs.Laws.{sound-weight}
 use Rattle.causes.specs.Lent.{Lent, unadmitted}

@@ -9,7 +9,7 @@ use Rattle.admission.specs.Admission.{countsOf}
 use Rattle.admission.specs.Laws.{refused-by, admitted-by}
 use Rattle.totalizer.specs.Totalizer.{rewritten}
 use Rattle.encoding.specs.Causes.{few-leaves-weight, refused-early, refused-late, answered, writable}
-use Rattle.encoding.specs.Writing.{counted}
+use Rattle.encoding.specs.Writing.{rewritten-length}
 use borrow.Author.Needs.{needs}
 use Rattle.encoding.proofs.rewrite.Statement.{statement}
 use Rattle.encoding.proofs.rewrite.Tie as tie
@@ -37,7 +37,7 @@ module _ (c : tie.After-length-of) where
   whole : needed ≡ length (rewritten (c .before .before .before .before .before .before .args .n) (c .before .before .before .before .before .before .args .rules .now) (c .before .before .before .before .before .before .args .row .now) (c .before .before .before .before .before .before .args .d))
   whole =
       let args = c .before .before .before .before .before .before .args in
-      counted (args .n) (args .rules .now) (args .row .now) (args .d) (wished (c .before)) (c .length-of .result) (ap (λ (k : Counts). k .weight) (known (c .before) .1)) (c .length-of .ensures .0)
+      rewritten-length (args .n) (args .rules .now) (args .row .now) (args .d) (wished (c .before)) (c .length-of .result) (ap (λ (k : Counts). k .weight) (known (c .before) .1)) (c .length-of .ensures .0)
 
 admit-wishes-requires : tie.Need-admit-wishes-requires
 admit-wishes-requires c κs = search needs

@@ -18,8 +18,8 @@ abbrev lent : tie.After-admit-rules → Lent
 lent c = plainProblem (c .before .before .args .n) (c .before .before .args .rules .now)
 
 -- past it, with the counts
-counted : (c : tie.After-known-told2) → (unadmitted (lent (c .before .before .before)) ≡ none) × (c .before .counts .given .0 .0 ≡ countsOf (lent (c .before .before .before)))
-counted c = admitted-by (unadmitted (lent (c .before .before .before))) (countsOf (lent (c .before .before .before))) (c .before .counts .given .0 .0) (sym (c .before .before .before .admit-rules .ensures) ∙ c .before .counts .given .1)
+passed : (c : tie.After-known-told2) → (unadmitted (lent (c .before .before .before)) ≡ none) × (c .before .counts .given .0 .0 ≡ countsOf (lent (c .before .before .before)))
+passed c = admitted-by (unadmitted (lent (c .before .before .before))) (countsOf (lent (c .before .before .before))) (c .before .counts .given .0 .0) (sym (c .before .before .before .admit-rules .ensures) ∙ c .before .counts .given .1)
 
 admit-rules-requires : tie.Need-admit-rules-requires
 admit-rules-requires c κs = search needs
@@ -33,7 +33,7 @@ enum-known-counts c = search needs
 write-sound-requires : tie.Need-write-sound-requires
 write-sound-requires c κs =
     let args = c .before .before .before .before .before .before .args in
-    let known = counted (c .before) in
+    let known = passed (c .before) in
     (ap (λ (k : Counts). k .clauses) (known .1), sound-length (args .n) (args .rules .now) (admitted (lent (c .before .before .before .before)) (known .0) .soundRules))
 
 returns : tie.Need-returns
@@ -50,7 +50,7 @@ returns-2 : tie.Need-returns-2
 returns-2 c =
     let args = c .before .before .before .before .before .before .before .before .before .args in
     let call = c .before .before .write-sound in
-    answered (args .n) (args .rules .now) (args .file .now) (counted (c .before .before .before .before) .0) (replyOf (call .result)) (call .last .1 .1 .1 .0) (call .ensures)
+    answered (args .n) (args .rules .now) (args .file .now) (passed (c .before .before .before .before) .0) (replyOf (call .result)) (call .last .1 .1 .1 .0) (call .ensures)
 
 pub write-rules-spec : {M : Type 1} → statement M
 write-rules-spec =

@@ -16,8 +16,8 @@ abbrev lent : tie.After-admit-row → Lent
 lent c = wishesAlone (c .before .before .before .args .n) (c .before .before .before .args .row .now) (c .before .before .before .args .d)
 
 -- past it, with the counts
-counted : (c : tie.After-known-told2) → (unadmitted (lent (c .before .before .before)) ≡ none) × (c .before .counts .given .0 .0 ≡ countsOf (lent (c .before .before .before)))
-counted c = admitted-by (unadmitted (lent (c .before .before .before))) (countsOf (lent (c .before .before .before))) (c .before .counts .given .0 .0) (sym (c .before .before .before .admit-row .ensures) ∙ c .before .counts .given .1)
+passed : (c : tie.After-known-told2) → (unadmitted (lent (c .before .before .before)) ≡ none) × (c .before .counts .given .0 .0 ≡ countsOf (lent (c .before .before .before)))
+passed c = admitted-by (unadmitted (lent (c .before .before .before))) (countsOf (lent (c .before .before .before))) (c .before .counts .given .0 .0) (sym (c .before .before .before .admit-row .ensures) ∙ c .before .counts .given .1)
 
 admit-row-requires : tie.Need-admit-row-requires
 admit-row-requires c κs = search needs
@@ -30,7 +30,7 @@ enum-known-counts c = search needs
 
 write-row-requires : tie.Need-write-row-requires
 write-row-requires c κs =
-    let known = counted (c .before) in
+    let known = passed (c .before) in
     (admitted (lent (c .before .before .before .before)) (known .0), ap (λ (k : Counts). k .wishes) (known .1))
 
 returns : tie.Need-returns

@@ -1,5 +1,5 @@
 -- `admission::steps::then_row` meets its contract: refused before, or by the row, or counted.
-use mathlib.Core.Path.{_≡_, sym, ap, ap₂, _∙_}
+use mathlib.Core.Path.{sym, ap, ap₂, _∙_}
 use mathlib.Core.Option.{Option}
 use Prim.Native.Nat.{ℕ}
 use Rattle.refusal.specs.Reply.{refusal, causeAt}

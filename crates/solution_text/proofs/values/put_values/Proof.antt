@@ -1,6 +1,6 @@
 -- `solution_text::values::put_values` meets its contract. The loop's invariant: with the rest of the values put from here, the buffer is what it is to be.
 use mathlib.Core.Path.{_≡_, sym, ap, _∙_}
-use Prim.Native.Nat.{_+_, _-_, _≤_}
+use Prim.Native.Nat.{_+_, _-_}
 use native.Mathlib.Omega.{arith}
 use lib.ListN.{length, getD, drop, length-append}
 use lib.Seq.{sets}
