@@ -6,7 +6,7 @@ use libc::STDERR_FILENO;
 use libc::STDOUT_FILENO;
 ghost use mathlib.Core.Path.{_≡_};
 ghost use lib.ListN.{length};
-ghost use Rattle.nearest_text.specs.Printed.{longest};
+ghost use Rattle.solution_text.specs.Lines.{longest};
 
 fn main() {
     let words = os::arg_count();
