@@ -11,12 +11,16 @@ use case_output::words;
 
 pub fn answer(call: usize, n: usize, rules: &[i32], row: &[u8], d: usize, bytes: &mut [u8]) {
     if call == CHECK {
-        show::checked(search_answers::of_checked(checking::check(n, rules, row, bytes)));
+        check(n, rules, row, bytes);
     } else if call < SEARCH {
         file(call, n, rules, row, d, bytes);
     } else {
         search_case::answer(call, n, rules, row, d, bytes);
     }
+}
+
+fn check(n: usize, rules: &[i32], row: &[u8], choice: &[u8]) {
+    show::checked(search_answers::of_checked(checking::check(n, rules, row, choice)));
 }
 
 fn file(call: usize, n: usize, rules: &[i32], row: &[u8], d: usize, out: &mut [u8]) {

@@ -16,11 +16,16 @@ pub fn answer(call: usize, n: usize, rules: &[i32], row: &[u8], d: usize, choice
         held::bytes(choice);
         return;
     }
+    found(call, n, rules, row, d, answer.value[0], choice);
+}
+
+// What holds of a choice that was found, and of the buffer past it.
+fn found(call: usize, n: usize, rules: &[i32], row: &[u8], d: usize, broken: u64, choice: &[u8]) {
     if choice.len() < n {
         report::line(words::NO_ROOM);
         return;
     }
-    judge(call, n, rules, row, d, answer.value[0], &choice[0..n]);
+    judge(call, n, rules, row, d, broken, &choice[0..n]);
     held::bytes(&choice[n..]);
 }
 
