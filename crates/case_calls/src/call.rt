@@ -21,7 +21,7 @@ pub const FORKS: usize = 9;
 
 // Which call a line names; any other number where it names none.
 pub fn named(line: &[u8]) -> usize {
-    casefile::name_of(
+    case_text::name_of(
         line,
         b"check\nread_rules\nwrite_rules\nread_wishes\nwrite_wishes\nsearch\nplain\nnearest\nrewrite\nforks\n",
     )

@@ -1,7 +1,6 @@
 // Lists of a case: their length, and then their elements. Among these, `@ COUNT BACK` stands for
 // COUNT further elements, each of them the one that stands BACK places before it.
 use crate::arrays;
-use crate::text;
 ghost use mathlib.Core.Path.{_≡_};
 ghost use Prim.Native.Nat.{_≤_, _<_};
 ghost use lib.ListN.{length};
@@ -26,7 +25,7 @@ struct Element {
 pub fn read_numbers_if(there: bool, line: &[u8], at: usize, out: &mut [i32]) -> Filled
     ensures { λ r. ⌜ Prefix (r .end) (now (out .exit)) ⌝ }
 {
-    let count = text::read_number_if(there, line, at);
+    let count = case_text::read_number_if(there, line, at);
     let end = count.value;
     if out.len() < end {
         return nothing(line);
@@ -72,7 +71,7 @@ fn following(line: &[u8], before: Element, list: &[i32], i: usize) -> Element
 {
     let element = repeat_from(line, before);
     if element.left == 0 {
-        let x = text::read_signed(line, element.next);
+        let x = case_text::read_signed(line, element.next);
         return single(x.value, x.next);
     }
     let back = element.back;
@@ -95,12 +94,12 @@ fn repeat_from(line: &[u8], before: Element) -> Element {
     if 0 < before.left {
         return before;
     }
-    let mark = text::past_byte(line, text::past_byte(line, before.next, b' '), b'@');
+    let mark = case_text::past_byte(line, case_text::past_byte(line, before.next, b' '), b'@');
     if line.len() < mark {
         return before;
     }
-    let count = text::read_number(line, mark);
-    let back = text::read_number(line, count.next);
+    let count = case_text::read_number(line, mark);
+    let back = case_text::read_number(line, count.next);
     Element {
         value: 0,
         next: back.next,

@@ -15,7 +15,7 @@ pub fn run(line: &[u8], call: usize) {
         return;
     }
     let has = call::values_of(call);
-    let n = casefile::read_number_if(has.n, line, casefile::word_end(line));
+    let n = case_text::read_number_if(has.n, line, case_text::word_end(line));
     with_n(line, call, has, n.value, n.next);
 }
 
@@ -30,7 +30,7 @@ fn with_rules(line: &[u8], call: usize, has: Values, n: usize, rules: &[i32], at
     let mut row = casefile::file();
     let filled = casefile::read_bytes_if(has.row, line, at, &mut row);
     let end = filled.end;
-    let d = casefile::read_number_if(has.d, line, filled.next);
+    let d = case_text::read_number_if(has.d, line, filled.next);
     with_row(line, call, n, rules, &row[..end], d.value, d.next);
 }
 

@@ -33,14 +33,14 @@ fn main() {
 fn lines(input: &[u8]) {
     let mut from = 0;
     while from < input.len() {
-        let end = casefile::line_end(input, from);
+        let end = case_text::line_end(input, from);
         line(&input[from..end]);
         from = end + 1;
     }
 }
 
 fn line(line: &[u8]) {
-    if casefile::past_byte(line, 0, b'#') <= line.len() {
+    if case_text::past_byte(line, 0, b'#') <= line.len() {
         report::label(line);
         return;
     }

@@ -1,7 +1,5 @@
 // Rewriting into plain rules: the given rules, then clauses that let at most d wishes be broken. It
 // counts first, then writes, so that a refusal leaves the lent list alone.
-mod leaves;
-
 use admission::Admission;
 use refusal::Refusal;
 use refusal::Verdict;

@@ -1,23 +1,18 @@
--- Opposed clauses, literal by literal and in a list.
+-- Opposed clauses of a list.
 use mathlib.Core.Path.{_≡_}
-use mathlib.Core.Bool.{Bool, true, false, not, _&&_}
+use mathlib.Core.Bool.{Bool, true, false}
 use mathlib.Core.List.{List}
 use mathlib.Core.Option.{Option, none, some}
 use Prim.Native.Nat.{ℕ, _<_}
 use lib.IntN.{ℤ}
 use lib.ListN.{length, drop}
-use Rattle.literal.specs.Literal.{holds}
 use Rattle.formula.specs.Formula.{clauses}
-use Rattle.walk.specs.Branching.{assignedOrAgainst, isOpposed, shortest}
+use Rattle.walk.specs.Branching.{isOpposed, shortest}
 use Rattle.clause_standing.specs.Clause.{clauseAt}
 use Rattle.opposed.specs.declared.fewest.Fewest.{Fewest}
 use Rattle.opposed.specs.declared.fewest.Fewest.the-variants as F
 use Rattle.opposed.specs.declared.shortest.Begins.{Begins}
 use Rattle.opposed.specs.declared.shortest.Begins.the-variants as W
-
--- a literal of an opposed clause
-abbrev pub opposes : List ℕ → List ℕ → ℤ → Bool
-opposes row a x = not (holds a x) && assignedOrAgainst row a x
 
 -- the number that a `Fewest` holds
 abbrev pub sizeOf : Fewest → Option ℕ

@@ -1,5 +1,4 @@
 // The shortest opposed clause of a list.
-use crate::clause::read_opposed;
 use crate::pair::shorter;
 ghost use mathlib.Core.Path.{_≡_};
 ghost use mathlib.Core.Bool.{true};
@@ -23,7 +22,7 @@ pub fn find_opposed(list: &[i32], row: &[u8], assignment: &[u8]) -> Begins
 {
     let mut from = 0;
     while from < list.len() {
-        let reading = read_opposed(list, from, row, assignment);
+        let reading = opposed_clause::read_opposed(list, from, row, assignment);
         let end = reading.end;
         if reading.opposed {
             return Begins::At(from);
@@ -47,7 +46,7 @@ pub fn shortest_opposed<'a>(
     let mut kept = &list[first..first_end];
     let mut from = first_end + 1;
     while from < list.len() {
-        let reading = read_opposed(list, from, row, assignment);
+        let reading = opposed_clause::read_opposed(list, from, row, assignment);
         let end = reading.end;
         if reading.opposed {
             let best = shorter(kept, &list[from..end], assignment);

@@ -10,7 +10,7 @@ pub fn run(rule_file: &[u8], wish_file: &[u8], limits: usize) {
     let mut rules = casefile::numbers();
     let mut row = casefile::bytes();
     read(rule_file, wish_file, limits, &mut rules, &mut row);
-    casefile::line_feed();
+    case_text::line_feed();
 }
 
 fn read(rule_file: &[u8], wish_file: &[u8], limits: usize, rules: &mut [i32], row: &mut [u8]) {

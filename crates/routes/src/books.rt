@@ -18,7 +18,7 @@ struct Heading {
 pub fn run(input: &[u8]) {
     let mut from = 0;
     while from < input.len() {
-        let end = casefile::line_end(input, from);
+        let end = case_text::line_end(input, from);
         from = book(input, from, end) + 1;
     }
 }
@@ -47,14 +47,14 @@ fn files(input: &[u8], end: usize, heading: Heading) -> usize
 }
 
 fn heading_of(line: &[u8]) -> Heading {
-    let limits = casefile::read_number(line, casefile::past_word(line, b"book"));
-    let rules = casefile::read_number(line, limits.next);
-    let wishes = casefile::read_number(line, rules.next);
+    let limits = case_text::read_number(line, case_text::past_word(line, b"book"));
+    let rules = case_text::read_number(line, limits.next);
+    let wishes = case_text::read_number(line, rules.next);
     Heading {
         limits: limits.value,
         rules: rules.value,
         wishes: wishes.value,
-        name: casefile::past_byte(line, wishes.next, b' '),
+        name: case_text::past_byte(line, wishes.next, b' '),
     }
 }
 

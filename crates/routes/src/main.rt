@@ -30,6 +30,6 @@ fn main() {
         books::run(&space[..n]);
     } else {
         words::write(words::TOO_LONG);
-        casefile::line_feed();
+        case_text::line_feed();
     }
 }

@@ -46,7 +46,7 @@ pub const BAD_BOOK: usize = 21;
 pub const TOO_LONG: usize = 22;
 
 pub fn write(number: usize) {
-    casefile::write_line(
+    case_text::write_line(
         b": settings \n rules \n no room\n wishes \n limit \n; nearest\n; limit \n; plain\n found, met\n none\n found, unmet\n found, miscounted\n found, past the limit\n refused \n at \n; routes agree \n, none \n, found \n..\nnowhere\n \nbad book\nthe input is too long\n",
         number,
     );

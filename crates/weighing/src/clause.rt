@@ -37,7 +37,7 @@ pub fn is_source(
     if count != size {
         return false;
     }
-    opposed::is_opposed(clause, row, assignment)
+    opposed_clause::is_opposed(clause, row, assignment)
 }
 
 // Adds a clause's weight where it is open, and marks its variables where it gives candidates.
