@@ -1,26 +1,43 @@
-// Whether a call may start: the first cause to refuse what it was lent, or how much that is, so that
-// nothing is scanned or counted twice. A function for each set of values that calls are lent, made of
-// steps that look at one cause each.
-mod lent;
-mod steps;
+// Whether a call may start. A function for each set of values that calls are lent: its causes to refuse,
+// one after another in their order.
+use admission_steps::Admission;
+ghost use mathlib.Core.Path.{_≡_};
+ghost use Rattle.causes.specs.Lent.{plainProblem, wishesAlone, wishedProblem, chosenProblem};
+ghost use Rattle.admission_steps.specs.Admission.{admission};
 
-pub use lent::admit_choice;
-pub use lent::admit_row;
-pub use lent::admit_rules;
-pub use lent::admit_wishes;
-use refusal::Refusal;
-pub use steps::with_room;
-
-// How many clauses, literals and wishes were lent, and what the wishes weigh.
-pub struct Counts {
-    pub clauses: usize,
-    pub literals: usize,
-    pub wishes: usize,
-    pub weight: usize,
+// n and the rules.
+pub fn admit_rules(n: usize, rules: &[i32]) -> Admission
+    ensures { λ r. ⌜ r ≡ admission (plainProblem n (now (rules .entry))) ⌝ }
+{
+    admission_steps::admit_list(n, rules, 0)
 }
 
-// Refused, or admitted with these counts.
-pub enum Admission {
-    Refused(Refusal),
-    Admitted(Counts),
+// n, the row and the limit: no rules are as good as an empty list.
+pub fn admit_row(n: usize, row: &[u8], d: usize) -> Admission
+    ensures { λ r. ⌜ r ≡ admission (wishesAlone n (now (row .entry)) d) ⌝ }
+{
+    let rules: [i32; 0] = [];
+    admit_wishes(n, &rules, row, d)
+}
+
+// n, the rules, the row and the limit.
+pub fn admit_wishes(n: usize, rules: &[i32], row: &[u8], d: usize) -> Admission
+    ensures { λ r. ⌜ r ≡ admission (wishedProblem n (now (rules .entry)) (now (row .entry)) d) ⌝ }
+{
+    let listed = admission_steps::admit_list(n, rules, d);
+    let sound = admission_steps::then_row(listed, row);
+    let long = admission_steps::and_then(sound, causes::check_length(n, row.len()));
+    admission_steps::then_size(long, n)
+}
+
+// n, the rules, the row and a given choice.
+pub fn admit_choice(n: usize, rules: &[i32], row: &[u8], choice: &[u8]) -> Admission
+    ensures { λ r. ⌜ r ≡ admission (chosenProblem n (now (rules .entry)) (now (row .entry)) (now (choice .entry))) ⌝ }
+{
+    let listed = admission_steps::admit_list(n, rules, 0);
+    let wished = admission_steps::then_row(listed, row);
+    let sound = admission_steps::and_then(wished, causes::scan_choice(choice));
+    let row_long = admission_steps::and_then(sound, causes::check_length(n, row.len()));
+    let both_long = admission_steps::and_then(row_long, causes::check_length(n, choice.len()));
+    admission_steps::then_size(both_long, n)
 }

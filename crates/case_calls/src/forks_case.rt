@@ -1,6 +1,6 @@
 // `forks N RULES ROW D`: the walk of the wish search, with the forks that it makes. They are counted
 // below the public calls, which do not tell them.
-use admission::Admission;
+use admission_steps::Admission;
 use case_output::report;
 use case_output::words;
 use walk_result::Tried;
@@ -12,7 +12,7 @@ pub fn answer(n: usize, rules: &[i32], row: &[u8], d: usize) {
 
 fn walk(n: usize, rules: &[i32], row: &[u8], d: usize, choice: &mut [u8]) {
     let admitted = admission::admit_wishes(n, rules, row, d);
-    match admission::with_room(admitted, n, choice.len()) {
+    match admission_steps::with_room(admitted, n, choice.len()) {
         Admission::Refused(r) => report::refused(r.number as u64, r.place as u64),
         Admission::Admitted(_) => show(root_walk::walk_into(n, rules, row, d, choice)),
     }

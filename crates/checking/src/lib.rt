@@ -1,5 +1,5 @@
 // The checking call: whether a choice meets all rules, and how many wishes it breaks.
-use admission::Admission;
+use admission_steps::Admission;
 use refusal::Refusal;
 ghost use mathlib.Core.Path.{_≡_};
 ghost use Prim.Native.Nat.{_≤_};

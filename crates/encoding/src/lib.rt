@@ -1,6 +1,6 @@
 // Rewriting into plain rules: the given rules, then clauses that let at most d wishes be broken. It
 // counts first, then writes, so that a refusal leaves the lent list alone.
-use admission::Admission;
+use admission_steps::Admission;
 use refusal::Refusal;
 use refusal::Verdict;
 ghost use mathlib.Core.Option.{none};

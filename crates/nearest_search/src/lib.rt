@@ -1,6 +1,6 @@
 // Nearest: the least number of broken wishes with a choice that meets all rules, or none when the
 // rules can't be met.
-use admission::Admission;
+use admission_steps::Admission;
 use searches::Searched;
 use walk_result::Tried;
 ghost use mathlib.Core.Path.{_≡_};
@@ -20,7 +20,7 @@ pub fn search(n: usize, rules: &[i32], row: &[u8], choice: &mut [u8]) -> Searche
     ensures meaning { λ r. ⌜ NearestMeans n (now (rules .entry)) (now (row .entry)) (now (choice .exit)) r ⌝ }
 {
     let admitted = admission::admit_wishes(n, rules, row, 0);
-    match admission::with_room(admitted, n, choice.len()) {
+    match admission_steps::with_room(admitted, n, choice.len()) {
         Admission::Refused(r) => Searched::Refused(r),
         Admission::Admitted(counts) => climb(n, rules, row, counts.weight, choice),
     }

@@ -1,5 +1,5 @@
 // Plain search: a choice that meets all rules, or none; up to the limits of a rule file.
-use admission::Admission;
+use admission_steps::Admission;
 use searches::Searched;
 use wish::FREE;
 ghost use mathlib.Core.Path.{_≡_};
@@ -15,7 +15,7 @@ pub fn search(n: usize, rules: &[i32], choice: &mut [u8]) -> Searched
     ensures meaning { λ r. ⌜ PlainMeans n (now (rules .entry)) (now (choice .exit)) r ⌝ }
 {
     let admitted = admission::admit_rules(n, rules);
-    match admission::with_room(admitted, n, choice.len()) {
+    match admission_steps::with_room(admitted, n, choice.len()) {
         Admission::Refused(r) => Searched::Refused(r),
         Admission::Admitted(_) => {
             let row = no_wishes();

@@ -2,7 +2,7 @@
 mod count;
 mod put;
 
-use admission::Admission;
+use admission_steps::Admission;
 use refusal::Refusal;
 use refusal::Verdict;
 ghost use mathlib.Core.Path.{_≡_};

@@ -1,5 +1,5 @@
 // The wish search: a choice that meets all rules and breaks at most d wishes, or none.
-use admission::Admission;
+use admission_steps::Admission;
 use searches::Searched;
 ghost use mathlib.Core.Path.{_≡_};
 ghost use lib.ListN.{length};
@@ -13,7 +13,7 @@ pub fn search(n: usize, rules: &[i32], row: &[u8], d: usize, choice: &mut [u8]) 
     ensures meaning { λ r. ⌜ SearchMeans n (now (rules .entry)) (now (row .entry)) d (now (choice .exit)) r ⌝ }
 {
     let admitted = admission::admit_wishes(n, rules, row, d);
-    match admission::with_room(admitted, n, choice.len()) {
+    match admission_steps::with_room(admitted, n, choice.len()) {
         Admission::Refused(r) => Searched::Refused(r),
         Admission::Admitted(_) => walk_result::answer_of(root_walk::walk_into(
             n,

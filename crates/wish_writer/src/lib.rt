@@ -1,7 +1,7 @@
 // The writer of the wish file: it checks and counts first, then writes, so that a refusal leaves the lent bytes alone.
 mod put;
 
-use admission::Admission;
+use admission_steps::Admission;
 use refusal::Refusal;
 use refusal::Verdict;
 use wish_file::HEADER_SIZE;

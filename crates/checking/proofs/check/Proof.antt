@@ -3,8 +3,8 @@ use mathlib.Core.Path.{sym, _∙_}
 use Rattle.causes.specs.Admitted.{admitted}
 use Rattle.causes.specs.Laws.{sound-weight}
 use Rattle.causes.specs.Lent.{Lent, unadmitted}
-use Rattle.admission.specs.Admission.{countsOf}
-use Rattle.admission.specs.Laws.{refused-by, admitted-by}
+use Rattle.admission_steps.specs.Admission.{countsOf}
+use Rattle.admission_steps.specs.Laws.{refused-by, admitted-by}
 use Rattle.checking.specs.Check.{lentToCheck}
 use Rattle.checking.specs.Laws.{refused-check, answered-check}
 use borrow.Author.Needs.{needs}

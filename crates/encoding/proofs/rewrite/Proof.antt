@@ -4,9 +4,9 @@ use mathlib.Core.Option.{none}
 use Prim.Native.Nat.{ℕ, _+_}
 use lib.ListN.{length}
 use Rattle.causes.specs.Lent.{Lent, wishedProblem, unadmitted}
-use Rattle.admission.specs.declared.Counts.{Counts}
-use Rattle.admission.specs.Admission.{countsOf}
-use Rattle.admission.specs.Laws.{refused-by, admitted-by}
+use Rattle.admission_steps.specs.declared.Counts.{Counts}
+use Rattle.admission_steps.specs.Admission.{countsOf}
+use Rattle.admission_steps.specs.Laws.{refused-by, admitted-by}
 use Rattle.totalizer.specs.Totalizer.{rewritten}
 use Rattle.encoding.specs.Causes.{few-leaves-weight, refused-early, refused-late, answered, writable}
 use Rattle.encoding.specs.Writing.{rewritten-length}

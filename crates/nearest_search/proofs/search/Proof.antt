@@ -8,9 +8,9 @@ use Rattle.distance.specs.Distance.{nearest}
 use Rattle.refusal.specs.Reply.{unless}
 use Rattle.causes.specs.Admitted.{Admitted, unrefused}
 use Rattle.causes.specs.Lent.{Lent, wishedProblem, refusalOf}
-use Rattle.admission.specs.declared.Counts.{Counts}
-use Rattle.admission.specs.Admission.{countsOf, start}
-use Rattle.admission.specs.Laws.{refused-by, admitted-by, started}
+use Rattle.admission_steps.specs.declared.Counts.{Counts}
+use Rattle.admission_steps.specs.Admission.{countsOf, start}
+use Rattle.admission_steps.specs.Laws.{refused-by, admitted-by, started}
 use Rattle.walk.specs.Walk.{nearestWalk}
 use Rattle.searches.specs.Answers.{NearestMeans, refused-reply, refused-answer, given-answer, nearest-means}
 use Rattle.searches.specs.Meaning.{nearest-is}

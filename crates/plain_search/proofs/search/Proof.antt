@@ -9,8 +9,8 @@ use Rattle.formula.specs.Formula.{clauses}
 use Rattle.wish.specs.Wish.{freeByte}
 use Rattle.causes.specs.Lent.{refusalOf, Lent, plainProblem}
 use Rattle.causes.specs.Admitted.{Admitted, unrefused}
-use Rattle.admission.specs.Admission.{countsOf, start}
-use Rattle.admission.specs.Laws.{refused-by, admitted-by, started}
+use Rattle.admission_steps.specs.Admission.{countsOf, start}
+use Rattle.admission_steps.specs.Laws.{refused-by, admitted-by, started}
 use Rattle.walk.specs.Walk.{walk, plainWalk}
 use Rattle.searches.specs.Answers.{PlainMeans, searchedOf, refused-answer, given-answer, plain-means}
 use Rattle.searches.specs.Searches.{lentToPlain, brokenBy}

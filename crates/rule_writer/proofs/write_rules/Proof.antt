@@ -3,9 +3,9 @@ use mathlib.Core.Path.{_≡_, sym, ap, _∙_}
 use mathlib.Core.Option.{none}
 use Rattle.causes.specs.Admitted.{admitted}
 use Rattle.causes.specs.Lent.{Lent, plainProblem, unadmitted}
-use Rattle.admission.specs.declared.Counts.{Counts}
-use Rattle.admission.specs.Admission.{countsOf}
-use Rattle.admission.specs.Laws.{refused-by, admitted-by}
+use Rattle.admission_steps.specs.declared.Counts.{Counts}
+use Rattle.admission_steps.specs.Admission.{countsOf}
+use Rattle.admission_steps.specs.Laws.{refused-by, admitted-by}
 use Rattle.dimacs.specs.Sizes.{sound-length}
 use Rattle.rule_writer.specs.Laws.{refused, answered}
 use Rattle.rule_writer.specs.Write.{replyOf}

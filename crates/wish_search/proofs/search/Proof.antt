@@ -6,8 +6,8 @@ use lib.ListN.{length}
 use Rattle.formula.specs.Formula.{clauses}
 use Rattle.causes.specs.Admitted.{Admitted, unrefused}
 use Rattle.causes.specs.Lent.{Lent, wishedProblem, refusalOf}
-use Rattle.admission.specs.Admission.{countsOf, start}
-use Rattle.admission.specs.Laws.{refused-by, admitted-by, started}
+use Rattle.admission_steps.specs.Admission.{countsOf, start}
+use Rattle.admission_steps.specs.Laws.{refused-by, admitted-by, started}
 use Rattle.walk.specs.Walk.{walk}
 use Rattle.searches.specs.Answers.{SearchMeans, searchedOf, refused-answer, given-answer, search-means}
 use Rattle.searches.specs.Searches.{lentToSearch, brokenBy}

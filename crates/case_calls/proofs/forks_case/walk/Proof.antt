@@ -4,8 +4,8 @@ use lib.ListN.{length}
 use borrow.Author.Needs.{needs}
 use Rattle.causes.specs.Admitted.{unrefused}
 use Rattle.causes.specs.Lent.{Lent, wishedProblem, withRoom, refusalOf}
-use Rattle.admission.specs.Admission.{countsOf, start}
-use Rattle.admission.specs.Laws.{admitted-by, started}
+use Rattle.admission_steps.specs.Admission.{countsOf, start}
+use Rattle.admission_steps.specs.Laws.{admitted-by, started}
 use Rattle.root_walk.specs.Into.{startable}
 use Rattle.case_calls.proofs.forks_case.walk.Statement.{statement}
 use Rattle.case_calls.proofs.forks_case.walk.Tie as tie

@@ -1,17 +1,17 @@
--- `admission::steps::then_row` meets its contract: refused before, or by the row, or counted.
+-- `admission_steps::then_row` meets its contract: refused before, or by the row, or counted.
 use mathlib.Core.Path.{sym, ap, ap₂, _∙_}
 use mathlib.Core.Option.{Option}
 use Prim.Native.Nat.{ℕ}
 use Rattle.refusal.specs.Reply.{refusal, causeAt}
 use Rattle.causes.specs.Scans.{row-unsound, row-sound}
 use Rattle.causes.specs.Sound.{badWish}
-use Rattle.admission.specs.declared.Admission.the-variants.{Refused, Admitted}
-use Rattle.admission.specs.declared.Counts.{Counts}
-use Rattle.admission.specs.Admission.{answer, withWishes}
-use Rattle.admission.specs.Laws.{stays, goes-on}
+use Rattle.admission_steps.specs.declared.Admission.the-variants.{Refused, Admitted}
+use Rattle.admission_steps.specs.declared.Counts.{Counts}
+use Rattle.admission_steps.specs.Admission.{answer, withWishes}
+use Rattle.admission_steps.specs.Laws.{stays, goes-on}
 use borrow.Author.Needs.{needs}
-use Rattle.admission.proofs.steps.then_row.Statement.{statement}
-use Rattle.admission.proofs.steps.then_row.Tie as tie
+use Rattle.admission_steps.proofs.then_row.Statement.{statement}
+use Rattle.admission_steps.proofs.then_row.Tie as tie
 
 enum-known-a : tie.Need-enum-known-a
 enum-known-a c = search needs

@@ -1,13 +1,13 @@
--- `admission::steps::and_then` meets its contract: refused before, refused now, or admitted.
+-- `admission_steps::and_then` meets its contract: refused before, refused now, or admitted.
 use mathlib.Core.Path.{sym, ap}
 use Rattle.refusal.specs.declared.Verdict.{Verdict}
 use Rattle.refusal.specs.Reply.{refused}
-use Rattle.admission.specs.declared.Admission.the-variants.{Refused, Admitted}
-use Rattle.admission.specs.Admission.{answer}
-use Rattle.admission.specs.Laws.{stays, goes-on}
+use Rattle.admission_steps.specs.declared.Admission.the-variants.{Refused, Admitted}
+use Rattle.admission_steps.specs.Admission.{answer}
+use Rattle.admission_steps.specs.Laws.{stays, goes-on}
 use borrow.Author.Needs.{needs}
-use Rattle.admission.proofs.steps.and_then.Statement.{statement}
-use Rattle.admission.proofs.steps.and_then.Tie as tie
+use Rattle.admission_steps.proofs.and_then.Statement.{statement}
+use Rattle.admission_steps.proofs.and_then.Tie as tie
 
 enum-known-a : tie.Need-enum-known-a
 enum-known-a c = search needs

@@ -1,15 +1,15 @@
--- `admission::steps::then_size` meets its contract: refused before, or by the size.
+-- `admission_steps::then_size` meets its contract: refused before, or by the size.
 use mathlib.Core.Path.{ap, _∙_}
 use mathlib.Core.Option.{Option}
 use Rattle.refusal.specs.declared.Refusal.{Refusal}
 use Rattle.refusal.specs.Reply.{cause}
 use Rattle.causes.specs.Lent.{oversized}
-use Rattle.admission.specs.declared.Counts.{Counts}
-use Rattle.admission.specs.Admission.{answer}
-use Rattle.admission.specs.Laws.{stays, goes-on}
+use Rattle.admission_steps.specs.declared.Counts.{Counts}
+use Rattle.admission_steps.specs.Admission.{answer}
+use Rattle.admission_steps.specs.Laws.{stays, goes-on}
 use borrow.Author.Needs.{needs}
-use Rattle.admission.proofs.steps.then_size.Statement.{statement}
-use Rattle.admission.proofs.steps.then_size.Tie as tie
+use Rattle.admission_steps.proofs.then_size.Statement.{statement}
+use Rattle.admission_steps.proofs.then_size.Tie as tie
 
 enum-known-a : tie.Need-enum-known-a
 enum-known-a c = search needs

@@ -1,12 +1,12 @@
--- `admission::lent::admit_wishes` meets its contract: its steps come to the causes, in their order.
+-- `admission::admit_wishes` meets its contract: its steps come to the causes, in their order.
 use Rattle.refusal.specs.Reply.{cause, given}
 use Rattle.causes.specs.Lent.{withLimit, plainProblem, wishedProblem, rowCause, rowLengthCause, oversized}
-use Rattle.admission.specs.declared.Counts.{Counts}
-use Rattle.admission.specs.Admission.{withWishes}
-use Rattle.admission.specs.Laws.{then, then-cause, in-order, all-told}
+use Rattle.admission_steps.specs.declared.Counts.{Counts}
+use Rattle.admission_steps.specs.Admission.{withWishes}
+use Rattle.admission_steps.specs.Laws.{then, then-cause, in-order, all-told}
 use borrow.Author.Needs.{needs}
-use Rattle.admission.proofs.lent.admit_wishes.Statement.{statement}
-use Rattle.admission.proofs.lent.admit_wishes.Tie as tie
+use Rattle.admission.proofs.admit_wishes.Statement.{statement}
+use Rattle.admission.proofs.admit_wishes.Tie as tie
 
 admit-list-requires : tie.Need-admit-list-requires
 admit-list-requires c κs = search needs

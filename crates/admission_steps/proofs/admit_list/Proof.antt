@@ -1,4 +1,4 @@
--- `admission::steps::admit_list` meets its contract: refused for the range or for the list, or admitted.
+-- `admission_steps::admit_list` meets its contract: refused for the range or for the list, or admitted.
 use mathlib.Core.Path.{_≡_, sym, ap, _∙_}
 use mathlib.Core.List.{List}
 use mathlib.Core.Option.{none, some}
@@ -13,11 +13,11 @@ use Rattle.rule_list.specs.ScanLaws.{rules-unsound, rules-sound}
 use Rattle.rule_list.specs.Sound.{SoundList, unread, badRule}
 use Rattle.causes.specs.Laws.{in-range}
 use Rattle.causes.specs.Lent.{Lent, withLimit, plainProblem, outOfRange, rangeCause}
-use Rattle.admission.specs.declared.Admission.the-variants.{Refused, Admitted}
-use Rattle.admission.specs.Admission.{admission}
+use Rattle.admission_steps.specs.declared.Admission.the-variants.{Refused, Admitted}
+use Rattle.admission_steps.specs.Admission.{admission}
 use borrow.Author.Needs.{needs}
-use Rattle.admission.proofs.steps.admit_list.Statement.{statement}
-use Rattle.admission.proofs.steps.admit_list.Tie as tie
+use Rattle.admission_steps.proofs.admit_list.Statement.{statement}
+use Rattle.admission_steps.proofs.admit_list.Tie as tie
 
 -- what each check told, in the list of causes
 module _ (n d : ℕ) (rules : List ℤ) where

@@ -1,7 +1,7 @@
-// The steps of admitting. The first looks at the numbers and the rules. Each other is handed what came
-// before it: what is refused stays refused, and what is admitted may be refused for one more cause.
-use crate::Admission;
-use crate::Counts;
+// The steps of admitting a call: the first cause to refuse what it was lent, or how much that is, so that
+// nothing is scanned or counted twice. The first step looks at the numbers and the rules. Each other is
+// handed what came before it: what is refused stays refused, and what is admitted may be refused for one
+// more cause.
 use causes::RowScan;
 use refusal::Refusal;
 use refusal::Verdict;
@@ -10,8 +10,22 @@ ghost use mathlib.Core.Path.{_≡_};
 ghost use Rattle.refusal.specs.Reply.{refused, causeAt, cause, tooShort};
 ghost use Rattle.causes.specs.Lent.{withLimit, plainProblem, oversized};
 ghost use Rattle.causes.specs.Sound.{badWish};
-ghost use Rattle.admission.specs.declared.Counts.{Counts};
-ghost use Rattle.admission.specs.Admission.{answer, withWishes, admission, andThen};
+ghost use Rattle.admission_steps.specs.declared.Counts.{Counts};
+ghost use Rattle.admission_steps.specs.Admission.{answer, withWishes, admission, andThen};
+
+// How many clauses, literals and wishes were lent, and what the wishes weigh.
+pub struct Counts {
+    pub clauses: usize,
+    pub literals: usize,
+    pub wishes: usize,
+    pub weight: usize,
+}
+
+// Refused, or admitted with these counts.
+pub enum Admission {
+    Refused(Refusal),
+    Admitted(Counts),
+}
 
 // 14, then 13: n, the limit and the rules, which are counted.
 pub fn admit_list(n: usize, rules: &[i32], d: usize) -> Admission

@@ -8,10 +8,10 @@ use Rattle.refusal.specs.declared.Verdict.{Verdict}
 use Rattle.refusal.specs.Laws.{first-last}
 use Rattle.refusal.specs.Reply.{refused, first, given, tooShort}
 use Rattle.causes.specs.Lent.{Lent, withRoom, causes, unadmitted}
-use Rattle.admission.specs.declared.Counts.{Counts}
-use Rattle.admission.specs.declared.Admission.the-variants.{Refused, Admitted}
-use Rattle.admission.specs.declared.Admission.{Admission}
-use Rattle.admission.specs.Admission.{answer, countsOf, admission, start, andThen}
+use Rattle.admission_steps.specs.declared.Counts.{Counts}
+use Rattle.admission_steps.specs.declared.Admission.the-variants.{Refused, Admitted}
+use Rattle.admission_steps.specs.declared.Admission.{Admission}
+use Rattle.admission_steps.specs.Admission.{answer, countsOf, admission, start, andThen}
 
 pub refused-by : (o : Option Refusal) (counts : Counts) (r : Refusal) → answer o counts ≡ Refused r → o ≡ some r
 refused-by none counts r e = cc

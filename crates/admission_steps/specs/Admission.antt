@@ -7,9 +7,9 @@ use Rattle.formula.specs.Formula as formula
 use Rattle.wish.specs.Wish.{wishCount, totalWeight}
 use Rattle.refusal.specs.declared.Refusal.{Refusal}
 use Rattle.causes.specs.Lent.{Lent, unadmitted, refusalOf}
-use Rattle.admission.specs.declared.Counts.{Counts}
-use Rattle.admission.specs.declared.Admission as A
-use Rattle.admission.specs.declared.Admission.{Admission}
+use Rattle.admission_steps.specs.declared.Counts.{Counts}
+use Rattle.admission_steps.specs.declared.Admission as A
+use Rattle.admission_steps.specs.declared.Admission.{Admission}
 
 -- refused for a cause, or admitted with these counts
 abbrev pub answer : Option Refusal → Counts → Admission

@@ -1,11 +1,11 @@
--- `admission::steps::with_room` meets its contract.
+-- `admission_steps::with_room` meets its contract.
 use mathlib.Core.Path.{ap, _∙_}
 use mathlib.Core.Option.{Option}
 use Rattle.refusal.specs.declared.Refusal.{Refusal}
-use Rattle.admission.specs.Admission.{answer, andThen}
+use Rattle.admission_steps.specs.Admission.{answer, andThen}
 use borrow.Author.Needs.{needs}
-use Rattle.admission.proofs.steps.with_room.Statement.{statement}
-use Rattle.admission.proofs.steps.with_room.Tie as tie
+use Rattle.admission_steps.proofs.with_room.Statement.{statement}
+use Rattle.admission_steps.proofs.with_room.Tie as tie
 
 check-room-requires : tie.Need-check-room-requires
 check-room-requires c κs = search needs
