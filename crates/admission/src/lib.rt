@@ -1,5 +1,5 @@
-// Whether a call may start. A function for each set of values that calls are lent: its causes to refuse,
-// one after another in their order.
+// Whether a call may start. A function for each set of values that calls are lent: its causes to
+// refuse, one after another in their order.
 use admission_steps::Admission;
 ghost use mathlib.Core.Path.{_≡_};
 ghost use Rattle.causes.specs.Lent.{plainProblem, wishesAlone, wishedProblem, chosenProblem};
@@ -25,9 +25,9 @@ pub fn admit_wishes(n: usize, rules: &[i32], row: &[u8], d: usize) -> Admission
     ensures { λ r. ⌜ r ≡ admission (wishedProblem n (now (rules .entry)) (now (row .entry)) d) ⌝ }
 {
     let listed = admission_steps::admit_list(n, rules, d);
-    let sound = admission_steps::then_row(listed, row);
-    let long = admission_steps::and_then(sound, causes::check_length(n, row.len()));
-    admission_steps::then_size(long, n)
+    let wished = admission_steps::then_row(listed, row);
+    let fitting = admission_steps::and_then(wished, causes::check_length(n, row.len()));
+    admission_steps::then_size(fitting, n)
 }
 
 // n, the rules, the row and a given choice.
@@ -36,8 +36,8 @@ pub fn admit_choice(n: usize, rules: &[i32], row: &[u8], choice: &[u8]) -> Admis
 {
     let listed = admission_steps::admit_list(n, rules, 0);
     let wished = admission_steps::then_row(listed, row);
-    let sound = admission_steps::and_then(wished, causes::scan_choice(choice));
-    let row_long = admission_steps::and_then(sound, causes::check_length(n, row.len()));
-    let both_long = admission_steps::and_then(row_long, causes::check_length(n, choice.len()));
-    admission_steps::then_size(both_long, n)
+    let chosen = admission_steps::and_then(wished, causes::scan_choice(choice));
+    let row_fits = admission_steps::and_then(chosen, causes::check_length(n, row.len()));
+    let both_fit = admission_steps::and_then(row_fits, causes::check_length(n, choice.len()));
+    admission_steps::then_size(both_fit, n)
 }

@@ -44,6 +44,6 @@ andThen (A.the-variants.Refused r) step = A.the-variants.Refused r
 andThen (A.the-variants.Admitted counts) step = step counts
 
 -- the counts, once a row's wishes are counted
-abbrev pub withWishes : List ℕ → Counts → Counts
-withWishes row k =
+abbrev pub withWishCounts : List ℕ → Counts → Counts
+withWishCounts row k =
     record { clauses = k .clauses; literals = k .literals; wishes = wishCount row; weight = totalWeight row }

@@ -1,7 +1,7 @@
-// The steps of admitting a call: the first cause to refuse what it was lent, or how much that is, so that
-// nothing is scanned or counted twice. The first step looks at the numbers and the rules. Each other is
-// handed what came before it: what is refused stays refused, and what is admitted may be refused for one
-// more cause.
+// The steps of admitting a call: the first cause to refuse what it was lent, or how much that is, so
+// that nothing is scanned or counted twice. The first step looks at the numbers and the rules. Each
+// other is handed what came before it: what is refused stays refused, and what is admitted may be
+// refused for one more cause.
 use causes::RowScan;
 use refusal::Refusal;
 use refusal::Verdict;
@@ -11,7 +11,7 @@ ghost use Rattle.refusal.specs.Reply.{refused, causeAt, cause, tooShort};
 ghost use Rattle.causes.specs.Lent.{withLimit, plainProblem, oversized};
 ghost use Rattle.causes.specs.Sound.{badWish};
 ghost use Rattle.admission_steps.specs.declared.Counts.{Counts};
-ghost use Rattle.admission_steps.specs.Admission.{answer, withWishes, admission, andThen};
+ghost use Rattle.admission_steps.specs.Admission.{answer, withWishCounts, admission, andThen};
 
 // How many clauses, literals and wishes were lent, and what the wishes weigh.
 pub struct Counts {
@@ -60,7 +60,7 @@ pub fn and_then(a: Admission, verdict: Verdict) -> Admission
 
 // 13: the wish row, whose wishes are counted.
 pub fn then_row(a: Admission, row: &[u8]) -> Admission
-    ensures { λ r. ⌜ r ≡ andThen a (λ (k : Counts). answer (causeAt 13 (badWish 0 0 (now (row .entry)))) (withWishes (now (row .entry)) k)) ⌝ }
+    ensures { λ r. ⌜ r ≡ andThen a (λ (k : Counts). answer (causeAt 13 (badWish 0 0 (now (row .entry)))) (withWishCounts (now (row .entry)) k)) ⌝ }
 {
     match a {
         Admission::Refused(r) => Admission::Refused(r),

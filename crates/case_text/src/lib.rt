@@ -178,7 +178,8 @@ fn digit_of(byte: u8) -> usize
     (byte - b'0') as usize
 }
 
-// A number of 32 bits; 0 is one, and no variable is meant. The least has no magnitude among the numbers of 32 bits.
+// A number of 32 bits; 0 is one, and no variable is meant. The least has no magnitude among the numbers
+// of 32 bits.
 fn with_sign(line: &[u8], magnitude: Number, positive: bool) -> Signed {
     let next = magnitude.next;
     let value = magnitude.value;

@@ -10,7 +10,7 @@ use lib.Dec.{eqb, ltb, leb}
 use lib.ListN.{length, getD, drop, drop-of-length-le}
 use lib.Seq.{drop-cons}
 use borrow.Author.Tests.{lt-ltb, le-ltb, le-leb, lt-leb, eqb-false, ltb-false, leb-true}
-use Rattle.wish.specs.Wish.{isRowByte, isWish, weight, wishCount, totalWeight}
+use Rattle.wish.specs.Wish.{isRowByte, weight, totalWeight}
 use Rattle.refusal.specs.Laws.{neither}
 use Rattle.limits.specs.Limits.{maxVariables, maxWishes, maxLimit}
 use Rattle.causes.specs.Lent.{outOfRange}
@@ -41,16 +41,6 @@ wish-many row m i more h b e k = rw (drop-cons row i 0 h, b, ← e, lt-leb more 
 
 pub wish-end : (row : List ℕ) (m i : ℕ) → length row ≤ i → badWish m i (drop i row) ≡ none
 wish-end row m i h = rw (drop-of-length-le row h)
-
--- how many wishes are left of a row: one and the rest, or the rest; none past its end
-pub count-wish : (row : List ℕ) (i : ℕ) → i < length row → isWish (getD row i 0) ≡ true → wishCount (drop i row) ≡ suc (wishCount (drop (i + 1) row))
-count-wish row i h e = rw (drop-cons row i 0 h, e, add-one i)
-
-pub count-free : (row : List ℕ) (i : ℕ) → i < length row → isWish (getD row i 0) ≡ false → wishCount (drop i row) ≡ wishCount (drop (i + 1) row)
-count-free row i h e = rw (drop-cons row i 0 h, e, add-one i)
-
-pub count-end : (row : List ℕ) (i : ℕ) → length row ≤ i → wishCount (drop i row) ≡ 0
-count-end row i h = rw (drop-of-length-le row h)
 
 -- the wishes of a sound row weigh at most 64
 pub weight-from : (m i : ℕ) (row : List ℕ) → m ≤ maxWishes → badWish m i row ≡ none → m + totalWeight row ≤ maxWishes

@@ -1,4 +1,4 @@
--- What the program `nearest` prints: the lines of a nearest choice, or the line of a refusal.
+-- What the program `nearest` prints: the lines of a nearest choice or that there is none, or the line of a refusal.
 use mathlib.Core.List.{List}
 use mathlib.Core.Option.{Option}
 use Prim.Native.Nat.{ℕ}

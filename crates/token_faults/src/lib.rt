@@ -1,4 +1,5 @@
-// The causes to refuse a number of a rule file's list.
+// The causes to refuse a number of a rule file's list, but for 3 and 5, which need its token and the
+// other literals of its clause.
 use limits::MAX_LITERALS;
 ghost use mathlib.Core.Path.{_≡_};
 ghost use Rattle.token_faults.specs.Fault.{faultOf};

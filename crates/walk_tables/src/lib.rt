@@ -12,7 +12,7 @@ pub fn no_weights() -> [u64; 1282]
     [0; 1282]
 }
 
-// Its marks: one of each variable.
+// The marks that weighing works with: one for each variable.
 pub fn no_marks() -> [u64; 641]
     ensures { λ r. ⌜ length r ≡ 641 ⌝ }
 {

@@ -28,6 +28,16 @@ count-weight (w ∷ row) = go (isWish w) refl (count-weight row)
     go true e h = omega (arith, weight-wish w e)
     go false e h = omega arith
 
+-- how many wishes are left of a row: one and the rest, or the rest; none past its end
+pub count-wish : (row : List ℕ) (i : ℕ) → i < length row → isWish (getD row i 0) ≡ true → wishCount (drop i row) ≡ suc (wishCount (drop (i + 1) row))
+count-wish row i h e = rw (drop-cons row i 0 h, e, add-one i)
+
+pub count-free : (row : List ℕ) (i : ℕ) → i < length row → isWish (getD row i 0) ≡ false → wishCount (drop i row) ≡ wishCount (drop (i + 1) row)
+count-free row i h e = rw (drop-cons row i 0 h, e, add-one i)
+
+pub count-end : (row : List ℕ) (i : ℕ) → length row ≤ i → wishCount (drop i row) ≡ 0
+count-end row i h = rw (drop-of-length-le row h)
+
 -- what is left of a row weighs: its first byte and the rest; and nothing past its end
 pub weight-step : (row : List ℕ) (i : ℕ) → i < length row → totalWeight (drop i row) ≡ weight (getD row i 0) + totalWeight (drop (i + 1) row)
 weight-step row i h = rw (drop-cons row i 0 h, add-one i)

@@ -2,7 +2,7 @@
 use Rattle.refusal.specs.Reply.{cause, given}
 use Rattle.causes.specs.Lent.{withLimit, plainProblem, chosenProblem, rowCause, choiceCause, rowLengthCause, choiceLengthCause, oversized}
 use Rattle.admission_steps.specs.declared.Counts.{Counts}
-use Rattle.admission_steps.specs.Admission.{withWishes}
+use Rattle.admission_steps.specs.Admission.{withWishCounts}
 use Rattle.admission_steps.specs.Laws.{then, then-cause, in-order, all-told}
 use borrow.Author.Needs.{needs}
 use Rattle.admission.proofs.admit_choice.Statement.{statement}
@@ -40,7 +40,7 @@ returns c =
     let args = c .before .before .before .before .before .before .before .before .before .before .before .args in
     let s = chosenProblem (args .n) (args .rules .now) (args .row .now) (args .choice .now) in
     let listed = in-order (c .before .before .before .before .before .before .before .before .admit-list .result) (withLimit 0 (plainProblem (args .n) (args .rules .now))) (c .before .before .before .before .before .before .before .before .admit-list .ensures) in
-    let counted = then listed (λ (k : Counts). given (rowCause s)) (withWishes (args .row .now)) (c .before .before .before .before .before .before .before .then-row .ensures) in
+    let counted = then listed (λ (k : Counts). given (rowCause s)) (withWishCounts (args .row .now)) (c .before .before .before .before .before .before .before .then-row .ensures) in
     let sound = then-cause counted (c .before .before .before .before .before .before .scan-choice .result) (given (choiceCause s)) (c .before .before .before .before .before .before .scan-choice .ensures) (c .before .before .before .before .before .and-then .ensures) in
     let long = then-cause sound (c .before .before .before .before .check-length .result) (given (rowLengthCause s)) (c .before .before .before .before .check-length .ensures) (c .before .before .before .and-then2 .ensures) in
     let both = then-cause long (c .before .before .check-length2 .result) (given (choiceLengthCause s)) (c .before .before .check-length2 .ensures) (c .before .and-then3 .ensures) in

@@ -2,7 +2,7 @@
 use Rattle.refusal.specs.Reply.{cause, given}
 use Rattle.causes.specs.Lent.{withLimit, plainProblem, wishedProblem, rowCause, rowLengthCause, oversized}
 use Rattle.admission_steps.specs.declared.Counts.{Counts}
-use Rattle.admission_steps.specs.Admission.{withWishes}
+use Rattle.admission_steps.specs.Admission.{withWishCounts}
 use Rattle.admission_steps.specs.Laws.{then, then-cause, in-order, all-told}
 use borrow.Author.Needs.{needs}
 use Rattle.admission.proofs.admit_wishes.Statement.{statement}
@@ -28,7 +28,7 @@ returns c =
     let args = c .before .before .before .before .before .before .args in
     let s = wishedProblem (args .n) (args .rules .now) (args .row .now) (args .d) in
     let listed = in-order (c .before .before .before .before .admit-list .result) (withLimit (args .d) (plainProblem (args .n) (args .rules .now))) (c .before .before .before .before .admit-list .ensures) in
-    let counted = then listed (λ (k : Counts). given (rowCause s)) (withWishes (args .row .now)) (c .before .before .before .then-row .ensures) in
+    let counted = then listed (λ (k : Counts). given (rowCause s)) (withWishCounts (args .row .now)) (c .before .before .before .then-row .ensures) in
     let long = then-cause counted (c .before .before .check-length .result) (given (rowLengthCause s)) (c .before .before .check-length .ensures) (c .before .and-then .ensures) in
     all-told s (then long (λ (k : Counts). cause (oversized (args .n) (k .clauses) (k .literals)) 12 0) (λ (k : Counts). k) (c .then-size .ensures))
 

@@ -7,7 +7,7 @@ use Rattle.causes.specs.Scans.{row-unsound, row-sound}
 use Rattle.causes.specs.Sound.{badWish}
 use Rattle.admission_steps.specs.declared.Admission.the-variants.{Refused, Admitted}
 use Rattle.admission_steps.specs.declared.Counts.{Counts}
-use Rattle.admission_steps.specs.Admission.{answer, withWishes}
+use Rattle.admission_steps.specs.Admission.{answer, withWishCounts}
 use Rattle.admission_steps.specs.Laws.{stays, goes-on}
 use borrow.Author.Needs.{needs}
 use Rattle.admission_steps.proofs.then_row.Statement.{statement}
@@ -31,7 +31,7 @@ enum-known-wishes c = search needs
 returns : tie.Need-returns
 returns c =
     let args = c .before .before .before .before .args in
-    stays (args .a) (λ (k : Counts). answer (causeAt 13 (badWish 0 0 (args .row .now))) (withWishes (args .row .now) k)) (c .before .a .given .0 .0) (c .before .a .given .1)
+    stays (args .a) (λ (k : Counts). answer (causeAt 13 (badWish 0 0 (args .row .now))) (withWishCounts (args .row .now) k)) (c .before .a .given .0 .0) (c .before .a .given .1)
 
 returns-2 : tie.Need-returns-2
 returns-2 c =
@@ -39,8 +39,8 @@ returns-2 c =
     let held = c .before .before .before .before .before .a2 .given in
     let place = c .before .place .given .0 .0 in
     let bad = row-unsound (badWish 0 0 (args .row .now)) (args .row .now) place (sym (c .before .before .before .scan-row .ensures) ∙ c .before .place .given .1) in
-    goes-on (args .a) (λ (k : Counts). answer (causeAt 13 (badWish 0 0 (args .row .now))) (withWishes (args .row .now) k)) (held .0 .0) (held .1) (Refused (refusal 13 place))
-    (sym (ap (λ (o : Option ℕ). answer (causeAt 13 o) (withWishes (args .row .now) (held .0 .0))) bad))
+    goes-on (args .a) (λ (k : Counts). answer (causeAt 13 (badWish 0 0 (args .row .now))) (withWishCounts (args .row .now) k)) (held .0 .0) (held .1) (Refused (refusal 13 place))
+    (sym (ap (λ (o : Option ℕ). answer (causeAt 13 o) (withWishCounts (args .row .now) (held .0 .0))) bad))
 
 returns-3 : tie.Need-returns-3
 returns-3 c =
@@ -49,9 +49,9 @@ returns-3 c =
     let k = held .0 .0 in
     let scanned = c .before .wishes .given in
     let good = row-sound (badWish 0 0 (args .row .now)) (args .row .now) (scanned .0 .0) (scanned .0 .1 .0) (sym (c .before .before .before .scan-row .ensures) ∙ scanned .1) in
-    goes-on (args .a) (λ (k : Counts). answer (causeAt 13 (badWish 0 0 (args .row .now))) (withWishes (args .row .now) k)) k (held .1) (Admitted (record { clauses = k .clauses; literals = k .literals; wishes = scanned .0 .0; weight = scanned .0 .1 .0 }))
+    goes-on (args .a) (λ (k : Counts). answer (causeAt 13 (badWish 0 0 (args .row .now))) (withWishCounts (args .row .now) k)) k (held .1) (Admitted (record { clauses = k .clauses; literals = k .literals; wishes = scanned .0 .0; weight = scanned .0 .1 .0 }))
     (ap₂ (λ (i j : ℕ). Admitted (record { clauses = k .clauses; literals = k .literals; wishes = i; weight = j })) (good .1) (good .2)
-    ∙ sym (ap (λ (o : Option ℕ). answer (causeAt 13 o) (withWishes (args .row .now) k)) (good .0)))
+    ∙ sym (ap (λ (o : Option ℕ). answer (causeAt 13 o) (withWishCounts (args .row .now) k)) (good .0)))
 
 pub then-row-spec : {M : Type 1} → statement M
 then-row-spec =

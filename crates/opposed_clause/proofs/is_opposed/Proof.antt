@@ -1,4 +1,4 @@
--- `opposed::is_opposed` meets its contract. The loop's invariant: the literals passed oppose.
+-- `opposed_clause::is_opposed` meets its contract. The loop's invariant: the literals passed oppose.
 use mathlib.Core.Path.{_≡_, sym, ap, _∙_}
 use mathlib.Core.List.{List}
 use Prim.Native.Nat.{ℕ, _-_, _≤_}

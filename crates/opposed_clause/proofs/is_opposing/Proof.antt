@@ -1,4 +1,4 @@
--- `opposed::is_opposing` meets its contract, by what its three callees ensure.
+-- `opposed_clause::is_opposing` meets its contract, by what its three callees ensure.
 use mathlib.Core.Path.{_≡_, sym, ap, _∙_}
 use mathlib.Core.List.{List}
 use Prim.Native.Nat.{ℕ}

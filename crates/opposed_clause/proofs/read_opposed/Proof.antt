@@ -1,4 +1,4 @@
--- `opposed::read_opposed` meets its contract. The loop's invariant is `Passing`: all of the literals read oppose.
+-- `opposed_clause::read_opposed` meets its contract. The loop's invariant is `Passing`: all of the literals read oppose.
 use mathlib.Core.Path.{_≡_, sym, ap, _∙_}
 use mathlib.Core.Bool.{true, false, not}
 use Prim.Native.Nat.{_-_}

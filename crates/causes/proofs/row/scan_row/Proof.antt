@@ -10,12 +10,12 @@ use borrow.Author.Needs.{needs}
 use borrow.Author.Tests.{not-true, not-false}
 use Rattle.wish.specs.Wish as W
 use Rattle.wish.specs.Laws.{weight-most}
-use Rattle.wish.specs.RowLaws.{count-most, weight-step, weight-end}
+use Rattle.wish.specs.RowLaws.{count-most, count-wish, count-free, count-end, weight-step, weight-end}
 use Rattle.causes.specs.declared.row.RowScan.the-variants.{Sound}
 use Rattle.limits.specs.Limits.{maxWishes}
 use Rattle.causes.specs.Scans.{rowScan}
 use Rattle.causes.specs.Sound.{badWish}
-use Rattle.causes.specs.Laws.{wish-good, wish-bad, wish-many, wish-end, count-wish, count-free, count-end}
+use Rattle.causes.specs.Laws.{wish-good, wish-bad, wish-many, wish-end}
 use Rattle.causes.proofs.row.scan_row.Statement.{statement}
 use Rattle.causes.proofs.row.scan_row.Tie as tie
 
