@@ -5,7 +5,8 @@ import books
 import kinds
 from draw import Draw
 
-# Every limit, 0 to 64; and the first few, for books that cost the second route too much at the others.
+# Every limit, 0 to 64; and the first few, for books that cost the second route too much at the others. A limit above
+# the number of wishes asks for nothing, so most books have but one of these.
 EVERY, FEW = 65, 4
 
 
@@ -43,7 +44,8 @@ class Shelf:
         count = (0, some, 1, most, min(3, n), some, most)[turn % 7]
         marks = ((0, 1), (1,), (0, 1), (0,), (1,))[turn % 5]
         limit = (0, count // 2, count, count // 3, count + 1, draw.between(0, 64), 64, 1)[turn % 8]
-        self.add(problem, self.wishes(n, count, marks), limit)
+        limits = EVERY if turn % 8 == 0 else count + 2
+        self.add(problem, self.wishes(n, count, marks), limit, limits)
 
 
 def document():
