@@ -67,6 +67,7 @@ from-first none (some r ∷ causes) = from-first (some r) causes
 from-first (some q) (none ∷ causes) = from-first (some q) causes
 from-first (some q) (some r ∷ causes) = from-first (some q) causes
 
+-- the first cause of all, written so that those which cannot apply compute away; it is `first` (`turn-first`)
 abbrev pub inTurn : List (Option Refusal) → Option Refusal
 inTurn [] = none
 inTurn (o ∷ causes) = from o causes

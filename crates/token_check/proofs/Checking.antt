@@ -21,7 +21,7 @@ use Rattle.rule_tokens.specs.Laws.{Good, token-end, token-bad, token-good}
 use Rattle.rule_tokens.specs.NextToken.{nextOf}
 use borrow.Author.Tests.{eqb-true, eqb-false}
 use Rattle.token_faults.specs.Fault.{faultOf}
-use Rattle.token_faults.specs.Laws.{open-clause, room-left}
+use Rattle.token_faults.specs.Laws.{open-clause, literal-fits}
 use Rattle.token_check.specs.declared.Check as C
 use Rattle.token_check.specs.Check.{checkAs}
 use Rattle.token_check.specs.Laws.{refused-malformed, refused-fault, accepted-zero, refused-twice, accepted-literal}
@@ -111,7 +111,7 @@ module _ {n c : ℕ} {file : List ℕ} {from : ℕ} {stamps : List ℕ} {k m : �
       -- a literal, of the variable v
       module _ (z : closes x ≡ false) {v : ℕ} (same : v ≡ variable x) where
         pub below : v ≤ n
-        below = omega (arith, same, room-left n c k m x fine z .1)
+        below = omega (arith, same, literal-fits n c k m x fine z .1)
 
         pub twice : eqb (getD stamps v 0) (k + 1) ≡ true → C.the-variants.Refused (refusal 5 place) ≡ answer n c file from
         twice t =
@@ -126,7 +126,7 @@ module _ {n c : ℕ} {file : List ℕ} {from : ℕ} {stamps : List ℕ} {k m : �
             record {
               clause = x ∷ s .clause;
               few = s .few;
-              many = omega (arith, room-left n c k m x fine z);
+              many = omega (arith, literal-fits n c k m x fine z);
               so-far = s .so-far ∙ here ∙ accepted-literal n c (length file) k m (s .clause) place (g .bytes) (tokensFrom file next) x (g .number) fine z free;
               tokens-passed = omega (arith, counting);
               opened = refl;

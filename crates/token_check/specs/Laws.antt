@@ -19,7 +19,7 @@ use Rattle.rule_list.specs.Sound.{Scan, mayJoin, after}
 use Rattle.dimacs.specs.Format.{signed, badToken, badTokens}
 use Rattle.dimacs.specs.Tokens.{Token}
 use Rattle.token_faults.specs.Fault.{faultOf}
-use Rattle.token_faults.specs.Laws.{open-clause, room-left}
+use Rattle.token_faults.specs.Laws.{open-clause, literal-fits}
 
 -- the first cause of a number of the list, by its tests: every clause is closed, it closes one, no literal may come, it is above n, it may join
 abbrev tests : ℕ → Bool → Bool → Bool → Bool → Bool → Option Refusal
@@ -70,10 +70,10 @@ module _ (n c size k m : ℕ) (clause : List ℤ) (place : ℕ) (bytes : List �
 
       module _ (z : closes x ≡ false) where
         few : leb maxLiterals m ≡ false
-        few = lt-leb maxLiterals m (room-left n c k m x fine z .0)
+        few = lt-leb maxLiterals m (literal-fits n c k m x fine z .0)
 
         below : ltb n (variable x) ≡ false
-        below = le-ltb n (variable x) (room-left n c k m x fine z .1)
+        below = le-ltb n (variable x) (literal-fits n c k m x fine z .1)
 
         joins : (b : Bool) → mayJoin clause x ≡ b
             → tests place (leb c k) (closes x) (leb maxLiterals m) (ltb n (variable x)) (mayJoin clause x) ≡ tests place false false false false b

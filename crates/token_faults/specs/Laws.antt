@@ -17,8 +17,8 @@ open-clause n c k m x e = go (leb c k) refl e
     go true f g = absurd (omega arith)
     go false f g = leb-false c k f
 
-pub room-left : (n c k m : ℕ) (x : ℤ) → faultOf n c k m x ≡ 0 → closes x ≡ false → (m < maxLiterals) × (variable x ≤ n)
-room-left n c k m x e z = go (leb c k) (leb maxLiterals m) refl (ltb n (variable x)) refl (rw (z) at e)
+pub literal-fits : (n c k m : ℕ) (x : ℤ) → faultOf n c k m x ≡ 0 → closes x ≡ false → (m < maxLiterals) × (variable x ≤ n)
+literal-fits n c k m x e z = go (leb c k) (leb maxLiterals m) refl (ltb n (variable x)) refl (rw (z) at e)
   where
     go : (t u : Bool) → leb maxLiterals m ≡ u → (o : Bool) → ltb n (variable x) ≡ o → _≡_ {A = ℕ} (cond t 6 (cond u 7 (cond o 4 0))) 0 → (m < maxLiterals) × (variable x ≤ n)
     go true u f o h g = absurd (omega arith)

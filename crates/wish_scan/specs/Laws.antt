@@ -58,9 +58,9 @@ module _ (file : List ℕ) (n m last at x y : ℕ) (h : 0 < m) (is-line : isLine
   pub wish-misfit : misfit n last (record { variable = x; mark = y }) ≡ true → badLines n m last at (drop at file) ≡ some (refusal 10 at)
   wish-misfit e = lines-misfit n m last at (drop at file) h is-line (sym same-wish ∙ e)
 
-  pub wish-good : misfit n last (record { variable = x; mark = y }) ≡ false
+  pub wish-fits : misfit n last (record { variable = x; mark = y }) ≡ false
       → badLines n m last at (drop at file) ≡ badLines n (m - 1) x (at + lineSize wishColumns) (drop (at + lineSize wishColumns) file)
-  wish-good e =
+  wish-fits e =
       lines-good n m last at (drop at file) h is-line (sym same-wish ∙ e)
       ∙ ap₂ (λ (v : ℕ) (s : List ℕ). badLines n (m - 1) v (at + lineSize wishColumns) s) (sym first-field) (drop-drop (lineSize wishColumns) at file)
 

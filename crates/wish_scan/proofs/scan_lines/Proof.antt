@@ -9,7 +9,7 @@ use lib.ListN.{length, drop}
 use borrow.Author.Tests.{not-true, not-false}
 use borrow.Author.Needs.{needs}
 use Rattle.wish_file.specs.Format.{badLines}
-use Rattle.wish_scan.specs.Laws.{lines-malformed, wish-misfit, wish-good, lines-end, lines-extra}
+use Rattle.wish_scan.specs.Laws.{lines-malformed, wish-misfit, wish-fits, lines-end, lines-extra}
 use Rattle.wish_scan.proofs.scan_lines.Statement.{statement}
 use Rattle.wish_scan.proofs.scan_lines.Tie as tie
 
@@ -81,7 +81,7 @@ loop-again c =
     let loop = c .before .before .before .before .before .before .before .loop in (
       omega (arith, long (c .before .before .before .before)),
       loop .inv .1
-          ∙ wish-good file (c .before .before .before .before .before .before .before .before .before .args .n) (loop .left) (loop .last) (loop .at) (c .before .before .before .field-at .result) (c .before .before .field-at2 .result) (c .before .before .before .before .before .before .loop-test .taken) (a-line (c .before .before .before .before)) (c .before .before .before .field-at .ensures) (c .before .before .field-at2 .ensures)
+          ∙ wish-fits file (c .before .before .before .before .before .before .before .before .before .args .n) (loop .left) (loop .last) (loop .at) (c .before .before .before .field-at .result) (c .before .before .field-at2 .result) (c .before .before .before .before .before .before .loop-test .taken) (a-line (c .before .before .before .before)) (c .before .before .before .field-at .ensures) (c .before .before .field-at2 .ensures)
           (sym (c .before .is-misfit .ensures) ∙ c .if2 .left),
     )
 
