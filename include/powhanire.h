@@ -78,12 +78,15 @@ typedef struct {
     uint64_t value[3];  /* as said at each call; 0 where unused, on a refusal and on "none" */
 } powhanire_answer;
 
-/* Reads a rule file (narrowed DIMACS CNF) into a rule list.
+/* Reads a rule file (narrowed DIMACS CNF) into a rule list: the header `p cnf N C` and a line feed, then C rules
+ * of signed numbers, each closed by 0, with blanks (9, 10, 13, 32) between the numbers. A line whose first byte is
+ * `c` is a comment and is skipped up to its line feed or the end of the file, before the header and anywhere after
+ * it, inside a rule too. A `c` elsewhere makes a malformed token (3). Only a line feed begins a new line.
  * value: settings N, rules C, length of the list. */
 powhanire_answer powhanire_read_rules(const uint8_t *file, size_t file_len,
                                       int32_t *rules, size_t rules_len);
 
-/* Writes the rule file of a list; reading it gives the list again.
+/* Writes the rule file of a list, without comments; reading it gives the list again.
  * value: length of the file. */
 powhanire_answer powhanire_write_rules(uint64_t n, const int32_t *rules, size_t rules_len,
                                        uint8_t *file, size_t file_len);

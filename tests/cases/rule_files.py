@@ -61,6 +61,50 @@ def comments():
     read_rules('many comments', b'c\n' * 30000 + b'p cnf 0 0\n')
 
 
+def comments_after_header():
+    """Document 02, L1: "A line beginning with `c` is now skipped anywhere after the header too. .. A `c` inside a
+    line still makes a malformed token." """
+    for text in (
+        'c\n1 -2 0\n3 0\n;c a heading\n1 -2 0\n3 0\n;1 -2 0\nc a heading\n3 0\n;1 -2 0\nc\nc\n\nc\n3 0\n;'
+        '1\nc\n-2 0\n3 0\n;1 -2\nc 0\n0 3 0\n;1\nc -2 0\n-2\nc 3\n0\n3\nc 0\n0;1 -2 0\n3 0\nc\n;'
+        '1 -2 0\n3 0\nc;1 -2 0\n3 0\nc the end;1 -2 0\n3 0\nc the end\r;1 -2 0\n3 0\n\nc\n\n;'
+        'cat 1 2 0\n1 -2 0\n3 0\n;1 -2 0\ncat 1 2 0\n3 0\n;cc\n1 -2 0\n3 0\n;c1\n1 -2 0\n3 0\n;'
+        'c p cnf 3 1\n1 -2 0\n3 0\n;1 -2 0\nc p cnf 3 1\n3 0\n;cp cnf 3 1\n1 -2 0\n3 0\n;'
+        'c\r\n1 -2 0\r\n3 0\r\n;1 -2 0\r\nc a heading\r\n3 0\r\n;1 -2 0\r\n3 0\r\nc\r\n;'
+        '1 -2 0\n3 0\nc\x00\xff\t\x0b\n;c\r1 -2 0\n3 0\n;1 -2 0\nc\r3 0\n;1 -2 0\nc\r\r\n3 0\n;'
+        ' c\n1 -2 0\n3 0\n;\tc\n1 -2 0\n3 0\n;\rc\n1 -2 0\n3 0\n;1 c\n-2 0\n3 0\n;1 -2 0 c x\n3 0\n;'
+        '1 -2 0\rc x\n3 0\n;1 -2 0\n\rc x\n3 0\n;1 -2 0\n c x\n3 0\n;1 -2 0\n3 0 c;1 -2 0\n3 0c;1 -2 0\n3 c0;'
+        '1 -2 0\n3 0\rc;C\n1 -2 0\n3 0\n;C a heading\n1 -2 0\n3 0\n;x\n1 -2 0\n3 0\n;p cnf 3 2\n1 -2 0\n3 0\n;'
+        'c\n;c;c\nc\nc x;c x\n1 -2 0\n;1 -2 0\n3\nc 0;1 -2 0\n3\nc 0\n;c x\n01 0\n3 0\n;c x\n1 -4 0\n3 0\n;'
+        'c x\n1 1 0\n3 0\n;1\nc x\n1 0\n3 0\n;1 -2 0\n3 0\nc x\n1;1 -2 0\n3 0\nc x\n0;1 -2 0\n3 0\nc x\nd'
+    ).split(';'):
+        read(header(3, 2) + text.encode('latin-1'))
+    for text in ('', 'c', 'c\n', 'c x\nc\n', 'c\n0', 'c\n c', '\nc', '\n\nc\n', ' \nc'):
+        read(header(3, 0) + text.encode('ascii'))
+    for byte in range(256):
+        read(header(3, 1) + bytes([byte]) + b' x\n1 0\n')
+        read(header(3, 1) + b'1 0' + bytes([byte]) + b'c\n')
+        read(header(3, 1) + b'c' + bytes([byte]) + b'1 0\n1 0\n')
+    file = b'c a\np cnf 3 2\nc b\n1\nc c\n-2 0\ncc\n3 0\nc d\n'
+    for size in range(len(file) + 1):
+        read(file[:size])
+    for room in (4, 5, 6):
+        read_rules('comments, room for %d' % room, file, room)
+    long, many = b'c' * 70000 + b'\n', b'c 1 0\n' * 10000
+    for text, gap in (('a long comment', long), ('many comments', many)):
+        read_rules(text + ' after the header', header(3, 1) + gap + b'1 0\n')
+        read_rules(text + ' in an open rule', header(3, 1) + b'1\n' + gap + b'-2 0\n')
+        read_rules(text + ' before a bad token', header(3, 1) + b'1\n' + gap + b'x')
+        read_rules(text + ' at the end', header(3, 1) + b'1 0\n' + gap[:-1])
+        read_rules(text + ' at the end of an open rule', header(3, 1) + b'1\n' + gap)
+    for text, count, body in (
+        ('31000 entries', 7750, b''),
+        ('entry 31001', 7751, b'1 0\n'),
+        ('entry 31001 in a comment', 7750, b'c 1 0\n'),
+    ):
+        read_rules(text + ', with comments', header(8, count) + (FOUR + b'c\n') * 7750 + body)
+
+
 def tokens():
     for text in (
         '- -- --1 +1 + 00 -00 -01 01 001 -0 1- 1-2 -1- 12345 -12345 99999 -99999 10000 123456 -123456 '
@@ -241,6 +285,7 @@ def add(draw):
     documented()
     headers()
     comments()
+    comments_after_header()
     tokens()
     blanks()
     causes()

@@ -60,17 +60,25 @@ all-digits p f (b ∷ w) h =
     let parts = and-eq-true-iff (isDigit b) (onlyDigits w) .0 h in
     rw (f b (parts .0)) (all-digits p f w (parts .1))
 
--- digits before a byte that is none
-pub before-digits : (w : List ℕ) (stop : ℕ) (r : List ℕ) → stop < 48 → onlyDigits w ≡ true → before stop (w ++ stop ∷ r) ≡ w
-before-digits w stop r h e =
-    leading-seam (λ (b : ℕ). not (eqb b stop)) w stop r
-    (all-digits (λ (b : ℕ). not (eqb b stop)) (λ b f. rw (ne-eqb b stop (omega (arith, digit-low b f)))) w e)
-    (rw (eq-eqb stop stop refl))
+-- and it stands in front of the run behind it
+pub leading-through : (p : ℕ → Bool) (w s : List ℕ) → all p w ≡ true → leading p (w ++ s) ≡ w ++ leading p s
+leading-through p [] s h = refl
+leading-through p (x ∷ w) s h =
+    let parts = and-eq-true-iff (p x) (all p w) .0 h in
+    rw (parts .0) (ap (λ (l : List ℕ). x ∷ l) (leading-through p w s (parts .1)))
 
-pub beyond-digits : (w : List ℕ) (stop : ℕ) (r : List ℕ) → stop < 48 → onlyDigits w ≡ true → beyond stop (w ++ stop ∷ r) ≡ r
-beyond-digits w stop r h e =
+-- bytes before the first that is stop, and those behind it
+pub before-stop : (w : List ℕ) (stop : ℕ) (r : List ℕ) → all (λ (b : ℕ). not (eqb b stop)) w ≡ true → before stop (w ++ stop ∷ r) ≡ w
+before-stop w stop r h = leading-seam (λ (b : ℕ). not (eqb b stop)) w stop r h (rw (eq-eqb stop stop refl))
+
+pub beyond-stop : (w : List ℕ) (stop : ℕ) (r : List ℕ) → all (λ (b : ℕ). not (eqb b stop)) w ≡ true → beyond stop (w ++ stop ∷ r) ≡ r
+beyond-stop w stop r h =
     let next : suc (length w) ≡ length w + 1 = omega arith in
-    rw (before-digits w stop r h e, next) (drop-append-add w (stop ∷ r) 1)
+    rw (before-stop w stop r h, next) (drop-append-add w (stop ∷ r) 1)
+
+-- digits have none below them
+pub digits-before : (w : List ℕ) (stop : ℕ) → stop < 48 → onlyDigits w ≡ true → all (λ (b : ℕ). not (eqb b stop)) w ≡ true
+digits-before w stop h e = all-digits (λ (b : ℕ). not (eqb b stop)) (λ b f. rw (ne-eqb b stop (omega (arith, digit-low b f)))) w e
 
 -- how far a run goes from an index on: a byte that passes, one that does not, the end
 pub run-more : (p : ℕ → Bool) (s : List ℕ) (i : ℕ) → i < length s → p (getD s i 0) ≡ true

@@ -1,12 +1,12 @@
 -- "Every sound list, written and read, is that list again" (document 01, "The rule file").
 use mathlib.Core.Path.{_≡_, refl, ap, _∙_}
-use mathlib.Core.Bool.{Bool, true, false, cond, _&&_, and-eq-true-iff}
+use mathlib.Core.Bool.{Bool, true, false, cond, not, _&&_, and-eq-true-iff}
 use mathlib.Core.List.{List, [], _∷_, _++_, map, append-assoc}
 use mathlib.Core.Option.{none, some, Option·some-ne-none}
 use Prim.Native.Nat.{ℕ, suc, _+_, _≤_, _<_}
 use native.Mathlib.Nat.{zero-add, not-suc-le-zero}
 use native.Mathlib.Omega.{arith}
-use lib.Dec.{ltb, leb}
+use lib.Dec.{eqb, ltb, leb}
 use lib.IntN.{ℤ, pos, negsuc}
 use lib.ListN.{length, getD, drop, length-append}
 use lib.Seq.{drop-append-seam}
@@ -19,11 +19,11 @@ use Rattle.rule_list.specs.Sound.{SoundList, Scan, unread, mayJoin, stands, aft
 use Rattle.decimal.specs.Decimal.{decimal, number, onlyDigits, isDigit}
 use Rattle.decimal.specs.Laws.{decimal-digits, decimal-some, number-decimal}
 use Rattle.text.specs.Text.{numeral}
-use Rattle.dimacs.specs.Class.{classOf}
+use Rattle.dimacs.specs.Class.{letterC, classOf}
 use Rattle.dimacs.specs.Format.{header, numbered, outside, preamble, positive, signed, element, badToken, badTokens, gives, reading, readFrom}
-use Rattle.dimacs.specs.Laws.{digit-class, digit-in-token, all-digits, before-digits, beyond-digits}
-use Rattle.dimacs.specs.TokenLaws.{token-begins, kept-outside, tokens-token, blank-outside}
-use Rattle.dimacs.specs.Tokens.{inToken, Token, Position, isWithin, within, step, begins, tokens, positionAt, tokensFrom}
+use Rattle.dimacs.specs.Laws.{digit-class, digit-in-token, all-digits, before-stop, beyond-stop, digits-before}
+use Rattle.dimacs.specs.TokenLaws.{mayBegin, letter-opens, token-begins, kept-outside, tokens-token, blank-outside}
+use Rattle.dimacs.specs.Tokens.{inToken, Token, Position, within, step, begins, tokens, positionAt, tokensFrom}
 use Rattle.dimacs.specs.Sizes.{sound-step, zeros-some, sound-clauses}
 use Rattle.dimacs.specs.Written.{separator, body, headerText, written}
 
@@ -54,9 +54,19 @@ separator-blank x = go (closes x)
     go true = refl
     go false = refl
 
--- and it begins where a token may
-numeral-begins : (p : Position) (x : ℤ) → isWithin p ≡ false → begins p (getD (numeral x) 0 0) ≡ true
-numeral-begins p x o = token-begins p (getD (numeral x) 0 0) o (first-byte (numeral x) (numeral-some x) (numeral-token x))
+-- and it begins where a token may: no written number begins with `c`
+digits-first : (w : List ℕ) → 0 < length w → onlyDigits w ≡ true → eqb (classOf (getD w 0 0)) letterC ≡ false
+digits-first [] l h = absurd (not-suc-le-zero l)
+digits-first (b ∷ w) l h = rw (digit-class b (and-eq-true-iff (isDigit b) (onlyDigits w) .0 h .0))
+
+numeral-first : (x : ℤ) → eqb (classOf (getD (numeral x) 0 0)) letterC ≡ false
+unfolding classOf
+numeral-first (pos v) = digits-first (decimal v) (decimal-some v) (decimal-digits v)
+numeral-first (negsuc k) = refl
+
+numeral-begins : (p : Position) (x : ℤ) → mayBegin p ≡ true → begins p (getD (numeral x) 0 0) ≡ true
+numeral-begins p x o =
+    token-begins p (getD (numeral x) 0 0) o (first-byte (numeral x) (numeral-some x) (numeral-token x)) (letter-opens p (getD (numeral x) 0 0) (numeral-first x))
   where
     first-byte : (w : List ℕ) → 0 < length w → all inToken w ≡ true → inToken (getD w 0 0) ≡ true
     first-byte [] l h = absurd (not-suc-le-zero l)
@@ -67,7 +77,7 @@ abbrev pub tokensOf : ℕ → List ℤ → List Token
 tokensOf at [] = []
 tokensOf at (x ∷ l) = record { place = at; bytes = numeral x } ∷ tokensOf (suc (at + length (numeral x))) l
 
-tokens-body : (l : List ℤ) (p : Position) (at : ℕ) → isWithin p ≡ false → tokens p at (body l) ≡ tokensOf at l
+tokens-body : (l : List ℤ) (p : Position) (at : ℕ) → mayBegin p ≡ true → tokens p at (body l) ≡ tokensOf at l
 tokens-body [] p at o = refl
 tokens-body (x ∷ l) p at o =
     tokens-token (numeral x) (separator x) (body l) p at (numeral-some x) (numeral-begins p x o) (numeral-token x) (separator-blank x)
@@ -136,16 +146,21 @@ good-tokens (x ∷ l) n c size s i at h e f =
           same = rw (read) (ap (λ (r : List ℤ). x ∷ r) (g .same));
         }
 
+-- a header reads as the numbers of its two fields
+pub header-parts : (w v r : List ℕ) → all (λ (b : ℕ). not (eqb b 32)) w ≡ true → all (λ (b : ℕ). not (eqb b 10)) v ≡ true
+    → header (preamble ++ (w ++ 32 ∷ (v ++ 10 ∷ r))) ≡ numbered (number w) (number v) (6 + (suc (length w) + suc (length v)))
+header-parts w v r h k =
+    rw (
+      beyond-stop w 32 (v ++ 10 ∷ r) h,
+      before-stop w 32 (v ++ 10 ∷ r) h,
+      before-stop v 10 r k,
+      lt-ltb (length v) (length (v ++ 10 ∷ r)) (omega (arith, length-append v (10 ∷ r))),
+    )
+
 -- the written header reads as N and C
 pub header-fields : (w v r : List ℕ) → onlyDigits w ≡ true → onlyDigits v ≡ true
     → header (preamble ++ (w ++ 32 ∷ (v ++ 10 ∷ r))) ≡ numbered (number w) (number v) (6 + (suc (length w) + suc (length v)))
-header-fields w v r h k =
-    rw (
-      beyond-digits w 32 (v ++ 10 ∷ r) (omega arith) h,
-      before-digits w 32 (v ++ 10 ∷ r) (omega arith) h,
-      before-digits v 10 r (omega arith) k,
-      lt-ltb (length v) (length (v ++ 10 ∷ r)) (omega (arith, length-append v (10 ∷ r))),
-    )
+header-fields w v r h k = header-parts w v r (digits-before w 32 (omega arith) h) (digits-before v 10 (omega arith) k)
 
 pub header-joined : (n c : ℕ) (r : List ℕ) → headerText n c ++ r ≡ preamble ++ (decimal n ++ 32 ∷ (decimal c ++ 10 ∷ r))
 header-joined n c r =

@@ -2,9 +2,9 @@
 use decimal::Number;
 ghost use mathlib.Core.Bool.{false};
 ghost use mathlib.Core.Path.{_≡_};
-ghost use Prim.Native.Nat.{_+_, _≤_};
+ghost use Prim.Native.Nat.{_≤_};
 ghost use lib.ListN.{length, drop};
-ghost use Rattle.dimacs.specs.Format.{pastComments, preamble, startsWith, before, header};
+ghost use Rattle.dimacs.specs.Format.{pastComments, preamble, startsWith, header};
 ghost use Rattle.rule_header.specs.Header.{headerAs};
 
 const PREAMBLE: [u8; 6] = [b'p', b' ', b'c', b'n', b'f', b' '];
@@ -57,20 +57,6 @@ fn has_preamble(file: &[u8], at: usize) -> bool
     true
 }
 
-// Where the field that begins at a place ends: at the first byte that is `stop`, or at the file's end.
-fn field_end(file: &[u8], from: usize, stop: u8) -> usize
-    ensures { λ r. ⌜ r ≡ from + length (before stop (drop from (now (file .entry)))) ⌝ }
-{
-    let mut i = from;
-    while i < file.len() {
-        if file[i] == stop {
-            return i;
-        }
-        i += 1;
-    }
-    i
-}
-
 // The header at a place. Each field must end with its own byte: a space after N, a line feed after C.
 pub fn header_at(file: &[u8], at: usize) -> ReadHeader
     requires { ⌜ at ≤ length (now file) ⌝ }
@@ -80,9 +66,9 @@ pub fn header_at(file: &[u8], at: usize) -> ReadHeader
         return ReadHeader::Malformed;
     }
     let n_from = at + 6;
-    let n_end = field_end(file, n_from, b' ');
+    let n_end = line_scan::find_byte(file, n_from, b' ');
     let c_from = n_end + 1;
-    let c_end = field_end(file, c_from, b'\n');
+    let c_end = line_scan::find_byte(file, c_from, b'\n');
     if file.len() <= c_end {
         return ReadHeader::Malformed;
     }

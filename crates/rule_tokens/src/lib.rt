@@ -39,17 +39,21 @@ pub fn token_at(file: &[u8], at: usize) -> NextToken
     }
 }
 
-// Where the first token from an offset on begins, or the file's length if none does. Whatever is to be
-// passed over between tokens is passed over here.
+// Where the first token from an offset on begins, or the file's length if none does. Blanks and comment
+// lines are passed over here.
 fn token_start(file: &[u8], from: usize) -> usize
     ensures { λ r. ⌜ r ≡ firstPlace (length (now (file .entry))) (tokensFrom (now (file .entry)) from) ⌝ }
 {
     let mut i = from;
     while i < file.len() {
-        if dimacs::class_of(file[i]) != dimacs::BLANK {
-            return i;
+        if line_scan::opens_comment(file, i) {
+            i = line_scan::find_byte(file, i, b'\n');
+        } else {
+            if dimacs::class_of(file[i]) != dimacs::BLANK {
+                return i;
+            }
+            i += 1;
         }
-        i += 1;
     }
     file.len()
 }

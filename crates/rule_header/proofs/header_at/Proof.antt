@@ -29,21 +29,21 @@ returns c =
 add-n-from : tie.Need-add-n-from
 add-n-from c = search needs
 
-field-end-requires : tie.Need-field-end-requires
-field-end-requires c κs = search needs
+find-byte-requires : tie.Need-find-byte-requires
+find-byte-requires c κs = search needs
 
 add-c-from : tie.Need-add-c-from
 add-c-from c =
-    omega (arith, field-most 32 (c .before .before .before .before .args .file .now) (c .before .before .before .before .args .at + 6) (c .field-end .result) (c .field-end .ensures), c .before .before .before .before .pre, c .before .before .before .before .good .0 .1)
+    omega (arith, field-most 32 (c .before .before .before .before .args .file .now) (c .before .before .before .before .args .at + 6) (c .find-byte .result) (c .find-byte .ensures), c .before .before .before .before .pre, c .before .before .before .before .good .0 .1)
 
-field-end-requires-2 : tie.Need-field-end-requires-2
-field-end-requires-2 c κs = search needs
+find-byte-requires-2 : tie.Need-find-byte-requires-2
+find-byte-requires-2 c κs = search needs
 
 returns-2 : tie.Need-returns-2
 returns-2 c =
     let s = c .before .before .before .before .before .before .args .file .now in
     let at = c .before .before .before .before .before .before .args .at in
-    sym (ap (headerAs at) (header-open s at (c .before .before .field-end .result) (c .before .field-end2 .result) (c .before .before .field-end .ensures) (c .before .field-end2 .ensures) (c .if2 .taken)))
+    sym (ap (headerAs at) (header-open s at (c .before .before .find-byte .result) (c .before .find-byte2 .result) (c .before .before .find-byte .ensures) (c .before .find-byte2 .ensures) (c .if2 .taken)))
 
 sub-number-of : tie.Need-sub-number-of
 sub-number-of c = search needs
@@ -71,10 +71,10 @@ abbrev at : tie.Else2 → ℕ
 at c = c .before .before .before .before .before .before .args .at
 
 abbrev n-end : tie.Else2 → ℕ
-n-end c = c .before .before .field-end .result
+n-end c = c .before .before .find-byte .result
 
 abbrev c-end : tie.Else2 → ℕ
-c-end c = c .before .field-end2 .result
+c-end c = c .before .find-byte2 .result
 
 abbrev n-field : tie.Else2 → List ℕ
 n-field c = take (n-end c - (at c + 6)) (drop (at c + 6) (file c))
@@ -87,7 +87,7 @@ fields : (c : tie.Else2) → header (drop (at c) (file c)) ≡ numbered (number 
 fields c =
     let test = c .before .before .before .before in
     let starts : startsWith preamble (drop (at c) (file c)) ≡ true = sym (test .has-preamble .ensures) ∙ not-false (test .has-preamble .result) (c .before .before .before .if1 .left) in
-    header-at (file c) (at c) (n-end c) (c-end c) (c .before .before .field-end .ensures) (c .before .field-end2 .ensures) starts (c .if2 .left)
+    header-at (file c) (at c) (n-end c) (c-end c) (c .before .before .find-byte .ensures) (c .before .find-byte2 .ensures) starts (c .if2 .left)
 
 -- past the first number
 abbrev fielded : tie.After-known-told → tie.Else2
@@ -141,7 +141,7 @@ returns-5 c =
     let known = c .before .before .before .before .before in
     let here = fielded known in
     let clauses = c .before .clauses .given .0 .0 in
-    let next : at here + (c-end here + 1 - at here) ≡ c-end here + 1 = omega (arith, here .before .field-end2 .ensures, here .before .before .field-end .ensures) in
+    let next : at here + (c-end here + 1 - at here) ≡ c-end here + 1 = omega (arith, here .before .find-byte2 .ensures, here .before .before .find-byte .ensures) in
     sym
     (ap (headerAs (at here)) (fields here)
     ∙ both-read (at here) (c-end here + 1 - at here) (n-field here) (c-field here) (variables known) clauses (n-read known)
@@ -155,9 +155,9 @@ header-at-spec =
     has-preamble-requires
     returns
     add-n-from
-    field-end-requires
+    find-byte-requires
     add-c-from
-    field-end-requires-2
+    find-byte-requires-2
     returns-2
     sub-number-of
     part-number-of-start

@@ -8,6 +8,8 @@ pub const GROUPS: &[crate::Group] = &[
     ("rule files: damaged", 30_000, damaged_rule_file),
     ("rule files: headers", 1, headers),
     ("rule files: every byte at every place", 1, every_byte),
+    ("rule files: comments", 1_000, comments),
+    ("rule files: megabytes of comments", 1, long_comments),
     ("rule files: random bytes", 20_000, random_bytes),
     ("rule files: limits", 1, limits),
     ("wish files: numbers", 20_000, wish_numbers),
@@ -115,6 +117,49 @@ fn bytes_everywhere(file: &[u8], mut judge: impl FnMut(&[u8])) {
 
 fn every_byte(both: &mut Both, random: &mut Random) {
     bytes_everywhere(b"c x\np cnf 12 3\n1 -2 0\t0\r\n-12 3 0", |file| read_and_write(both, random, file));
+    bytes_everywhere(b"p cnf 3 2\nc 0\n1\ncc\r-2 0\n-2 0\r\n3 0 \nc", |file| read_and_write(both, random, file));
+}
+
+/// A comment put in at each place of a file. At a line's beginning behind the header it changes nothing that is
+/// read; without its line feed the same holds at the file's end.
+fn comments(both: &mut Both, random: &mut Random) {
+    let n = random.of(&[1, 2, 3, 10, 640]);
+    let rules = random.below(5);
+    let book = random.book(n, rules, 0, 4.min(n));
+    let file = random.rule_file(n, &book);
+    let (plain, list) = both.read_rules(&file, file.len());
+    let header = file.windows(6).position(|part| part == b"p cnf ").unwrap();
+    for at in 0..=file.len() {
+        let (before, after) = file.split_at(at);
+        let comment = random.comment();
+        let whole = [before, &comment, after].concat();
+        let (answer, read) = both.read_rules(&whole, file.len());
+        if at > header && before.ends_with(b"\n") {
+            both.hold(answer == plain && read == list, || format!("{comment:?} at {at} alters what is read"));
+        }
+        both.read_rules(&[before, &comment[..comment.len() - 1], after].concat(), file.len());
+    }
+    if file.ends_with(b"\n") {
+        let open = [&file[..], b"c the end"].concat();
+        let (answer, read) = both.read_rules(&open, file.len());
+        both.hold(answer == plain && read == list, || "an open comment at the end alters what is read".to_string());
+    }
+}
+
+/// One long comment, many short ones, and both inside an open rule; then the same with a fault behind them.
+fn long_comments(both: &mut Both, random: &mut Random) {
+    let long = [&vec![b'c'; 4_000_000][..], b"\n"].concat();
+    let many = b"c 1 0\n".repeat(700_000);
+    for gap in [&long, &many] {
+        for rest in ["-1 0\n", "-1 0", "-1 x 0", "-1 2", ""] {
+            let file = [b"p cnf 2 2\n", &gap[..], b"1\n", gap, b"2 0\n", gap, rest.as_bytes()].concat();
+            both.read_rules(&file, 5);
+            both.read_rules(&file, 4);
+        }
+    }
+    both.read_rules(&[b"p cnf 2 0\n", &long[..long.len() - 1]].concat(), 0);
+    let at = random.below(many.len());
+    both.read_rules(&[b"p cnf 2 0\n", &many[..at]].concat(), 0);
 }
 
 fn random_bytes(both: &mut Both, random: &mut Random) {

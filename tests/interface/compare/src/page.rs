@@ -9,7 +9,7 @@ extern "C" {
 }
 
 const PAGE: usize = 4096;
-const ROOM: usize = 256 * PAGE; // more than any buffer lent here
+const ROOM: usize = 4096 * PAGE; // more than any buffer lent here
 const BEFORE: usize = 64;
 const MARK: u8 = 0xa5;
 

@@ -70,11 +70,7 @@ impl Random {
     pub fn rule_file(&mut self, n: usize, list: &[i32]) -> Vec<u8> {
         let mut text = Vec::new();
         for _ in 0..self.below(3) {
-            text.push(b'c');
-            for _ in 0..self.below(6) {
-                text.push(self.of(b"c p0\r\tx\x00\xff"));
-            }
-            text.push(b'\n');
+            text.extend(self.comment());
         }
         let rules = list.iter().filter(|&&e| e == 0).count();
         text.extend(format!("p cnf {n} {rules}\n").bytes());
@@ -86,9 +82,19 @@ impl Random {
         text
     }
 
+    /// A comment line.
+    pub fn comment(&mut self) -> Vec<u8> {
+        let text: Vec<u8> = (0..self.below(6)).map(|_| self.of(b"c p0\r\tx\x00\xff")).collect();
+        [b"c", &text[..], b"\n"].concat()
+    }
+
+    /// Blanks, and comment lines where a line begins.
     fn blanks(&mut self, text: &mut Vec<u8>, least: usize) {
         for _ in 0..least + if self.once_in(4) { self.below(3) } else { 0 } {
             text.push(self.of(b"  \n\t\r"));
+        }
+        while text.last() == Some(&b'\n') && self.once_in(3) {
+            text.extend(self.comment());
         }
     }
 

@@ -1,4 +1,4 @@
-//! The rule file: a narrowed DIMACS CNF.
+//! The rule file: a narrowed DIMACS CNF, with document 02's comment lines between the rules (L1).
 
 use crate::lent::{refuse, Refusal, MAX_ENTRIES, MAX_N, MAX_RULES};
 
@@ -44,6 +44,20 @@ fn blank(b: u8) -> bool {
     matches!(b, 9 | 10 | 13 | 32)
 }
 
+/// Past the blanks and the comment lines from a place behind the header on. A line begins behind a line feed.
+fn past_gap(file: &[u8], mut at: usize) -> usize {
+    while at < file.len() {
+        if file[at] == b'c' && file[at - 1] == b'\n' {
+            at += line(file, at).0.len();
+        } else if blank(file[at]) {
+            at += 1;
+        } else {
+            break;
+        }
+    }
+    at
+}
+
 pub fn read(file: &[u8]) -> Result<Book, Refusal> {
     let mut at = 0;
     while file.get(at) == Some(&b'c') {
@@ -63,9 +77,7 @@ pub fn read(file: &[u8]) -> Result<Book, Refusal> {
     let mut list: Vec<i32> = Vec::new();
     let (mut closed, mut start) = (0, 0);
     loop {
-        while at < file.len() && blank(file[at]) {
-            at += 1;
-        }
+        at = past_gap(file, at);
         if at == file.len() {
             break;
         }

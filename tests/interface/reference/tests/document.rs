@@ -1,4 +1,5 @@
-//! The reference held to document 01: its examples, and all choices of small books by brute force.
+//! The reference held to document 01 and to what document 02 changes in it: examples, and all choices of small books
+//! by brute force.
 
 use reference::walk::{broken, met};
 use reference::*;
@@ -43,6 +44,33 @@ fn examples() {
     assert_eq!(refused(read_wishes(&[b' '; 15], &mut [])), (8, 0));
     assert_eq!(refused(search(1, &[], &[1], 64, &mut c)), (0, 0));
     assert_eq!(refused(search(1, &[], &[1], 65, &mut c)), (14, 0));
+}
+
+/// Document 02, L1: "A line beginning with `c` is now skipped anywhere after the header too. .. A `c` inside a line
+/// still makes a malformed token."
+#[test]
+fn comments_between_rules() {
+    for file in [
+        "p cnf 2 2\nc\n1 2 0\n-1 0\n",
+        "p cnf 2 2\n1 2 0\ncat 1 2 0\n-1 0\n",
+        "p cnf 2 2\n1\nc p cnf 1 0\n2 0\n-1\nc\n\n\nc\n0\n",
+        "p cnf 2 2\n1 2 0\n-1 0\nc",
+        "p cnf 2 2\n1 2 0\r\nc 0\r\n-1 0\r\nc 1\r1 0",
+    ] {
+        let (a, rules) = read(file);
+        assert_eq!((a.refusal, a.value, &rules[..]), (0, [2, 2, 5], &[1, 2, 0, -1, 0][..]), "{file:?}");
+    }
+    for (file, refusal, place) in [
+        ("p cnf 2 1\nc only\nc remarks", 6, 26),
+        ("p cnf 2 1\n c\n1 0\n", 3, 11),
+        ("p cnf 2 1\n1 c\n0\n", 3, 12),
+        ("p cnf 2 1\n1 2 0 c x\n", 3, 16),
+        ("p cnf 2 1\n1 2 0\rc x\n", 3, 16),
+        ("p cnf 2 1\n1 0\nc\n1 0\n", 6, 16),
+        ("p cnf 2 1\nc\r1 0\n", 6, 17),
+    ] {
+        assert_eq!(refused(read(file).0), (refusal, place), "{file:?}");
+    }
 }
 
 #[test]

@@ -1,4 +1,4 @@
--- `rule_header::field_end` meets its contract. The loop's invariant: from here to the field's end is as far as from the start.
+-- `line_scan::find_byte` meets its contract. The loop's invariant: from here to the byte sought is as far as from the start.
 use mathlib.Core.Path.{_≡_, ap}
 use mathlib.Core.Bool.{not}
 use Prim.Native.Nat.{ℕ, _+_, _-_, _≤_}
@@ -9,8 +9,8 @@ use borrow.Author.Tests.{eq-eqb, ne-eqb}
 use borrow.Author.Needs.{needs}
 use Rattle.dimacs.specs.Format.{before}
 use Rattle.dimacs.specs.Laws.{run-more, run-stop, run-past}
-use Rattle.rule_header.proofs.field_end.Statement.{statement}
-use Rattle.rule_header.proofs.field_end.Tie as tie
+use Rattle.line_scan.proofs.find_byte.Statement.{statement}
+use Rattle.line_scan.proofs.find_byte.Tie as tie
 
 abbrev Inv-loop : tie.InvT-loop
 Inv-loop file from stop i₀ i = (from ≤ i) × (from + length (before stop (drop from file)) ≡ i + length (before stop (drop i file)))
@@ -49,8 +49,8 @@ returns-2 c =
     let stop = c .before .before .args .stop in
     omega (arith, run-past (λ (b : ℕ). not (eqb b stop)) (c .before .before .args .file .now) (c .before .loop .i) (c .loop-test .left))
 
-pub field-end-spec : {M : Type 1} → statement M
-field-end-spec =
+pub find-byte-spec : {M : Type 1} → statement M
+find-byte-spec =
     tie.close
     (tie.spec
     Inv-loop

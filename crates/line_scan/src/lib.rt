@@ -1,0 +1,34 @@
+// The lines of a rule file: where a byte comes next, and where a comment line begins.
+ghost use mathlib.Core.Path.{_≡_};
+ghost use Prim.Native.Nat.{_+_, _<_};
+ghost use lib.ListN.{length, getD, drop};
+ghost use Rattle.dimacs.specs.Format.{before};
+ghost use Rattle.dimacs.specs.Tokens.{opensComment, positionAt};
+
+// Where a byte comes next from a place on: at the first that is `stop`, or at the file's end.
+pub fn find_byte(file: &[u8], from: usize, stop: u8) -> usize
+    ensures { λ r. ⌜ r ≡ from + length (before stop (drop from (now (file .entry)))) ⌝ }
+{
+    let mut i = from;
+    while i < file.len() {
+        if file[i] == stop {
+            return i;
+        }
+        i += 1;
+    }
+    i
+}
+
+// Whether a comment line begins at a kept offset: `c`, as the first byte of its line.
+pub fn opens_comment(file: &[u8], at: usize) -> bool
+    requires { ⌜ at < length (now file) ⌝ }
+    ensures { λ r. ⌜ r ≡ opensComment (positionAt (now (file .entry)) at) (getD (now (file .entry)) at 0) ⌝ }
+{
+    if dimacs::class_of(file[at]) != dimacs::LETTER_C {
+        return false;
+    }
+    if at == 0 {
+        return true;
+    }
+    file[at - 1] == b'\n'
+}
