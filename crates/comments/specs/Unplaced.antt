@@ -64,10 +64,10 @@ alike (t ∷ ts) (u ∷ us) e n c size size′ s =
     record {
       numbers = rw (same) (ap (λ (l : List ℤ). element u ∷ l) (later .numbers));
       refusals = rw (same) (same-first
-      (badToken n c s (t .place) (signed (u .bytes))) (badToken n c s (u .place) (signed (u .bytes)))
-      (badTokens n c size (after s (element u)) ts ∷ []) (badTokens n c size′ (after s (element u)) us ∷ [])
-      (same-token n c s (t .place) (u .place) (signed (u .bytes)))
-      (same-first (badTokens n c size (after s (element u)) ts) (badTokens n c size′ (after s (element u)) us) [] [] (later .refusals) refl));
+          (badToken n c s (t .place) (signed (u .bytes))) (badToken n c s (u .place) (signed (u .bytes)))
+          (badTokens n c size (after s (element u)) ts ∷ []) (badTokens n c size′ (after s (element u)) us ∷ [])
+          (same-token n c s (t .place) (u .place) (signed (u .bytes)))
+          (same-first (badTokens n c size (after s (element u)) ts) (badTokens n c size′ (after s (element u)) us) [] [] (later .refusals) refl));
     }
 
 same-reading : (n c : ℕ) (ts us : List Token) (o q : Option Refusal) → map element ts ≡ map element us → numberOf o ≡ numberOf q

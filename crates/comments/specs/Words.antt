@@ -20,7 +20,7 @@ bytes-place (b ∷ s) p at at′ = go (begins p b) (bytes-place s (step p b) (su
   where
     go : (t : Bool) → bytesOf (tokens (step p b) (suc at) s) ≡ bytesOf (tokens (step p b) (suc at′) s)
         → bytesOf (starting t (record { place = at; bytes = b ∷ leading inToken s }) (tokens (step p b) (suc at) s))
-            ≡ bytesOf (starting t (record { place = at′; bytes = b ∷ leading inToken s }) (tokens (step p b) (suc at′) s))
+        ≡ bytesOf (starting t (record { place = at′; bytes = b ∷ leading inToken s }) (tokens (step p b) (suc at′) s))
     go true e = ap (λ (l : List (List ℕ)). (b ∷ leading inToken s) ∷ l) e
     go false e = e
 
@@ -75,7 +75,7 @@ lines-before (b ∷ f) x y same t p e start at at′ = go (begins p b) refl (lin
   where
     go : (u : Bool) → begins p b ≡ u → bytesOf (tokens (step p b) (suc at) (f ++ x)) ≡ bytesOf (tokens (step p b) (suc at′) (f ++ y))
         → bytesOf (starting u (record { place = at; bytes = b ∷ leading inToken (f ++ x) }) (tokens (step p b) (suc at) (f ++ x)))
-            ≡ bytesOf (starting u (record { place = at′; bytes = b ∷ leading inToken (f ++ y) }) (tokens (step p b) (suc at′) (f ++ y)))
+        ≡ bytesOf (starting u (record { place = at′; bytes = b ∷ leading inToken (f ++ y) }) (tokens (step p b) (suc at′) (f ++ y)))
     go true k ih =
         let inside : endsLine false f ≡ true = ap (λ (v : Bool). endsLine v f) (sym (no-line-feed b (begun p b k .1))) ∙ e in
         ap₂ (λ (w : List ℕ) (l : List (List ℕ)). (b ∷ w) ∷ l) (token-inside f x y inside) ih

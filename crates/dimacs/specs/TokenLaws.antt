@@ -226,6 +226,9 @@ module _ (s : List ℕ) (i : ℕ) (h : i < length s) where
       ∙ ap (λ (p : Position). tokens p (suc i) (drop (suc i) s)) (first .0)
       ∙ past-run inLine comment comment-keeps (ap not (no-line-feed b (first .1)))
 
+  pub comment-some : opensComment (positionAt s i) b ≡ true → 0 < length (before 10 (drop i s))
+  comment-some e = omega (arith, run-more inLine s i h (ap not (no-line-feed b (opened (positionAt s i) b e .1))))
+
   pub tokens-here : begins (positionAt s i) b ≡ true
       → tokensFrom s i ≡ record { place = i; bytes = leading inToken (drop i s) } ∷ tokensFrom s (i + length (leading inToken (drop i s)))
   tokens-here e =
@@ -264,9 +267,7 @@ shaped-within (suc k) s i h = go (ltb i (length s)) refl (λ j l. shaped-within 
         → ((j : ℕ) → length s ≤ j + k → Shaped s j (tokensFrom s j)) → Shaped s i (tokensFrom s i)
     byte l true u e f ih = skipped (i + 1) (omega arith) (tokens-blank s i l e) ih
     byte l false true e f ih =
-        skipped (i + length (before 10 (drop i s)))
-        (omega (arith, run-more inLine s i l (ap not (no-line-feed (getD s i 0) (ap not e)))))
-        (tokens-comment s i l f) ih
+        skipped (i + length (before 10 (drop i s))) (omega (arith, comment-some s i l f)) (tokens-comment s i l f) ih
     byte l false false e f ih =
         subst (Shaped s i) (sym (tokens-here s i l (token-begins (positionAt s i) (getD s i 0) (kept-outside s i) (ap not e) f)))
         (record {

@@ -3,12 +3,13 @@ use mathlib.Core.Path.{_≡_, refl, sym, ap, _∙_}
 use mathlib.Core.Bool.{Bool, true, false, cond}
 use mathlib.Core.List.{List}
 use Prim.Native.Nat.{ℕ, zero, suc, _-_}
+use native.Mathlib.Omega.{arith}
 use lib.Dec.{eqb}
 use lib.ListN.{getD}
 use borrow.Author.Tests.{eq-eqb, ne-eqb}
 use Rattle.dimacs.specs.Class.{letterC, classOf}
 use Rattle.dimacs.specs.TokenLaws.{letter-opens}
-use Rattle.dimacs.specs.Tokens.{Position, lineStart, between, opensComment, positionAt}
+use Rattle.dimacs.specs.Tokens.{lineStart, between, opensComment, positionAt}
 
 -- the byte there is not `c`
 pub other-letter : (s : List ℕ) (at : ℕ) → (classOf (getD s at 0) ≡ letterC → ⊥) → false ≡ opensComment (positionAt s at) (getD s at 0)
@@ -28,4 +29,6 @@ module _ (b : ℕ) (e : classOf b ≡ letterC) where
 
   pub line-letter : (s : List ℕ) (at : ℕ) → (at ≡ 0 → ⊥) → eqb (getD s (at - 1) 0) 10 ≡ opensComment (positionAt s at) b
   line-letter s zero h = absurd (h refl)
-  line-letter s (suc k) h = sym (behind (eqb (getD s k 0) 10))
+  line-letter s (suc k) h =
+      let last : suc k - 1 ≡ k = omega arith in
+      ap (λ (j : ℕ). eqb (getD s j 0) 10) last ∙ sym (behind (eqb (getD s k 0) 10))

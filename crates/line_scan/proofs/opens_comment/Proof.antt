@@ -1,37 +1,37 @@
+-- `line_scan::opens_comment` meets its contract: another byte, `c` at the file's beginning, or `c` behind some byte.
+use mathlib.Core.Path.{sym, _∙_}
+use lib.ListN.{getD}
 use borrow.Author.Needs.{needs}
+use Rattle.line_scan.specs.Laws.{other-letter, first-letter, line-letter}
 use Rattle.line_scan.proofs.opens_comment.Statement.{statement}
 use Rattle.line_scan.proofs.opens_comment.Tie as tie
-use Rattle.line_scan.proofs.opens_comment.Reads as reads
-use Rattle.line_scan.proofs.opens_comment.Lts as lts
-use Rattle.dimacs.proofs.class_of.Reads as class-of-reads
 
--- src/lib.rt:27:25
 shared-slice-read-class-of : tie.Need-shared-slice-read-class-of
 shared-slice-read-class-of c = search needs
 
--- src/lib.rt:27:8
 class-of-requires : tie.Need-class-of-requires
 class-of-requires c κs = search needs
 
--- src/lib.rt:28:9
 returns : tie.Need-returns
-returns c = ?
+returns c =
+    let args = c .before .before .before .before .args in
+    other-letter (args .file .now) (args .at) (λ e. c .if1 .taken (c .before .class-of .ensures ∙ e))
 
--- src/lib.rt:31:9
 returns-2 : tie.Need-returns-2
-returns-2 c = ?
+returns-2 c =
+    let args = c .before .before .before .before .before .args in
+    first-letter (getD (args .file .now) (args .at) 0) (sym (c .before .before .class-of .ensures) ∙ c .before .if1 .left) (args .file .now) (args .at) (c .if2 .taken)
 
--- src/lib.rt:33:10
 sub-result : tie.Need-sub-result
 sub-result c = search needs
 
--- src/lib.rt:33:5
 shared-slice-read-result : tie.Need-shared-slice-read-result
 shared-slice-read-result c = search needs
 
--- src/lib.rt:23:1
 returns-3 : tie.Need-returns-3
-returns-3 c = ?
+returns-3 c =
+    let args = c .before .before .before .before .before .before .args in
+    line-letter (getD (args .file .now) (args .at) 0) (sym (c .before .before .before .class-of .ensures) ∙ c .before .before .if1 .left) (args .file .now) (args .at) (c .before .if2 .left)
 
 pub opens-comment-spec : {M : Type 1} → statement M
 opens-comment-spec =

@@ -2,11 +2,12 @@
 use mathlib.Core.Path.{_≡_, sym, ap, _∙_}
 use mathlib.Core.Bool.{not}
 use Prim.Native.Nat.{_-_}
+use native.Mathlib.Omega.{arith}
 use lib.ListN.{length, getD}
 use borrow.Author.Tests.{eq-eqb, ne-eqb}
 use borrow.Author.Needs.{needs}
 use Rattle.dimacs.specs.Class.{blank, classOf}
-use Rattle.dimacs.specs.TokenLaws.{token-begins, kept-outside, tokens-none, tokens-blank, tokens-here}
+use Rattle.dimacs.specs.TokenLaws.{token-begins, kept-outside, tokens-none, tokens-blank, tokens-comment, comment-some, tokens-here}
 use Rattle.dimacs.specs.Tokens.{positionAt, tokensFrom}
 use Rattle.rule_tokens.specs.NextToken.{firstPlace}
 use Rattle.rule_tokens.proofs.token_start.Statement.{statement}
@@ -21,6 +22,26 @@ abbrev μ-loop : tie.MeasureT-loop
 loop-holds : tie.Need-loop-holds Inv-loop μ-loop
 loop-holds c = search needs
 
+opens-comment-requires : tie.Need-opens-comment-requires Inv-loop μ-loop
+opens-comment-requires c κs = search needs
+
+find-byte-requires : tie.Need-find-byte-requires Inv-loop μ-loop
+find-byte-requires c κs = search needs
+
+loop-less : tie.Need-loop-less Inv-loop μ-loop
+loop-less c =
+    let s = c .before .before .before .before .before .before .args .file .now in
+    let i = c .before .before .before .before .loop .i in
+    omega (arith, comment-some s i (c .before .before .before .loop-test .taken) (sym (c .before .before .opens-comment .ensures) ∙ c .before .if1 .taken), c .find-byte .ensures)
+
+loop-again : tie.Need-loop-again Inv-loop μ-loop
+loop-again c =
+    let s = c .before .before .before .before .before .before .args .file .now in
+    let loop = c .before .before .before .before .loop in
+    loop .inv
+    ∙ tokens-comment s (loop .i) (c .before .before .before .loop-test .taken) (sym (c .before .before .opens-comment .ensures) ∙ c .before .if1 .taken)
+    ∙ ap (tokensFrom s) (sym (c .find-byte .ensures))
+
 shared-slice-read-class-of : tie.Need-shared-slice-read-class-of Inv-loop μ-loop
 shared-slice-read-class-of c = search needs
 
@@ -29,23 +50,27 @@ class-of-requires c κs = search needs
 
 returns : tie.Need-returns Inv-loop μ-loop
 returns c =
-    let s = c .before .before .before .before .before .before .args .file .now in
-    let loop = c .before .before .before .before .loop in
+    let s = c .before .before .before .before .before .before .before .before .args .file .now in
+    let loop = c .before .before .before .before .before .before .loop in
+    let b = getD s (loop .i) 0 in
     sym (ap (firstPlace (length s))
-    (loop .inv ∙ tokens-here s (loop .i) (c .before .before .before .loop-test .taken)
-    (token-begins (positionAt s (loop .i)) (getD s (loop .i) 0) (kept-outside s (loop .i)) (ap not (ne-eqb (classOf (getD s (loop .i) 0)) blank (λ e. c .if1 .taken (c .before .class-of .ensures ∙ e)))))))
+    (loop .inv ∙ tokens-here s (loop .i) (c .before .before .before .before .before .loop-test .taken)
+    (token-begins (positionAt s (loop .i)) b (kept-outside s (loop .i))
+    (ap not (ne-eqb (classOf b) blank (λ e. c .if2 .taken (c .before .class-of .ensures ∙ e))))
+    (sym (c .before .before .before .before .opens-comment .ensures) ∙ c .before .before .before .if1 .left))))
 
 add-i : tie.Need-add-i Inv-loop μ-loop
 add-i c = search needs
 
-loop-less : tie.Need-loop-less Inv-loop μ-loop
-loop-less c = search needs
+loop-less-2 : tie.Need-loop-less-2 Inv-loop μ-loop
+loop-less-2 c = search needs
 
-loop-again : tie.Need-loop-again Inv-loop μ-loop
-loop-again c =
-    let s = c .before .before .before .before .before .before .args .file .now in
-    let loop = c .before .before .before .before .loop in
-    loop .inv ∙ tokens-blank s (loop .i) (c .before .before .before .loop-test .taken) (eq-eqb (classOf (getD s (loop .i) 0)) blank (sym (c .before .class-of .ensures) ∙ c .if1 .left))
+loop-again-2 : tie.Need-loop-again-2 Inv-loop μ-loop
+loop-again-2 c =
+    let s = c .before .before .before .before .before .before .before .before .args .file .now in
+    let loop = c .before .before .before .before .before .before .loop in
+    loop .inv
+    ∙ tokens-blank s (loop .i) (c .before .before .before .before .before .loop-test .taken) (eq-eqb (classOf (getD s (loop .i) 0)) blank (sym (c .before .class-of .ensures) ∙ c .if2 .left))
 
 returns-2 : tie.Need-returns-2 Inv-loop μ-loop
 returns-2 c =
@@ -60,10 +85,14 @@ token-start-spec =
     Inv-loop
     μ-loop
     loop-holds
+    opens-comment-requires
+    find-byte-requires
+    loop-less
+    loop-again
     shared-slice-read-class-of
     class-of-requires
     returns
     add-i
-    loop-less
-    loop-again
+    loop-less-2
+    loop-again-2
     returns-2)
