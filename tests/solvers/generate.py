@@ -9,6 +9,9 @@ from draw import Draw
 # the number of wishes asks for nothing, so most books have but one of these.
 EVERY, FEW = 65, 4
 
+# What may stand at the beginning of a line behind the header.
+COMMENTS = b'', b'c\n', b'c a heading\n', b'cat 1 2 0\r\n', b'c p cnf 1 0\nc 1 0\n'
+
 
 class Shelf:
     """The books of a kind, named by it and numbered. The kind is also the seed."""
@@ -25,11 +28,17 @@ class Shelf:
         self.books.append(books.Book(name, limits, file, books.wish_file(n, wishes, limit)))
 
     def loose(self, name, file):
-        """The same file with comments, and with other blanks after its header."""
+        """The same file with comments, and with other blanks after its header. Not every solver reads a comment inside
+        a rule, so there is none."""
         header, body = file.split(b'\n', 1)
         blanks = b' ', b'  ', b'\t', b'\n', b'\r\n', b' \n'
-        body = b''.join(token + self.draw.choice(blanks) for token in body.split())
-        return b'c %s\nc\n%s\n%s' % (name.encode('ascii'), header, body)
+        parts, chances = [header + b'\n'], Draw(name)
+        for token in [b'', *body.split()]:
+            blank = self.draw.choice(blanks) if token else b''
+            parts.append(token + blank)
+            if not token or token == b'0' and blank.endswith(b'\n'):
+                parts.append(chances.choice(COMMENTS))
+        return b'c %s\nc\n%s' % (name.encode('ascii'), b''.join(parts))
 
     def wishes(self, n, count, marks=(0, 1)):
         """So many wishes, their marks by chance."""

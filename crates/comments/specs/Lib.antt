@@ -1,3 +1,4 @@
+pub mod Calls
 pub mod Headers
 pub mod Lines
 pub mod Rest

@@ -1,8 +1,8 @@
 -- A comment line put in at any line's beginning changes nothing that is read of a rule file (document 02, L1): "A line beginning with `c` is now skipped anywhere after the header too."
 use mathlib.Core.Path.{_≡_, refl, sym, ap, ap₂, _∙_}
 use mathlib.Core.Bool.{Bool, true, false, cond, not, and-eq-true-iff}
-use mathlib.Core.List.{List, [], _∷_, _++_, append-assoc}
-use mathlib.Core.Logic.{_⊎_, inl, inr}
+use mathlib.Core.List.{List, [], _∷_, _++_, append-assoc, append-nil}
+use mathlib.Core.Logic.{_↔_, _⊎_, inl, inr}
 use mathlib.Core.Option.{Option, none, some}
 use Prim.Native.Nat.{ℕ, zero, suc, _+_, _≤_, _<_}
 use native.Mathlib.Omega.{arith}
@@ -92,6 +92,23 @@ comment-skipped front text back e h =
     (ap (uncommented true) (append-assoc text (10 ∷ []) back) ∙ comment-over text back h)
 
 -- So does one that ends with the file, without a line feed.
-pub last-comment-skipped : (front text : List ℕ) → endsLine true front ≡ true → isText text ≡ true → unplaced (reading (front ++ 99 ∷ text)) ≡ unplaced (reading (front ++ []))
+pub last-comment-skipped : (front text : List ℕ) → endsLine true front ≡ true → isText text ≡ true → unplaced (reading (front ++ 99 ∷ text)) ≡ unplaced (reading front)
 unfolding classOf
-last-comment-skipped front text e h = read-same front (99 ∷ text) [] e (last-words text h) (comment-out text h)
+last-comment-skipped front text e h =
+    read-same front (99 ∷ text) [] e (last-words text h) (comment-out text h) ∙ ap (λ (s : List ℕ). unplaced (reading s)) (append-nil front)
+
+-- N, C and the list are the same with the comment line and without it, so one of the two files is accepted exactly when the other is.
+placed : (r : Reading) (n c : ℕ) (list : List ℤ) → unplaced r ≡ gives n c list → r ≡ gives n c list
+placed (refuses r) n c list e = let z : _≡_ {A = ℕ} 0 1 = cc in absurd (omega arith)
+placed (gives m k l) n c list e = e
+
+alike : (r q : Reading) → unplaced r ≡ unplaced q → (n c : ℕ) (list : List ℤ) → (r ≡ gives n c list) ↔ (q ≡ gives n c list)
+alike r q e n c list = (λ f. placed q n c list (sym e ∙ ap unplaced f), λ f. placed r n c list (e ∙ ap unplaced f))
+
+pub comment-accepted : (front text back : List ℕ) → endsLine true front ≡ true → isText text ≡ true → (n c : ℕ) (list : List ℤ)
+    → (reading (front ++ (commentLine text ++ back)) ≡ gives n c list) ↔ (reading (front ++ back) ≡ gives n c list)
+comment-accepted front text back e h = alike (reading (front ++ (commentLine text ++ back))) (reading (front ++ back)) (comment-skipped front text back e h)
+
+pub last-comment-accepted : (front text : List ℕ) → endsLine true front ≡ true → isText text ≡ true → (n c : ℕ) (list : List ℤ)
+    → (reading (front ++ 99 ∷ text) ≡ gives n c list) ↔ (reading front ≡ gives n c list)
+last-comment-accepted front text e h = alike (reading (front ++ 99 ∷ text)) (reading front) (last-comment-skipped front text e h)

@@ -1,5 +1,5 @@
 -- The rule file's two calls, the reader first (document 01, "The rule file"): "a file in the writer's form, read and written, is that file".
-use mathlib.Core.Path.{_≡_, refl, ap, _∙_}
+use mathlib.Core.Path.{_≡_, refl, sym, ap, _∙_}
 use mathlib.Core.List.{List, _++_}
 use mathlib.Core.Option.{Option, none, some}
 use Prim.Native.Nat.{ℕ, _≤_}
@@ -17,6 +17,7 @@ use Rattle.dimacs.specs.Format.{Reading, refuses, gives, reading}
 use Rattle.dimacs.specs.Written.{written}
 use Rattle.rule_writer.specs.Write.{lentToWrite, writeReply, writeOutput}
 use Rattle.rule_reader.specs.Read.{readReply, readOutput}
+use Rattle.round_trip.specs.Rules as rules
 
 -- what a call that answered has filled is its result
 filled-front : (o : Option Refusal) (list out : List ℤ) (v x y z n c : ℕ) → unless o (answering 1 n c (length list)) ≡ answering v x y z
@@ -26,6 +27,13 @@ filled-front none list out v x y z n c e =
     ((cc), rw (← size) (take-append-seam list (drop (length list) out)))
 filled-front (some r) list out v x y z n c e = let z : _≡_ {A = ℕ} 0 1 = cc in absurd (omega arith)
 
+-- the writer takes what a file reads as, where it was lent the room
+unrefused : (file out : List ℕ) (n c : ℕ) (l : List ℤ) → reading file ≡ gives n c l → length (written n l) ≤ length out → refusalOf (lentToWrite n l (length out)) ≡ none
+unrefused file out n c l read room =
+    let a = accepted file n c l read in
+    admitted-room (plainProblem n l) (length (written n l)) (length out) (plain-admitted n l (a .least) (a .most) (a .sound))
+    ∙ room-enough (length (written n l)) (length out) room
+
 module _ (file out : List ℕ) where
   -- the writer answers with the file's length, and leaves the file
   abbrev pub WritesFile : ℕ → List ℤ → Type 0
@@ -33,15 +41,8 @@ module _ (file out : List ℕ) where
 
   -- so it does with what a file in its form reads as
   module _ (room : length file ≤ length out) (n c : ℕ) (l : List ℤ) (read : reading file ≡ gives n c l) (form : written n l ≡ file) where
-    unrefused : refusalOf (lentToWrite n l (length out)) ≡ none
-    unrefused =
-        let a = accepted file n c l read in
-        let space : length (written n l) ≤ length out = omega (arith, ap length form) in
-        admitted-room (plainProblem n l) (length (written n l)) (length out) (plain-admitted n l (a .least) (a .most) (a .sound))
-        ∙ room-enough (length (written n l)) (length out) space
-
     writes : WritesFile n l
-    writes = rw (unrefused) (
+    writes = rw (unrefused file out n c l read (omega (arith, ap length form))) (
       ap (λ (s : List ℕ). answering 1 (length s) 0 0) form,
       ap (λ (s : List ℕ). s ++ drop (length s) out) form,
     )
@@ -61,3 +62,10 @@ module _ (n₀ : ℕ) (l₀ : List ℤ) (file : List ℕ) (form : file ≡ writt
       go (gives m k l) e =
           let same = filled-front (tooShort (length l) (length list)) l list v n c size m k (rw (e) at taken) in
           rw (e, same .0, same .1) (writes file out room m k l e (written-read n₀ l₀ file form m k l e))
+
+-- The rules of any file that reading accepts come back, though not always its bytes (document 02, L1): "files with remarks no longer come back byte for byte; their rules do". What the writer makes of them reads as the file does.
+pub rules-return : (file out : List ℕ) (n c : ℕ) (l : List ℤ) → reading file ≡ gives n c l → length (written n l) ≤ length out
+    → reading (take (length (written n l)) (writeOutput n l out)) ≡ reading file
+rules-return file out n c l read room =
+    let a = accepted file n c l read in
+    rules.read-back n l out (unrefused file out n c l read room) ∙ ap (λ (k : ℕ). gives n k l) (sym (a .count)) ∙ sym read
