@@ -1,9 +1,11 @@
 //! walks table                     this library's nearest beside two Rust walks, as a table
+//! walks reading                   this library's reader of rule files beside the reference's, as a table
 //! walks write FOLDER              the books of the process table: FOLDER/CLASS/SEED.cnf, .wish, .opb
 //! walks rewrite CNF WISH D OUT    the rewritten rule file at limit D
 
 mod books;
 mod counted;
+mod reading;
 
 use books::Book;
 use reference::{rule_file, totalizer, walk, wish_file};
@@ -131,6 +133,20 @@ fn table() {
     }
 }
 
+fn readers() {
+    println!("| file | bytes | library: ms a call | MB/s | reference: ms a call | MB/s |");
+    println!("|---|---|---|---|---|---|");
+    for (name, file) in reading::files() {
+        let mut rules = vec![0; 40_000];
+        let answer = powhanire::read_rules(&file, &mut rules);
+        let book = rule_file::read(&file).unwrap();
+        assert_eq!((answer.refusal, &rules[..answer.value[2] as usize]), (0, &book.list[..]), "not the same rules");
+        let times = [seconds(|| powhanire::read_rules(&file, &mut rules)), seconds(|| rule_file::read(&file))];
+        let cells = times.map(|t| format!("{} | {:.0}", short(t * 1000.0), file.len() as f64 / t / 1e6));
+        println!("| {name} | {} | {} |", file.len(), cells.join(" | "));
+    }
+}
+
 /// The rules with the broken wishes to be made fewest, for a pseudo-Boolean solver. A wish for on costs 1 less
 /// the setting, and that 1 is left out, so the wishes for on are to be added to the optimum.
 fn opb(book: &Book) -> String {
@@ -179,8 +195,9 @@ fn main() {
     let words: Vec<String> = std::env::args().skip(1).collect();
     match words.iter().map(String::as_str).collect::<Vec<_>>()[..] {
         ["table"] => table(),
+        ["reading"] => readers(),
         ["write", folder] => write(folder),
         ["rewrite", cnf, wish, d, out] => rewrite(cnf, wish, d.parse().unwrap(), out),
-        _ => panic!("walks table | write FOLDER | rewrite CNF WISH D OUT"),
+        _ => panic!("walks table | reading | write FOLDER | rewrite CNF WISH D OUT"),
     }
 }

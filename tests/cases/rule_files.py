@@ -79,9 +79,10 @@ def comments_after_header():
         'c x\n1 1 0\n3 0\n;1\nc x\n1 0\n3 0\n;1 -2 0\n3 0\nc x\n1;1 -2 0\n3 0\nc x\n0;1 -2 0\n3 0\nc x\nd'
     ).split(';'):
         read(header(3, 2) + text.encode('latin-1'))
+    read(b'c x\r\np cnf 3 2\r\nc\r\n1 -2 0\r\n3 0\r\n')
     for text in ('', 'c', 'c\n', 'c x\nc\n', 'c\n0', 'c\n c', '\nc', '\n\nc\n', ' \nc'):
         read(header(3, 0) + text.encode('ascii'))
-    for byte in range(256):
+    for byte in (0, 8, 9, 10, 11, 12, 13, 14, 31, 32, 33, 45, 48, 67, 98, 99, 100, 112, 133, 227, 255):
         read(header(3, 1) + bytes([byte]) + b' x\n1 0\n')
         read(header(3, 1) + b'1 0' + bytes([byte]) + b'c\n')
         read(header(3, 1) + b'c' + bytes([byte]) + b'1 0\n1 0\n')

@@ -1,4 +1,4 @@
-/* The calls from C: document 01's examples, each call on its largest and deepest input, the stack that each
+/* The calls from C: the examples of documents 01 and 02, each call on its largest and deepest input, the stack that each
  * takes, and several threads at once. Also compiled as C++. */
 #include "powhanire.h"
 
@@ -42,11 +42,18 @@ enum { RULES = 40000, RULE_FILE = 173015, WISH_FILE = 720, REWRITTEN = 38914 };
 static int32_t out_rules[RULES], out_rewritten[REWRITTEN];
 static uint8_t out_file[RULE_FILE], out_row[256], out_wishes[WISH_FILE], out_choice[640];
 
-/* ---- document 01's examples ---- */
+/* ---- examples ---- */
 
 static void rule_file(const char *text, uint64_t refusal, uint64_t place) {
     answer a = powhanire_read_rules((const uint8_t *)text, strlen(text), out_rules, RULES);
     is(text, a, refusal, place, refusal == 0, a.value[0], a.value[1], a.value[2]);
+}
+
+/* A file of the one rule `1`. */
+static void one_rule(const char *text) {
+    out_rules[0] = out_rules[1] = 9;
+    is(text, powhanire_read_rules((const uint8_t *)text, strlen(text), out_rules, RULES), 0, 0, 1, 1, 1, 2);
+    expect(out_rules[0] == 1 && out_rules[1] == 0, text);
 }
 
 static void examples(void) {
@@ -78,6 +85,11 @@ static void examples(void) {
     rule_file("p cnf 1 1\n2 0", 4, 10);
     rule_file("p cnf 1 1\n1 -1 0", 5, 12);
     rule_file("p cnf 1 1\n1", 6, 11);
+    /* document 02, L1: comment lines between the rules */
+    one_rule("p cnf 1 1\nc a heading\n1 0\n");
+    one_rule("p cnf 1 1\n1\ncat 1 2 0\n0\nc");
+    rule_file("p cnf 1 1\n1 c\n0\n", 3, 12);
+    rule_file("p cnf 1 1\n1 0\rc\n", 3, 14);
     is("15 bytes", powhanire_read_wishes((const uint8_t *)"    1    0    0", 15, out_row, 256), 8, 0, 0, 0, 0, 0);
 
     /* a pointer lent with length 0 is not followed */

@@ -3,19 +3,41 @@ use mathlib.Core.Path.{_≡_, refl, sym, ap, ap₂, subst, _∙_}
 use mathlib.Core.Bool.{Bool, true, false, cond, not, _&&_, and-false, and-eq-true-iff, true≢false}
 use mathlib.Core.List.{List, [], _∷_, _++_, append-assoc}
 use mathlib.Core.Logic.{_⊎_, inl, inr}
-use mathlib.Core.Option.{Option, none, some, Option·none-ne-some}
-use Prim.Native.Nat.{ℕ, suc, _+_, _≤_}
+use mathlib.Core.Option.{Option, none, some, Option·none-ne-some, Option·some-injective}
+use Prim.Native.Nat.{ℕ, suc, _+_, _≤_, _<_}
 use native.Mathlib.Omega.{arith}
 use lib.Dec.{eqb, leb, ltb}
 use lib.ListN.{length, drop, length-append}
 use borrow.Author.Tests.{eqb-true, not-true}
 use Rattle.formula.specs.Formula.{all}
 use Rattle.decimal.specs.Decimal.{number, isDigit, onlyDigits}
-use Rattle.dimacs.specs.Format.{preamble, startsWith, before, beyond, Header, header, numbered}
+use Rattle.dimacs.specs.Format.{preamble, startsWith, without, before, beyond, Header, header, numbered}
 use Rattle.dimacs.specs.Laws.{leading-through}
 use Rattle.dimacs.specs.RoundTrip.{header-parts}
-use Rattle.comments.specs.Lines.{without, endsLine}
-use Rattle.comments.specs.Rest.{numbered-size}
+use Rattle.comments.specs.Lines.{endsLine}
+
+-- a header has some bytes
+numbered-size : (o p : Option ℕ) (size : ℕ) (h : Header) → numbered o p size ≡ some h → size ≡ h .size
+numbered-size none p size h e = absurd (Option·none-ne-some h e)
+numbered-size (some n) none size h e = absurd (Option·none-ne-some h e)
+numbered-size (some n) (some c) size h e =
+    ap (λ (g : Header). g .size) (Option·some-injective (record { variables = n; clauses = c; size = size }) h e)
+
+pub header-some : (s : List ℕ) (h : Header) → header s ≡ some h → 0 < h .size
+header-some s h e = go (startsWith preamble s && ltb (length c) (length rest)) e
+  where
+    n : List ℕ
+    n = before 32 (drop 6 s)
+
+    rest : List ℕ
+    rest = beyond 32 (drop 6 s)
+
+    c : List ℕ
+    c = before 10 rest
+
+    go : (t : Bool) → cond t (numbered (number n) (number c) (6 + (suc (length n) + suc (length c)))) none ≡ some h → 0 < h .size
+    go true f = omega (arith, numbered-size (number n) (number c) (6 + (suc (length n) + suc (length c))) h f)
+    go false f = absurd (Option·none-ne-some h f)
 
 -- bytes up to the first that is stop, and behind it
 record Found (stop : ℕ) (s : List ℕ) : Type 0 where
@@ -65,7 +87,7 @@ line-feed-digits : (v y : List ℕ) → onlyDigits (v ++ 10 ∷ y) ≡ false
 line-feed-digits [] y = refl
 line-feed-digits (b ∷ v) y = rw (line-feed-digits v y) (and-false (isDigit b))
 
-no-number : (w : List ℕ) → onlyDigits w ≡ false → number w ≡ none
+pub no-number : (w : List ℕ) → onlyDigits w ≡ false → number w ≡ none
 no-number w e = rw (e, and-false (leb (length w) 5), and-false (leb 1 (length w)))
 
 unnumbered : (t : Bool) (o p : Option ℕ) (size : ℕ) → o ≡ none → cond t (numbered o p size) none ≡ none

@@ -1,7 +1,8 @@
+pub mod ByLines
 pub mod Calls
 pub mod Headers
 pub mod Lines
-pub mod Rest
+pub mod Moved
+pub mod Preface
+pub mod Shifted
 pub mod Skipped
-pub mod Unplaced
-pub mod Words

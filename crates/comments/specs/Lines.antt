@@ -1,15 +1,10 @@
 -- Comment lines put into a rule file (document 02, L1, "Remarks between the rules").
-use mathlib.Core.Bool.{Bool, not}
+use mathlib.Core.Bool.{Bool, cond}
 use mathlib.Core.List.{List, [], _∷_, _++_}
-use Prim.Native.Nat.{ℕ}
-use lib.Dec.{eqb}
-use Rattle.formula.specs.Formula.{all}
+use Prim.Native.Nat.{ℕ, _+_}
+use lib.Dec.{eqb, leb}
 use Rattle.refusal.specs.Reply.{refusal}
-use Rattle.dimacs.specs.Format.{Reading, refuses, gives}
-
--- no byte of some is stop
-abbrev pub without : ℕ → List ℕ → Bool
-without stop s = all (λ (b : ℕ). not (eqb b stop)) s
+use Rattle.dimacs.specs.Format.{without, Reading, refuses, gives}
 
 -- a comment line: `c`, its text, in which there is no line feed, and the line feed that ends it
 abbrev pub commentLine : List ℕ → List ℕ
@@ -23,7 +18,11 @@ abbrev pub endsLine : Bool → List ℕ → Bool
 endsLine here [] = here
 endsLine here (b ∷ s) = endsLine (eqb b 10) s
 
--- What reading gives, but for the place of a refusal: N, C and the list, or the refusal's number.
-abbrev pub unplaced : Reading → Reading
-unplaced (refuses r) = refuses (refusal (r .number) 0)
-unplaced (gives n c list) = gives n c list
+-- Where a place of a file comes to stand when so many bytes are put in at another: the places from there on move.
+abbrev pub moved : ℕ → ℕ → ℕ → ℕ
+moved from by place = cond (leb from place) (place + by) place
+
+-- what reading gives, with the place of a refusal so moved
+abbrev pub movedReading : ℕ → ℕ → Reading → Reading
+movedReading from by (refuses r) = refuses (refusal (r .number) (moved from by (r .place)))
+movedReading from by (gives n c list) = gives n c list

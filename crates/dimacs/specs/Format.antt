@@ -7,7 +7,7 @@ use lib.Dec.{eqb, leb, ltb}
 use lib.IntN.{ℤ, pos, negsuc}
 use lib.ListN.{length, drop}
 use Rattle.literal.specs.Literal.{variable}
-use Rattle.formula.specs.Formula.{closes}
+use Rattle.formula.specs.Formula.{all, closes}
 use Rattle.refusal.specs.declared.Refusal.{Refusal}
 use Rattle.refusal.specs.Reply.{refusal, first, cause}
 use Rattle.limits.specs.Limits.{maxVariables, maxClauses, maxLiterals}
@@ -43,6 +43,10 @@ abbrev pub numbered : Option ℕ → Option ℕ → ℕ → Option Header
 numbered none c size = none
 numbered (some n) none size = none
 numbered (some n) (some c) size = some (record { variables = n; clauses = c; size = size })
+
+-- no byte of some is stop
+abbrev pub without : ℕ → List ℕ → Bool
+without stop s = all (λ (b : ℕ). not (eqb b stop)) s
 
 -- the bytes before the first that is stop, and those after it
 abbrev pub before : ℕ → List ℕ → List ℕ

@@ -14,7 +14,7 @@ use Rattle.formula.specs.Formula.{all}
 use Rattle.decimal.specs.Decimal.{isDigit, onlyDigits}
 use Rattle.decimal.specs.Laws.{digit-low}
 use Rattle.dimacs.specs.Class.{blank, digit, minus, letterC, other, isBlank, classOf}
-use Rattle.dimacs.specs.Format.{before, beyond}
+use Rattle.dimacs.specs.Format.{without, before, beyond}
 use Rattle.dimacs.specs.Tokens.{leading, inToken}
 
 -- a digit is in the class of digits
@@ -68,17 +68,17 @@ leading-through p (x ∷ w) s h =
     rw (parts .0) (ap (λ (l : List ℕ). x ∷ l) (leading-through p w s (parts .1)))
 
 -- bytes before the first that is stop, and those behind it
-pub before-stop : (w : List ℕ) (stop : ℕ) (r : List ℕ) → all (λ (b : ℕ). not (eqb b stop)) w ≡ true → before stop (w ++ stop ∷ r) ≡ w
+pub before-stop : (w : List ℕ) (stop : ℕ) (r : List ℕ) → without stop w ≡ true → before stop (w ++ stop ∷ r) ≡ w
 before-stop w stop r h = leading-seam (λ (b : ℕ). not (eqb b stop)) w stop r h (rw (eq-eqb stop stop refl))
 
-pub beyond-stop : (w : List ℕ) (stop : ℕ) (r : List ℕ) → all (λ (b : ℕ). not (eqb b stop)) w ≡ true → beyond stop (w ++ stop ∷ r) ≡ r
+pub beyond-stop : (w : List ℕ) (stop : ℕ) (r : List ℕ) → without stop w ≡ true → beyond stop (w ++ stop ∷ r) ≡ r
 beyond-stop w stop r h =
     let next : suc (length w) ≡ length w + 1 = omega arith in
     rw (before-stop w stop r h, next) (drop-append-add w (stop ∷ r) 1)
 
--- digits have none below them
-pub digits-before : (w : List ℕ) (stop : ℕ) → stop < 48 → onlyDigits w ≡ true → all (λ (b : ℕ). not (eqb b stop)) w ≡ true
-digits-before w stop h e = all-digits (λ (b : ℕ). not (eqb b stop)) (λ b f. rw (ne-eqb b stop (omega (arith, digit-low b f)))) w e
+-- no digit is below 48
+pub digits-without : (w : List ℕ) (stop : ℕ) → stop < 48 → onlyDigits w ≡ true → without stop w ≡ true
+digits-without w stop h e = all-digits (λ (b : ℕ). not (eqb b stop)) (λ b f. rw (ne-eqb b stop (omega (arith, digit-low b f)))) w e
 
 -- how far a run goes from an index on: a byte that passes, one that does not, the end
 pub run-more : (p : ℕ → Bool) (s : List ℕ) (i : ℕ) → i < length s → p (getD s i 0) ≡ true

@@ -1,6 +1,6 @@
 -- "Every sound list, written and read, is that list again" (document 01, "The rule file").
 use mathlib.Core.Path.{_≡_, refl, ap, _∙_}
-use mathlib.Core.Bool.{Bool, true, false, cond, not, _&&_, and-eq-true-iff}
+use mathlib.Core.Bool.{Bool, true, false, cond, _&&_, and-eq-true-iff}
 use mathlib.Core.List.{List, [], _∷_, _++_, map, append-assoc}
 use mathlib.Core.Option.{none, some, Option·some-ne-none}
 use Prim.Native.Nat.{ℕ, suc, _+_, _≤_, _<_}
@@ -20,8 +20,8 @@ use Rattle.decimal.specs.Decimal.{decimal, number, onlyDigits, isDigit}
 use Rattle.decimal.specs.Laws.{decimal-digits, decimal-some, number-decimal}
 use Rattle.text.specs.Text.{numeral}
 use Rattle.dimacs.specs.Class.{letterC, classOf}
-use Rattle.dimacs.specs.Format.{header, numbered, outside, preamble, positive, signed, element, badToken, badTokens, gives, reading, readFrom}
-use Rattle.dimacs.specs.Laws.{digit-class, digit-in-token, all-digits, before-stop, beyond-stop, digits-before}
+use Rattle.dimacs.specs.Format.{without, header, numbered, outside, preamble, positive, signed, element, badToken, badTokens, gives, reading, readFrom}
+use Rattle.dimacs.specs.Laws.{digit-class, digit-in-token, all-digits, before-stop, beyond-stop, digits-without}
 use Rattle.dimacs.specs.TokenLaws.{mayBegin, letter-opens, token-begins, kept-outside, tokens-token, blank-outside}
 use Rattle.dimacs.specs.Tokens.{inToken, Token, Position, within, step, begins, tokens, positionAt, tokensFrom}
 use Rattle.dimacs.specs.Sizes.{sound-step, zeros-some, sound-clauses}
@@ -147,7 +147,7 @@ good-tokens (x ∷ l) n c size s i at h e f =
         }
 
 -- a header reads as the numbers of its two fields
-pub header-parts : (w v r : List ℕ) → all (λ (b : ℕ). not (eqb b 32)) w ≡ true → all (λ (b : ℕ). not (eqb b 10)) v ≡ true
+pub header-parts : (w v r : List ℕ) → without 32 w ≡ true → without 10 v ≡ true
     → header (preamble ++ (w ++ 32 ∷ (v ++ 10 ∷ r))) ≡ numbered (number w) (number v) (6 + (suc (length w) + suc (length v)))
 header-parts w v r h k =
     rw (
@@ -160,7 +160,7 @@ header-parts w v r h k =
 -- the written header reads as N and C
 pub header-fields : (w v r : List ℕ) → onlyDigits w ≡ true → onlyDigits v ≡ true
     → header (preamble ++ (w ++ 32 ∷ (v ++ 10 ∷ r))) ≡ numbered (number w) (number v) (6 + (suc (length w) + suc (length v)))
-header-fields w v r h k = header-parts w v r (digits-before w 32 (omega arith) h) (digits-before v 10 (omega arith) k)
+header-fields w v r h k = header-parts w v r (digits-without w 32 (omega arith) h) (digits-without v 10 (omega arith) k)
 
 pub header-joined : (n c : ℕ) (r : List ℕ) → headerText n c ++ r ≡ preamble ++ (decimal n ++ 32 ∷ (decimal c ++ 10 ∷ r))
 header-joined n c r =

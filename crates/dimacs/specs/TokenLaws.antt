@@ -23,11 +23,11 @@ mayBegin between = true
 mayBegin within = false
 mayBegin comment = false
 
-pub line-or-blank : (t : Bool) → mayBegin (cond t lineStart between) ≡ true
+line-or-blank : (t : Bool) → mayBegin (cond t lineStart between) ≡ true
 line-or-blank true = refl
 line-or-blank false = refl
 
--- a line feed is blank, so neither a byte of a token nor the `c` of a comment is one
+-- a line feed is blank, so a byte of a token is none
 pub no-line-feed : (b : ℕ) → inToken b ≡ true → eqb b 10 ≡ false
 unfolding classOf
 no-line-feed b e = go (eqb b 10) refl
@@ -36,7 +36,7 @@ no-line-feed b e = go (eqb b 10) refl
     go true f = absurd (true≢false (sym e ∙ ap inToken (eqb-true b 10 f)))
     go false f = f
 
--- only the letter c opens one
+-- only the letter c opens a comment
 pub letter-opens : (p : Position) (b : ℕ) → eqb (classOf b) letterC ≡ false → opensComment p b ≡ false
 letter-opens lineStart b e = e
 letter-opens between b e = refl
@@ -63,15 +63,15 @@ opened p b e = (opens p e, ap not (go (isGap b) refl))
     go true f = absurd (true≢false (sym e ∙ blank-opens-none p b f))
     go false f = f
 
--- so the letter c is no line feed
-pub letter-line : (b : ℕ) → eqb (classOf b) letterC ≡ true → eqb b 10 ≡ false
-letter-line b e = no-line-feed b (opened lineStart b e .1)
-
 step-past : (p : Position) (b : ℕ) → mayBegin p ≡ true → opensComment p b ≡ false → step p b ≡ pastByte b
 step-past lineStart b o e = rw e
 step-past between b o e = refl
 step-past within b o e = refl
 step-past comment b o e = absurd (true≢false (sym o))
+
+-- the letter c is no line feed
+pub letter-line : (b : ℕ) → eqb (classOf b) letterC ≡ true → eqb b 10 ≡ false
+letter-line b e = no-line-feed b (opened lineStart b e .1)
 
 -- only a byte of a token has one within behind it
 blank-past : (b : ℕ) → isGap b ≡ true → pastByte b ≡ cond (eqb b 10) lineStart between

@@ -68,7 +68,7 @@ abbrev pub tokens : Position → ℕ → List ℕ → List Token
 tokens p at [] = []
 tokens p at (b ∷ s) = starting (begins p b) (record { place = at; bytes = b ∷ leading inToken s }) (tokens (step p b) (suc at) s)
 
--- where the byte at a kept offset stands, which is past the header or a whole token: first in its line at the file's beginning and behind a line feed. Behind a token the byte is blank, or the file ends, so that `between` is as good as `within` there. No kept offset is in a comment.
+-- where the byte at a kept offset stands, which is past the header or a whole token: first in its line behind a line feed (and at the file's beginning). Behind a token the byte is blank, or the file ends, so that `between` is as good as `within` there. No kept offset is in a comment.
 abbrev pub positionAt : List ℕ → ℕ → Position
 positionAt file zero = lineStart
 positionAt file (suc k) = cond (eqb (getD file k 0) 10) lineStart between

@@ -5,7 +5,8 @@ ghost use lib.ListN.{length, getD, drop};
 ghost use Rattle.dimacs.specs.Format.{before};
 ghost use Rattle.dimacs.specs.Tokens.{opensComment, positionAt};
 
-// Where a byte comes next from a place on: at the first that is `stop`, or at the file's end.
+// Where a byte comes next from a place on: at the first that is `stop`, or at the file's end. From a place past
+// the end it is that place.
 pub fn find_byte(file: &[u8], from: usize, stop: u8) -> usize
     ensures { λ r. ⌜ r ≡ from + length (before stop (drop from (now (file .entry)))) ⌝ }
 {
@@ -19,7 +20,7 @@ pub fn find_byte(file: &[u8], from: usize, stop: u8) -> usize
     i
 }
 
-// Whether a comment line begins at a kept offset: `c`, as the first byte of its line.
+// Whether a comment line begins at a place: `c`, as the first byte of its line.
 pub fn opens_comment(file: &[u8], at: usize) -> bool
     requires { ⌜ at < length (now file) ⌝ }
     ensures { λ r. ⌜ r ≡ opensComment (positionAt (now (file .entry)) at) (getD (now (file .entry)) at 0) ⌝ }

@@ -20,7 +20,7 @@ pub enum NextToken {
     },
 }
 
-// The next token from an offset on.
+// The next token from an offset on, which is past the header or a token.
 pub fn token_at(file: &[u8], at: usize) -> NextToken
     ensures { λ r. ⌜ r ≡ nextOf (tokensFrom (now (file .entry)) at) ⌝ }
 {

@@ -1,4 +1,4 @@
-//! The nine calls, written from document 01's text alone and from nothing of the library, so that a
+//! The nine calls, written from the text of documents 01 and 02 alone and from nothing of the library, so that a
 //! comparison of the two can find a misreading in either. It is plain rather than quick.
 
 pub mod lent;

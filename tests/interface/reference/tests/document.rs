@@ -62,12 +62,13 @@ fn comments_between_rules() {
     }
     for (file, refusal, place) in [
         ("p cnf 2 1\nc only\nc remarks", 6, 26),
+        ("c x\r\np cnf 2 1\r\n1 0\r\n", 1, 5),
         ("p cnf 2 1\n c\n1 0\n", 3, 11),
         ("p cnf 2 1\n1 c\n0\n", 3, 12),
         ("p cnf 2 1\n1 2 0 c x\n", 3, 16),
         ("p cnf 2 1\n1 2 0\rc x\n", 3, 16),
         ("p cnf 2 1\n1 0\nc\n1 0\n", 6, 16),
-        ("p cnf 2 1\nc\r1 0\n", 6, 17),
+        ("p cnf 2 1\nc\r1 0\n", 6, 16),
     ] {
         assert_eq!(refused(read(file).0), (refusal, place), "{file:?}");
     }
