@@ -1,9 +1,10 @@
 // The lines of a rule file: where a byte comes next, and where a comment line begins.
+ghost use mathlib.Core.Bool.{cond};
 ghost use mathlib.Core.Path.{_≡_};
 ghost use Prim.Native.Nat.{_+_, _<_};
 ghost use lib.ListN.{length, getD, drop};
 ghost use Rattle.dimacs.specs.Format.{before};
-ghost use Rattle.dimacs.specs.Tokens.{opensComment, positionAt};
+ghost use Rattle.dimacs.specs.Tokens.{lineStart, between, opensComment, positionAt};
 
 // Where a byte comes next from a place on: at the first that is `stop`, or at the file's end. From a place past
 // the end it is that place.
@@ -25,9 +26,17 @@ pub fn opens_comment(file: &[u8], at: usize) -> bool
     requires { ⌜ at < length (now file) ⌝ }
     ensures { λ r. ⌜ r ≡ opensComment (positionAt (now (file .entry)) at) (getD (now (file .entry)) at 0) ⌝ }
 {
-    if dimacs::class_of(file[at]) != dimacs::LETTER_C {
+    if !begins_line(file, at) {
         return false;
     }
+    dimacs::class_of(file[at]) == dimacs::LETTER_C
+}
+
+// Whether a line begins at a place: at the file's beginning and behind a line feed.
+fn begins_line(file: &[u8], at: usize) -> bool
+    requires { ⌜ at < length (now file) ⌝ }
+    ensures { λ r. ⌜ positionAt (now (file .entry)) at ≡ cond r lineStart between ⌝ }
+{
     if at == 0 {
         return true;
     }
