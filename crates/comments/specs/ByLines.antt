@@ -2,19 +2,20 @@
 use mathlib.Core.Path.{_≡_, refl, sym, ap, ap₂, _∙_}
 use mathlib.Core.Bool.{Bool, true, false, cond, not, _||_, and-eq-true-iff, and-false, true≢false}
 use mathlib.Core.List.{List, [], _∷_, _++_, append-nil}
-use mathlib.Core.Option.{none}
-use Prim.Native.Nat.{ℕ, suc, _+_}
+use mathlib.Core.Option.{none, some}
+use Prim.Native.Nat.{ℕ, zero, suc, _+_, _<_}
 use native.Mathlib.Omega.{arith}
 use lib.Dec.{eqb}
-use lib.ListN.{length}
+use lib.ListN.{length, getD, drop}
+use lib.Seq.{getD-drop}
 use borrow.Author.Tests.{eqb-true, not-true}
 use Rattle.formula.specs.Formula.{any}
 use Rattle.decimal.specs.Decimal.{number, isDigit, onlyDigits}
 use Rattle.dimacs.specs.Class.{letterC, minus, classOf}
-use Rattle.dimacs.specs.Format.{positive, negative, signed}
+use Rattle.dimacs.specs.Format.{Header, header, positive, negative, signed}
 use Rattle.dimacs.specs.Laws.{class-other}
-use Rattle.dimacs.specs.Tokens.{leading, isGap, inToken, Token, Position, lineStart, between, within, comment, starting, tokens}
-use Rattle.comments.specs.Headers.{no-number}
+use Rattle.dimacs.specs.Tokens.{leading, isGap, inToken, Token, Position, lineStart, between, within, comment, starting, tokens, positionAt, tokensFrom}
+use Rattle.comments.specs.Headers.{header-some, header-feed, no-number}
 use Rattle.comments.specs.Lines.{isText}
 use Rattle.comments.specs.Shifted.{comment-over, comment-out}
 
@@ -108,6 +109,18 @@ last-line w at h =
     sym (ap (tokens lineStart at) (append-nil w))
     ∙ line [] (λ (k : ℕ). []) (λ v. ap (leading inToken) (append-nil v)) none-next (λ k. refl) (λ text k e. ap (tokens comment k) (append-nil text) ∙ comment-out text k e) w at h
     ∙ append-nil (lineTokens at w)
+
+-- Behind the header a line begins, so what reading takes for the tokens of a file are those of the lines there.
+pub body-lines : (file : List ℕ) (at : ℕ) (h : Header) → header (drop at file) ≡ some h → tokensFrom file (at + h .size) ≡ tokens lineStart (at + h .size) (drop (at + h .size) file)
+body-lines file at h e = go (h .size) refl (header-some (drop at file) h e)
+  where
+    go : (size : ℕ) → h .size ≡ size → 0 < size → tokensFrom file (at + size) ≡ tokens lineStart (at + size) (drop (at + size) file)
+    go zero f l = absurd (omega arith)
+    go (suc k) f l =
+        let next : at + suc k ≡ suc (at + k) = omega arith in
+        let feed : getD file (at + k) 0 ≡ 10 = sym (getD-drop at file k 0) ∙ header-feed (drop at file) h e k f in
+        let place : positionAt file (at + suc k) ≡ lineStart = ap (positionAt file) next ∙ ap (λ (b : ℕ). cond (eqb b 10) lineStart between) feed in
+        ap (λ (p : Position). tokens p (at + suc k) (drop (at + suc k) file)) place
 
 -- "A `c` inside a line still makes a malformed token" (document 02, L1).
 letter-digits : (w : List ℕ) → any (λ (b : ℕ). eqb (classOf b) letterC) w ≡ true → onlyDigits w ≡ false

@@ -7,37 +7,56 @@ use mathlib.Core.Option.{Option, none, some, Option·none-ne-some, Option·some-
 use Prim.Native.Nat.{ℕ, suc, _+_, _≤_, _<_}
 use native.Mathlib.Omega.{arith}
 use lib.Dec.{eqb, leb, ltb}
-use lib.ListN.{length, drop, length-append}
-use borrow.Author.Tests.{eqb-true, not-true}
+use lib.ListN.{length, getD, drop, length-append}
+use lib.Seq.{getD-drop}
+use borrow.Author.Tests.{eqb-true, ltb-true, not-true, not-false}
 use Rattle.formula.specs.Formula.{all}
 use Rattle.decimal.specs.Decimal.{number, isDigit, onlyDigits}
 use Rattle.dimacs.specs.Format.{preamble, startsWith, without, before, beyond, Header, header, numbered}
-use Rattle.dimacs.specs.Laws.{leading-through}
+use Rattle.dimacs.specs.Laws.{leading-through, run-ends}
 use Rattle.dimacs.specs.RoundTrip.{header-parts}
 use Rattle.comments.specs.Lines.{endsLine}
 
--- a header has some bytes
+-- the bytes of a header: its two fields
 numbered-size : (o p : Option ℕ) (size : ℕ) (h : Header) → numbered o p size ≡ some h → size ≡ h .size
 numbered-size none p size h e = absurd (Option·none-ne-some h e)
 numbered-size (some n) none size h e = absurd (Option·none-ne-some h e)
 numbered-size (some n) (some c) size h e =
     ap (λ (g : Header). g .size) (Option·some-injective (record { variables = n; clauses = c; size = size }) h e)
 
-pub header-some : (s : List ℕ) (h : Header) → header s ≡ some h → 0 < h .size
-header-some s h e = go (startsWith preamble s && ltb (length c) (length rest)) e
-  where
-    n : List ℕ
-    n = before 32 (drop 6 s)
+module _ (s : List ℕ) (h : Header) (e : header s ≡ some h) where
+  abbrev n-bytes : List ℕ
+  n-bytes = before 32 (drop 6 s)
 
-    rest : List ℕ
-    rest = beyond 32 (drop 6 s)
+  abbrev n-rest : List ℕ
+  n-rest = beyond 32 (drop 6 s)
 
-    c : List ℕ
-    c = before 10 rest
+  abbrev c-bytes : List ℕ
+  c-bytes = before 10 n-rest
 
-    go : (t : Bool) → cond t (numbered (number n) (number c) (6 + (suc (length n) + suc (length c)))) none ≡ some h → 0 < h .size
-    go true f = omega (arith, numbered-size (number n) (number c) (6 + (suc (length n) + suc (length c))) h f)
-    go false f = absurd (Option·none-ne-some h f)
+  parts : (h .size ≡ 6 + (suc (length n-bytes) + suc (length c-bytes))) × (length c-bytes < length n-rest)
+  parts = go (startsWith preamble s) (ltb (length c-bytes) (length n-rest)) refl e
+    where
+      size : ℕ
+      size = 6 + (suc (length n-bytes) + suc (length c-bytes))
+
+      go : (t u : Bool) → ltb (length c-bytes) (length n-rest) ≡ u → cond (t && u) (numbered (number n-bytes) (number c-bytes) size) none ≡ some h
+          → (h .size ≡ size) × (length c-bytes < length n-rest)
+      go true true f g = (sym (numbered-size (number n-bytes) (number c-bytes) size h g), ltb-true (length c-bytes) (length n-rest) f)
+      go true false f g = absurd (Option·none-ne-some h g)
+      go false u f g = absurd (Option·none-ne-some h g)
+
+  pub header-some : 0 < h .size
+  header-some = omega (arith, parts .0)
+
+  -- the last of them is a line feed
+  pub header-feed : (k : ℕ) → h .size ≡ suc k → getD s k 0 ≡ 10
+  header-feed k f =
+      let there : 6 + (suc (length n-bytes) + length c-bytes) ≡ k = omega (arith, parts .0) in
+      let byte : getD n-rest (length c-bytes) 0 ≡ getD s k 0 =
+      getD-drop (suc (length n-bytes)) (drop 6 s) (length c-bytes) 0 ∙ getD-drop 6 s (suc (length n-bytes) + length c-bytes) 0 ∙ ap (λ (j : ℕ). getD s j 0) there in
+      let ends : not (eqb (getD n-rest (length c-bytes) 0) 10) ≡ false = run-ends (λ (b : ℕ). not (eqb b 10)) n-rest (parts .1) in
+      sym byte ∙ eqb-true (getD n-rest (length c-bytes) 0) 10 (not-false (eqb (getD n-rest (length c-bytes) 0) 10) ends)
 
 -- bytes up to the first that is stop, and behind it
 record Found (stop : ℕ) (s : List ℕ) : Type 0 where
