@@ -82,7 +82,7 @@ typedef struct {
  * of signed numbers, each closed by 0, with blanks (9, 10, 13, 32) between the numbers. A line whose first byte is
  * `c` is a comment and is skipped up to its line feed or the end of the file, before the header and anywhere after
  * it, inside a rule too. After the header any other `c` outside comments makes a malformed token (3). Only a line
- * feed begins a line; a carriage return before the header's line feed is refused (1), after the header it is blank.
+ * feed begins a line. A carriage return in the header's line is refused (1); after the header it is blank.
  * value: settings N, rules C, length of the list. */
 powhanire_answer powhanire_read_rules(const uint8_t *file, size_t file_len,
                                       int32_t *rules, size_t rules_len);

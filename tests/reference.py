@@ -1,4 +1,4 @@
-"""The programs of the reference in tests/interface, which was written from documents 01 and 02 alone. They need cargo."""
+"""The programs of the reference in tests/interface, which was written from document 01 and the landed requests of 02 alone. They need cargo."""
 
 import os
 import pathlib

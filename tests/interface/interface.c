@@ -1,4 +1,4 @@
-/* The calls from C: the examples of documents 01 and 02, each call on its largest and deepest input, the stack that each
+/* The calls from C: document 01's examples, comment lines, each call on its largest and deepest input, the stack that each
  * takes, and several threads at once. Also compiled as C++. */
 #include "powhanire.h"
 

@@ -122,7 +122,7 @@ body-lines file at h e = go (h .size) refl (header-some (drop at file) h e)
         let place : positionAt file (at + suc k) ≡ lineStart = ap (positionAt file) next ∙ ap (λ (b : ℕ). cond (eqb b 10) lineStart between) feed in
         ap (λ (p : Position). tokens p (at + suc k) (drop (at + suc k) file)) place
 
--- "A `c` inside a line still makes a malformed token" (document 02, L1).
+-- a word with a `c` in it is no number
 letter-digits : (w : List ℕ) → any (λ (b : ℕ). eqb (classOf b) letterC) w ≡ true → onlyDigits w ≡ false
 letter-digits [] e = absurd (true≢false (sym e))
 letter-digits (b ∷ w) e = go (eqb (classOf b) letterC) refl (λ f. letter-digits w f) e
@@ -132,6 +132,7 @@ letter-digits (b ∷ w) e = go (eqb (classOf b) letterC) refl (λ f. letter-digi
     go true f later g = let none : isDigit b ≡ false = class-other b (λ d. omega (arith, eqb-true (classOf b) letterC f, d)) in rw none
     go false f later g = rw (later g) (and-false (isDigit b))
 
+-- A token with a `c` in it is malformed (document 02, L1): "A `c` inside a line still makes a malformed token."
 pub letter-malformed : (w : List ℕ) → any (λ (b : ℕ). eqb (classOf b) letterC) w ≡ true → signed w ≡ none
 letter-malformed [] e = refl
 letter-malformed (b ∷ w) e = go (eqb (classOf b) minus) refl

@@ -1,4 +1,4 @@
--- A comment line put in at any line's beginning changes nothing that is read of a rule file (document 02, L1): "A line beginning with `c` is now skipped anywhere after the header too."
+-- A comment line put in at any line's beginning changes nothing that is read of a rule file but the place of a refusal (document 02, L1): "A line beginning with `c` is now skipped anywhere after the header too."
 use mathlib.Core.Path.{_≡_, refl, sym, ap, ap₂, _∙_}
 use mathlib.Core.Bool.{Bool, true, false, cond}
 use mathlib.Core.List.{List, [], _∷_, _++_, append-assoc, append-nil}
@@ -206,7 +206,7 @@ last-comment-skipped front text e h =
     read-behind front (99 ∷ text) [] (suc (length text)) (last-behind text h) e
     ∙ ap (λ (s : List ℕ). movedReading (length front) (suc (length text)) (reading s)) (append-nil front)
 
--- So N, C and the list are the same with the comment line and without it, and one of the two files is accepted exactly when the other is.
+-- what is not refused has no place that moves
 stayed : (r : Reading) (from by n c : ℕ) (list : List ℤ) → movedReading from by r ≡ gives n c list → r ≡ gives n c list
 stayed (refuses r) from by n c list e = let z : _≡_ {A = ℕ} 0 1 = cc in absurd (omega arith)
 stayed (gives m k l) from by n c list e = e
@@ -214,6 +214,7 @@ stayed (gives m k l) from by n c list e = e
 alike : (r q : Reading) (from by : ℕ) → r ≡ movedReading from by q → (n c : ℕ) (list : List ℤ) → (r ≡ gives n c list) ↔ (q ≡ gives n c list)
 alike r q from by e n c list = (λ f. stayed q from by n c list (sym e ∙ f), λ f. e ∙ ap (movedReading from by) f)
 
+-- So N, C and the list are the same with the comment line and without it, and one of the two files is accepted exactly when the other is.
 pub comment-accepted : (front text back : List ℕ) → endsLine true front ≡ true → isText text ≡ true → (n c : ℕ) (list : List ℤ)
     → (reading (front ++ (commentLine text ++ back)) ≡ gives n c list) ↔ (reading (front ++ back) ≡ gives n c list)
 comment-accepted front text back e h =

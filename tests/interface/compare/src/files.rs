@@ -120,21 +120,20 @@ fn every_byte(both: &mut Both, random: &mut Random) {
     bytes_everywhere(b"p cnf 3 2\nc 0\n1\ncc\r-2 0\n-2 0\r\n3 0 \nc", |file| read_and_write(both, random, file));
 }
 
-/// A comment put in at each place of a file. At a line's beginning behind the header it changes nothing that is
-/// read; without its line feed the same holds at the file's end.
+/// A comment put in at each place of a file. At a line's beginning it changes nothing that is read; without its line
+/// feed the same holds at the file's end.
 fn comments(both: &mut Both, random: &mut Random) {
     let n = random.of(&[1, 2, 3, 10, 640]);
     let rules = random.below(5);
     let book = random.book(n, rules, 0, 4.min(n));
     let file = random.rule_file(n, &book);
     let (plain, list) = both.read_rules(&file, file.len());
-    let header = file.windows(6).position(|part| part == b"p cnf ").unwrap();
     for at in 0..=file.len() {
         let (before, after) = file.split_at(at);
         let comment = random.comment();
         let whole = [before, &comment, after].concat();
         let (answer, read) = both.read_rules(&whole, file.len());
-        if at > header && before.ends_with(b"\n") {
+        if at == 0 || before.ends_with(b"\n") {
             both.hold(answer == plain && read == list, || format!("{comment:?} at {at} alters what is read"));
         }
         both.read_rules(&[before, &comment[..comment.len() - 1], after].concat(), file.len());
@@ -146,7 +145,8 @@ fn comments(both: &mut Both, random: &mut Random) {
     }
 }
 
-/// One long comment, many short ones, and both inside an open rule; then the same with a fault behind them.
+/// One long comment or many short ones, also inside an open rule, with and without a fault behind them; and comments
+/// to the file's end, cut anywhere.
 fn long_comments(both: &mut Both, random: &mut Random) {
     let long = [&vec![b'c'; 4_000_000][..], b"\n"].concat();
     let many = b"c 1 0\n".repeat(700_000);

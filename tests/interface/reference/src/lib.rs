@@ -1,5 +1,5 @@
-//! The nine calls, written from the text of documents 01 and 02 alone and from nothing of the library, so that a
-//! comparison of the two can find a misreading in either. It is plain rather than quick.
+//! The nine calls, written from the text of document 01 and of the landed requests of document 02 alone, and from nothing
+//! of the library, so that a comparison of the two can find a misreading in either. It is plain rather than quick.
 
 pub mod lent;
 pub mod rule_file;

@@ -44,18 +44,17 @@ fn blank(b: u8) -> bool {
     matches!(b, 9 | 10 | 13 | 32)
 }
 
-/// Past the blanks and the comment lines from a place behind the header on. A line begins behind a line feed.
-fn past_gap(file: &[u8], mut at: usize) -> usize {
+/// The file with each comment line from a line's beginning on made blank, so that all else stays in its place.
+fn without_comments(file: &[u8], mut at: usize) -> Vec<u8> {
+    let mut blanked = file.to_vec();
     while at < file.len() {
-        if file[at] == b'c' && file[at - 1] == b'\n' {
-            at += line(file, at).0.len();
-        } else if blank(file[at]) {
-            at += 1;
-        } else {
-            break;
+        let (text, ended) = line(file, at);
+        if text.starts_with(b"c") {
+            blanked[at..at + text.len()].fill(b' ');
         }
+        at += text.len() + ended as usize;
     }
-    at
+    blanked
 }
 
 pub fn read(file: &[u8]) -> Result<Book, Refusal> {
@@ -73,11 +72,14 @@ pub fn read(file: &[u8]) -> Result<Book, Refusal> {
         return refuse(2, at);
     }
     at += text.len() + 1;
+    let file = &without_comments(file, at)[..];
 
     let mut list: Vec<i32> = Vec::new();
     let (mut closed, mut start) = (0, 0);
     loop {
-        at = past_gap(file, at);
+        while at < file.len() && blank(file[at]) {
+            at += 1;
+        }
         if at == file.len() {
             break;
         }
