@@ -17,7 +17,7 @@ use Rattle.dimacs.specs.Laws.{class-other}
 use Rattle.dimacs.specs.Tokens.{leading, isGap, inToken, Token, Position, lineStart, between, within, comment, starting, tokens, positionAt, tokensFrom}
 use Rattle.comments.specs.Headers.{header-some, header-feed, no-number}
 use Rattle.comments.specs.Lines.{isText}
-use Rattle.comments.specs.Shifted.{comment-over, comment-out}
+use Rattle.comments.specs.Shifted.{comment-over}
 
 -- the runs of bytes that are not blank, the first byte at a place; the flag says whether one is going on there
 abbrev pub runs : Bool → ℕ → List ℕ → List Token
@@ -40,7 +40,7 @@ module _ (s : List ℕ) (rest : ℕ → List Token)
     (cut : (w : List ℕ) → leading inToken (w ++ s) ≡ leading inToken w)
     (next : (going : Bool) (at : ℕ) → tokens (behind going) at s ≡ rest at)
     (first : (at : ℕ) → tokens lineStart at s ≡ rest at)
-    (over : (text : List ℕ) (at : ℕ) → isText text ≡ true → tokens comment at (text ++ s) ≡ rest (at + length text)) where
+    (ended : (at : ℕ) → tokens comment at s ≡ rest at) where
   line-runs : (w : List ℕ) (going : Bool) (at : ℕ) → isText w ≡ true → tokens (behind going) at (w ++ s) ≡ runs going at w ++ rest (at + length w)
   line-runs [] going at h =
       let same : at ≡ at + 0 = omega arith in
@@ -76,7 +76,7 @@ module _ (s : List ℕ) (rest : ℕ → List Token)
       same = omega arith
 
       go : (t : Bool) → eqb (classOf b) letterC ≡ t → tokens lineStart at (b ∷ (w ++ s)) ≡ cond t [] (runs false at (b ∷ w)) ++ rest (at + suc (length w))
-      go true e = rw (e) (over w (suc at) (and-eq-true-iff (not (eqb b 10)) (isText w) .0 h .1) ∙ ap rest same)
+      go true e = rw (e) (comment-over s rest ended w (suc at) (and-eq-true-iff (not (eqb b 10)) (isText w) .0 h .1) ∙ ap rest same)
       go false e =
           let plain : tokens lineStart at (b ∷ (w ++ s)) ≡ tokens between at (b ∷ (w ++ s)) = rw (e) in
           plain ∙ line-runs (b ∷ w) false at h
@@ -101,13 +101,13 @@ none-next going at = refl
 -- The tokens of a line and of those behind it.
 pub line-by-line : (w r : List ℕ) (at : ℕ) → isText w ≡ true → tokens lineStart at (w ++ 10 ∷ r) ≡ lineTokens at w ++ tokens lineStart (suc (at + length w)) r
 line-by-line w r at h =
-    line (10 ∷ r) (λ (k : ℕ). tokens lineStart (suc k) r) (feed-ends r) (feed-next r) (feed-first r) (λ text k e. comment-over text r k e) w at h
+    line (10 ∷ r) (λ (k : ℕ). tokens lineStart (suc k) r) (feed-ends r) (feed-next r) (feed-first r) (λ k. refl) w at h
 
 -- The tokens of a last line without a line feed.
 pub last-line : (w : List ℕ) (at : ℕ) → isText w ≡ true → tokens lineStart at w ≡ lineTokens at w
 last-line w at h =
     sym (ap (tokens lineStart at) (append-nil w))
-    ∙ line [] (λ (k : ℕ). []) (λ v. ap (leading inToken) (append-nil v)) none-next (λ k. refl) (λ text k e. ap (tokens comment k) (append-nil text) ∙ comment-out text k e) w at h
+    ∙ line [] (λ (k : ℕ). []) (λ v. ap (leading inToken) (append-nil v)) none-next (λ k. refl) (λ k. refl) w at h
     ∙ append-nil (lineTokens at w)
 
 -- Behind the header a line begins, so what reading takes for the tokens of a file are those of the lines there.

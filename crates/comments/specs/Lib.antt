@@ -6,3 +6,4 @@ pub mod Moved
 pub mod Preface
 pub mod Shifted
 pub mod Skipped
+pub mod Text

@@ -1,17 +1,17 @@
 -- The comment lines before the header, in a file that begins with whole lines.
 use mathlib.Core.Path.{_≡_, refl, sym, ap, _∙_}
-use mathlib.Core.Bool.{Bool, true, false, cond, not, and-eq-true-iff}
+use mathlib.Core.Bool.{Bool, true, false, cond, not}
 use mathlib.Core.List.{List, [], _∷_, _++_}
 use mathlib.Core.Logic.{_⊎_, inl, inr}
 use Prim.Native.Nat.{ℕ, suc, _+_, _<_}
 use native.Mathlib.Omega.{arith}
 use lib.Dec.{eqb}
 use lib.ListN.{length, drop}
-use borrow.Author.Tests.{not-true}
 use Rattle.dimacs.specs.Class.{letterC, classOf}
 use Rattle.dimacs.specs.Format.{pastComments}
 use Rattle.dimacs.specs.TokenLaws.{letter-line}
 use Rattle.comments.specs.Lines.{isText, endsLine}
+use Rattle.comments.specs.Text.{over}
 
 -- bytes that stand so much later have their first line that is no comment so much later
 pub past-later : (by : ℕ) (inside : Bool) (at : ℕ) (s : List ℕ) → pastComments inside (at + by) s ≡ pastComments inside at s + by
@@ -28,24 +28,10 @@ past-later by true at (b ∷ s) =
     let same : suc (at + by) ≡ suc at + by = omega arith in
     ap (λ (k : ℕ). pastComments (not (eqb b 10)) k s) same ∙ past-later by (not (eqb b 10)) (suc at) s
 
--- the rest of a comment line, and of one that ends with the file
-pub past-over : (text back : List ℕ) (at : ℕ) → isText text ≡ true → pastComments true at (text ++ 10 ∷ back) ≡ pastComments false (suc (at + length text)) back
-past-over [] back at h =
-    let same : suc at ≡ suc (at + 0) = omega arith in
-    ap (λ (k : ℕ). pastComments false k back) same
-past-over (b ∷ text) back at h =
-    let parts = and-eq-true-iff (not (eqb b 10)) (isText text) .0 h in
-    let same : suc (suc at + length text) ≡ suc (at + suc (length text)) = omega arith in
-    ap (λ (t : Bool). pastComments t (suc at) (text ++ 10 ∷ back)) (parts .0)
-    ∙ past-over text back (suc at) (parts .1)
-    ∙ ap (λ (k : ℕ). pastComments false k back) same
-
-pub past-out : (text : List ℕ) (at : ℕ) → isText text ≡ true → pastComments true at text ≡ at + length text
-past-out [] at h = omega arith
-past-out (b ∷ text) at h =
-    let parts = and-eq-true-iff (not (eqb b 10)) (isText text) .0 h in
-    let same : suc at + length text ≡ at + suc (length text) = omega arith in
-    ap (λ (t : Bool). pastComments t (suc at) text) (parts .0) ∙ past-out text (suc at) (parts .1) ∙ same
+-- the rest of a comment line, or of one that ends with the file
+pub past-over : (s : List ℕ) (rest : ℕ → ℕ) → ((at : ℕ) → pastComments true at s ≡ rest at) → (text : List ℕ) (at : ℕ) → isText text ≡ true
+    → pastComments true at (text ++ s) ≡ rest (at + length text)
+past-over s rest end text at h = over (pastComments true) s rest (λ b k r e. ap (λ (t : Bool). pastComments (not t) (suc k) r) e) end text at h
 
 -- Whole lines at the front of a file, the first byte at a place: each of them is a comment, or one is not, and then whole lines begin with it.
 abbrev pub Passes : Bool → ℕ → List ℕ → Type 0

@@ -1,45 +1,35 @@
 -- The tokens of a file with a comment line put in: the same tokens, those behind it moved.
 use mathlib.Core.Path.{_≡_, refl, sym, ap, ap₂, _∙_}
-use mathlib.Core.Bool.{Bool, true, false, cond, not, and-eq-true-iff, true≢false}
-use mathlib.Core.List.{List, [], _∷_, _++_, append-assoc}
+use mathlib.Core.Bool.{Bool, true, false, cond, true≢false}
+use mathlib.Core.List.{List, [], _∷_, _++_, append-assoc, append-nil}
 use Prim.Native.Nat.{ℕ, suc, _+_, _≤_, _<_}
 use native.Mathlib.Omega.{arith}
 use lib.Dec.{eqb}
 use lib.ListN.{length, length-append}
-use borrow.Author.Tests.{eqb-true, not-true, le-leb, lt-leb}
+use borrow.Author.Tests.{eqb-true, le-leb, lt-leb}
 use Rattle.dimacs.specs.Class.{classOf}
 use Rattle.dimacs.specs.TokenLaws.{no-line-feed, begun}
 use Rattle.dimacs.specs.Tokens.{leading, inToken, Token, Position, lineStart, between, within, comment, step, begins, starting, tokens}
 use Rattle.comments.specs.Lines.{commentLine, isText, endsLine, moved}
-use Rattle.comments.specs.Moved.{movedToken, movedTokens}
+use Rattle.comments.specs.Moved.{movedTokens}
+use Rattle.comments.specs.Text.{over}
 
 -- a comment line has no tokens, nor has one that ends with the file
-pub comment-over : (text back : List ℕ) (at : ℕ) → isText text ≡ true → tokens comment at (text ++ 10 ∷ back) ≡ tokens lineStart (suc (at + length text)) back
-comment-over [] back at h =
-    let same : suc at ≡ suc (at + 0) = omega arith in
-    ap (λ (k : ℕ). tokens lineStart k back) same
-comment-over (b ∷ text) back at h =
-    let parts = and-eq-true-iff (not (eqb b 10)) (isText text) .0 h in
-    let same : suc (suc at + length text) ≡ suc (at + suc (length text)) = omega arith in
-    rw (not-true (eqb b 10) (parts .0)) (comment-over text back (suc at) (parts .1) ∙ ap (λ (k : ℕ). tokens lineStart k back) same)
-
-pub comment-out : (text : List ℕ) (at : ℕ) → isText text ≡ true → tokens comment at text ≡ []
-comment-out [] at h = refl
-comment-out (b ∷ text) at h =
-    let parts = and-eq-true-iff (not (eqb b 10)) (isText text) .0 h in
-    rw (not-true (eqb b 10) (parts .0)) (comment-out text (suc at) (parts .1))
+pub comment-over : (s : List ℕ) (rest : ℕ → List Token) → ((at : ℕ) → tokens comment at s ≡ rest at) → (text : List ℕ) (at : ℕ) → isText text ≡ true
+    → tokens comment at (text ++ s) ≡ rest (at + length text)
+comment-over s rest end text at h = over (tokens comment) s rest (λ b k r e. rw e) end text at h
 
 pub past-comment : (text back : List ℕ) (at : ℕ) → isText text ≡ true → tokens lineStart at (commentLine text ++ back) ≡ tokens lineStart (at + length (commentLine text)) back
 unfolding classOf
 past-comment text back at h =
     let size : suc (suc at + length text) ≡ at + length (commentLine text) = omega (arith, length-append text (10 ∷ [])) in
     ap (tokens comment (suc at)) (append-assoc text (10 ∷ []) back)
-    ∙ comment-over text back (suc at) h
+    ∙ comment-over (10 ∷ back) (λ (k : ℕ). tokens lineStart (suc k) back) (λ k. refl) text (suc at) h
     ∙ ap (λ (k : ℕ). tokens lineStart k back) size
 
 pub past-last : (text : List ℕ) (at : ℕ) → isText text ≡ true → tokens lineStart at (99 ∷ text) ≡ []
 unfolding classOf
-past-last text at h = comment-out text (suc at) h
+past-last text at h = sym (ap (tokens comment (suc at)) (append-nil text)) ∙ comment-over [] (λ (k : ℕ). []) (λ k. refl) text (suc at) h
 
 module _ (from by : ℕ) where
   abbrev move : ℕ → ℕ

@@ -17,7 +17,7 @@ use Rattle.dimacs.specs.Tokens.{Position, lineStart, between, tokens, positionA
 use Rattle.comments.specs.Headers.{HeaderOf, header-of, header-some}
 use Rattle.comments.specs.Lines.{commentLine, isText, endsLine, moved, movedReading}
 use Rattle.comments.specs.Moved.{movedTokens, read-moves}
-use Rattle.comments.specs.Preface.{Passes, Stops, whole-lines, past-later, past-over, past-out}
+use Rattle.comments.specs.Preface.{Passes, Stops, whole-lines, past-later, past-over}
 use Rattle.comments.specs.Shifted.{past-comment, past-last, tokens-later, lines-before}
 
 -- Of two rests of a file, a line beginning at each, one is the other behind so many bytes of comments.
@@ -45,7 +45,7 @@ comment-behind text back h =
     past =
         let size : suc (1 + length text) ≡ 0 + by = omega (arith, length-append text (10 ∷ [])) in
         ap (pastComments true 1) (append-assoc text (10 ∷ []) back)
-        ∙ past-over text back 1 h
+        ∙ past-over (10 ∷ back) (λ (k : ℕ). pastComments false (suc k) back) (λ k. refl) text 1 h
         ∙ ap (λ (k : ℕ). pastComments false k back) size
         ∙ past-later by false 0 back
 
@@ -55,7 +55,7 @@ comment-behind text back h =
 last-behind : (text : List ℕ) → isText text ≡ true → Behind (suc (length text)) (99 ∷ text) []
 unfolding classOf
 last-behind text h =
-    let end : pastComments true 1 text ≡ 1 + length text = past-out text 1 h in
+    let end : pastComments true 1 text ≡ 1 + length text = sym (ap (pastComments true 1) (append-nil text)) ∙ past-over [] (λ (k : ℕ). k) (λ k. refl) text 1 h in
     record {
       long = omega arith;
       past = omega (arith, end);
