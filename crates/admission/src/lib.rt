@@ -2,7 +2,7 @@
 // refuse, one after another in their order.
 use admission_steps::Admission;
 ghost use mathlib.Core.Path.{_≡_};
-ghost use Rattle.causes.specs.Lent.{plainProblem, wishesAlone, wishedProblem, chosenProblem};
+ghost use Rattle.causes.specs.Lent.{plainProblem, wishesAlone, wishedProblem, exportedProblem, chosenProblem};
 ghost use Rattle.admission_steps.specs.Admission.{admission};
 
 // n and the rules.
@@ -28,6 +28,14 @@ pub fn admit_wishes(n: usize, rules: &[i32], row: &[u8], d: usize) -> Admission
     let wished = admission_steps::then_row(listed, row);
     let fitting = admission_steps::and_then(wished, causes::check_length(n, row.len()));
     admission_steps::then_size(fitting, n)
+}
+
+// The same, where every rule must have an entry.
+pub fn admit_export(n: usize, rules: &[i32], row: &[u8], d: usize) -> Admission
+    ensures { λ r. ⌜ r ≡ admission (exportedProblem n (now (rules .entry)) (now (row .entry)) d) ⌝ }
+{
+    let wished = admit_wishes(n, rules, row, d);
+    admission_steps::and_then(wished, causes::check_entries(rules))
 }
 
 // n, the rules, the row and a given choice.

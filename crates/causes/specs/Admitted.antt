@@ -1,6 +1,6 @@
 -- What holds of lent values that are admitted: none of the causes before 15 applies to them. Here alone the causes are told apart by their place in the list; all else cites the facts by name.
 use mathlib.Core.Path.{_≡_, refl, ap}
-use mathlib.Core.Bool.{Bool, not, _||_}
+use mathlib.Core.Bool.{Bool, true, false, cond, not, _||_}
 use mathlib.Core.List.{List, [], _∷_}
 use mathlib.Core.Option.{Option, none, some}
 use Prim.Native.Nat.{ℕ, _≤_, _<_, zero-le}
@@ -15,14 +15,20 @@ use Rattle.refusal.specs.Laws.{no-first, first-some, first-of-two, placeIf-none
 use Rattle.refusal.specs.Reply.{placeIf, tooShort}
 use Rattle.limits.specs.Limits.{maxVariables, maxLimit, maxWishVariables, maxWishClauses, maxWishLiterals}
 use Rattle.rule_list.specs.Sound.{SoundList}
+use Rattle.causes.specs.Empty.{emptyClause}
 use Rattle.causes.specs.Laws.{in-range}
-use Rattle.causes.specs.Lent.{Lent, plainProblem, wishesAlone, withLimit, withRoom, ofPart, outOfRange, wrongLength, oversized, causes, unadmitted, refusalOf}
+use Rattle.causes.specs.Lent.{Lent, plainProblem, wishedProblem, exportedProblem, wishesAlone, withLimit, withRoom, ofPart, outOfRange, wrongLength, oversized, causes, unadmitted, refusalOf}
 use Rattle.causes.specs.Sound.{badWish, badChoice}
 
 -- what holds of a part, if the call takes it
 abbrev pub InPart : Option (List ℕ) → (List ℕ → Type 0) → Type 0
 InPart none F = Unit {0}
 InPart (some part) F = F part
+
+-- what holds where the call asks it
+abbrev pub Asked : Bool → Type 0 → Type 0
+Asked true F = F
+Asked false F = Unit {0}
 
 -- what 12 lets pass
 pub record Small (n k m : ℕ) : Type 0 where
@@ -44,6 +50,7 @@ pub record Admitted (s : Lent) : Type 0 where
   pub longRow : InPart (s .row) (λ (row : List ℕ). length row ≡ s .n)
   pub longChoice : InPart (s .choice) (λ (choice : List ℕ). length choice ≡ s .n)
   pub small : InPart (s .row) (λ (row : List ℕ). SmallProblem (s .n) (s .rules))
+  pub entered : Asked (s .asksEntries) (emptyClause 0 (clauses (s .rules)) ≡ none)
 
 -- a cause of a part does not apply exactly when the part, if there is one, is as it must be
 in-part : (o : Option (List ℕ)) (f : List ℕ → Option ℕ) (F : List ℕ → Type 0) → ((part : List ℕ) → f part ≡ none → F part) → ofPart o f ≡ none → InPart o F
@@ -53,6 +60,15 @@ in-part (some part) f F g e = g part e
 of-part : (o : Option (List ℕ)) (f : List ℕ → Option ℕ) (F : List ℕ → Type 0) → ((part : List ℕ) → F part → f part ≡ none) → InPart o F → ofPart o f ≡ none
 of-part none f F g a = refl
 of-part (some part) f F g a = g part a
+
+-- nor one that only some calls ask for
+in-asked : (b : Bool) (o : Option ℕ) → cond b o none ≡ none → Asked b (o ≡ none)
+in-asked true o e = e
+in-asked false o e = tt
+
+of-asked : (b : Bool) (o : Option ℕ) → Asked b (o ≡ none) → cond b o none ≡ none
+of-asked true o e = e
+of-asked false o e = refl
 
 -- each test that says no, and the fact that it stands for
 length-right : (n : ℕ) (part : List ℕ) → placeIf (wrongLength n part) 0 ≡ none → length part ≡ n
@@ -90,7 +106,7 @@ module _ (s : Lent) where
 
   pub admitted : unadmitted s ≡ none → Admitted s
   admitted e =
-      let (range, (rules, (row, (choice, (rowLength, (choiceLength, (size, end))))))) = none-found (causes s) e in
+      let (range, (rules, (row, (choice, (rowLength, (choiceLength, (size, (entries, end)))))))) = none-found (causes s) e in
       let numbers = in-range (s .n) (s .d) (placeIf-none (outOfRange (s .n) (s .d)) 0 range) in
       record {
         positive = numbers .0;
@@ -102,6 +118,7 @@ module _ (s : Lent) where
         longRow = in-part (s .row) wrong Long (length-right (s .n)) rowLength;
         longChoice = in-part (s .choice) wrong Long (length-right (s .n)) choiceLength;
         small = in-part (s .row) sized (λ (part : List ℕ). SmallProblem (s .n) (s .rules)) (λ part. size-small (s .n) (length (clauses (s .rules))) (literals (clauses (s .rules)))) size;
+        entered = in-asked (s .asksEntries) (emptyClause 0 (clauses (s .rules))) entries;
       }
 
   pub none-applies : Admitted s → unadmitted s ≡ none
@@ -118,7 +135,10 @@ module _ (s : Lent) where
                 of-part (s .row) wrong Long (right-length (s .n)) (a .longRow),
                 (
                   of-part (s .choice) wrong Long (right-length (s .n)) (a .longChoice),
-                  (of-part (s .row) sized (λ (part : List ℕ). SmallProblem (s .n) (s .rules)) (λ part. small-size (s .n) (length (clauses (s .rules))) (literals (clauses (s .rules)))) (a .small), tt),
+                  (
+                    of-part (s .row) sized (λ (part : List ℕ). SmallProblem (s .n) (s .rules)) (λ part. small-size (s .n) (length (clauses (s .rules))) (literals (clauses (s .rules)))) (a .small),
+                    (of-asked (s .asksEntries) (emptyClause 0 (clauses (s .rules))) (a .entered), tt),
+                  ),
                 ),
               ),
             ),
@@ -139,6 +159,7 @@ module _ (s : Lent) where
         longRow = a .longRow;
         longChoice = a .longChoice;
         small = a .small;
+        entered = a .entered;
       }
 
   -- the refusal of a call whose output needs so many elements and was lent room for so many
@@ -177,6 +198,7 @@ plain-admitted n rules p h e =
       longRow = tt;
       longChoice = tt;
       small = tt;
+      entered = tt;
     }
 
 -- and so are few enough variables with a sound row of their length and a limit, without rules
@@ -192,4 +214,21 @@ alone-admitted n row d p h k e l =
       longRow = l;
       longChoice = tt;
       small = record { variables = h; few = zero-le; short = zero-le };
+      entered = tt;
+    }
+
+-- what the export admits, the other calls with wishes admit
+pub entered-wished : (n : ℕ) (rules : List ℤ) (row : List ℕ) (d : ℕ) → Admitted (exportedProblem n rules row d) → Admitted (wishedProblem n rules row d)
+entered-wished n rules row d a =
+    record {
+      positive = a .positive;
+      most = a .most;
+      limited = a .limited;
+      soundRules = a .soundRules;
+      soundRow = a .soundRow;
+      soundChoice = a .soundChoice;
+      longRow = a .longRow;
+      longChoice = a .longChoice;
+      small = a .small;
+      entered = tt;
     }

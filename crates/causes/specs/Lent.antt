@@ -1,5 +1,5 @@
--- What a call is lent, and the one order in which its causes to refuse count (document 01, "Refusals"): "Then lent values: 14, 13 (rules, wishes, choice), 11, 12. Last 15."
-use mathlib.Core.Bool.{Bool, not, _||_}
+-- What a call is lent, and the one order in which its causes to refuse count (document 01, "Refusals"): "Then lent values: 14, 13 (rules, wishes, choice), 11, 12. Last 15." Document 02's 16 comes "after 12 and before 15" (L2).
+use mathlib.Core.Bool.{Bool, true, false, cond, not, _||_}
 use mathlib.Core.List.{List, [], _∷_}
 use mathlib.Core.Option.{Option, none, some}
 use Prim.Native.Nat.{ℕ}
@@ -11,38 +11,43 @@ use Rattle.refusal.specs.declared.Refusal.{Refusal}
 use Rattle.refusal.specs.Reply.{first, placeIf, tooShort, Cause, firstFound}
 use Rattle.limits.specs.Limits.{maxVariables, maxLimit, maxWishVariables, maxWishClauses, maxWishLiterals}
 use Rattle.rule_list.specs.Sound.{unread, badRule}
+use Rattle.causes.specs.Empty.{emptyClause}
 use Rattle.causes.specs.Sound.{badWish, badChoice}
 
--- The values lent to a call, as far as it takes any (a file's reader takes none: it has the causes of its file, and then `tooShort`): n, the limit d (0 in a call that takes none), the rule list (empty in a call that takes none), the wish row and the given choice if it takes them, and how many elements its output needs and was lent (0 and 0 in a call that has none).
+-- The values lent to a call, as far as it takes any (a file's reader takes none: it has the causes of its file, and then `tooShort`): n, the limit d (0 in a call that takes none), the rule list (empty in a call that takes none), the wish row and the given choice if it takes them, whether it asks that every rule has an entry (the export to OPB does), and how many elements its output needs and was lent (0 and 0 in a call that has none).
 pub record Lent : Type 0 where
   pub n : ℕ
   pub d : ℕ
   pub rules : List ℤ
   pub row : Option (List ℕ)
   pub choice : Option (List ℕ)
+  pub asksEntries : Bool
   pub needed : ℕ
   pub room : ℕ
 
 -- n alone; and the same values with one more
 abbrev pub only : ℕ → Lent
-only n = record { n = n; d = 0; rules = []; row = none; choice = none; needed = 0; room = 0 }
+only n = record { n = n; d = 0; rules = []; row = none; choice = none; asksEntries = false; needed = 0; room = 0 }
 
 abbrev pub withLimit : ℕ → Lent → Lent
-withLimit d s = record { n = s .n; d = d; rules = s .rules; row = s .row; choice = s .choice; needed = s .needed; room = s .room }
+withLimit d s = record { n = s .n; d = d; rules = s .rules; row = s .row; choice = s .choice; asksEntries = s .asksEntries; needed = s .needed; room = s .room }
 
 abbrev pub withRules : List ℤ → Lent → Lent
-withRules rules s = record { n = s .n; d = s .d; rules = rules; row = s .row; choice = s .choice; needed = s .needed; room = s .room }
+withRules rules s = record { n = s .n; d = s .d; rules = rules; row = s .row; choice = s .choice; asksEntries = s .asksEntries; needed = s .needed; room = s .room }
 
 abbrev pub withRow : List ℕ → Lent → Lent
-withRow row s = record { n = s .n; d = s .d; rules = s .rules; row = some row; choice = s .choice; needed = s .needed; room = s .room }
+withRow row s = record { n = s .n; d = s .d; rules = s .rules; row = some row; choice = s .choice; asksEntries = s .asksEntries; needed = s .needed; room = s .room }
 
 abbrev pub withChoice : List ℕ → Lent → Lent
-withChoice choice s = record { n = s .n; d = s .d; rules = s .rules; row = s .row; choice = some choice; needed = s .needed; room = s .room }
+withChoice choice s = record { n = s .n; d = s .d; rules = s .rules; row = s .row; choice = some choice; asksEntries = s .asksEntries; needed = s .needed; room = s .room }
+
+abbrev pub withEntries : Lent → Lent
+withEntries s = record { n = s .n; d = s .d; rules = s .rules; row = s .row; choice = s .choice; asksEntries = true; needed = s .needed; room = s .room }
 
 abbrev pub withRoom : ℕ → ℕ → Lent → Lent
-withRoom needed room s = record { n = s .n; d = s .d; rules = s .rules; row = s .row; choice = s .choice; needed = needed; room = room }
+withRoom needed room s = record { n = s .n; d = s .d; rules = s .rules; row = s .row; choice = s .choice; asksEntries = s .asksEntries; needed = needed; room = room }
 
--- What the calls take, room left out: n and the rules (plain search, the writer of rules); the row and the limit besides (the searches with wishes, rewriting), or without rules (the writer of wishes), or with a given choice and no limit (checking).
+-- What the calls take, room left out: n and the rules (plain search, the writer of rules); the row and the limit besides (the searches with wishes, rewriting), or without rules (the writer of wishes), or with an entry in every rule (the export to OPB), or with a given choice and no limit (checking).
 abbrev pub plainProblem : ℕ → List ℤ → Lent
 plainProblem n rules = withRules rules (only n)
 
@@ -51,6 +56,9 @@ wishedProblem n rules row d = withLimit d (withRow row (plainProblem n rules))
 
 abbrev pub wishesAlone : ℕ → List ℕ → ℕ → Lent
 wishesAlone n row d = withLimit d (withRow row (only n))
+
+abbrev pub exportedProblem : ℕ → List ℤ → List ℕ → ℕ → Lent
+exportedProblem n rules row d = withEntries (wishedProblem n rules row d)
 
 abbrev pub chosenProblem : ℕ → List ℤ → List ℕ → List ℕ → Lent
 chosenProblem n rules row choice = withChoice choice (withRow row (plainProblem n rules))
@@ -95,6 +103,10 @@ abbrev pub sizeCause : Lent → Cause
 sizeCause s =
     record { number = 12; place = ofPart (s .row) (λ (row : List ℕ). placeIf (oversized (s .n) (length (clauses (s .rules))) (literals (clauses (s .rules)))) 0) }
 
+-- 16 (document 02, L2): "a rule without entries, place the first such rule's closing zero"
+abbrev pub emptyCause : Lent → Cause
+emptyCause s = record { number = 16; place = cond (s .asksEntries) (emptyClause 0 (clauses (s .rules))) none }
+
 -- the causes that what is lent can give, in their order; 15 is not among them
 abbrev pub causes : Lent → List Cause
 causes s =
@@ -105,6 +117,7 @@ causes s =
     ∷ rowLengthCause s
     ∷ choiceLengthCause s
     ∷ sizeCause s
+    ∷ emptyCause s
     ∷ []
 
 -- the refusal that they give, if any: without one the call is admitted, and can only lack room

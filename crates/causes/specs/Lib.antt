@@ -1,4 +1,6 @@
 pub mod Admitted
+pub mod Empty
+pub mod EmptyLaws
 pub mod Laws
 pub mod Lent
 pub mod Scans

@@ -1,13 +1,13 @@
 -- The laws of a byte of the wish row. Proofs elsewhere go by these, and not by the numbers that stand for a wish.
 use mathlib.Core.Path.{_≡_, refl, sym, ap, _∙_}
 use mathlib.Core.Bool.{Bool, true, false, cond}
-use Prim.Native.Nat.{ℕ, zero, suc, _-_, _≤_, _<_, zero-le}
+use Prim.Native.Nat.{ℕ, zero, suc, _+_, _-_, _*_, _≤_, _<_, zero-le}
 use native.Mathlib.Nat.{le-refl, not-suc-le-zero, le-of-suc-le-suc}
 use native.Mathlib.Omega.{arith}
 use lib.Dec.{eqb, lit<}
 use borrow.Author.Tests.{lt-ltb, le-leb, ltb-true, ltb-false, leb-true, eq-eqb, ne-eqb, eqb-true}
 use Rattle.literal.specs.Literal.{variable, wanted, literal}
-use Rattle.wish.specs.Wish.{isRowByte, freeByte, isWish, wishFor, wishedValue, unwishedValue, weight, maxWeight, cost, breaking}
+use Rattle.wish.specs.Wish.{isRowByte, freeByte, isWish, wishFor, wishedValue, unwishedValue, weight, maxWeight, cost, breaking, keeping}
 
 -- the byte of a free variable, and the only one that is no wish
 pub free-byte : isRowByte freeByte ≡ true
@@ -108,18 +108,41 @@ cost-unwished w b h = go (eqb b (unwishedValue w)) refl h
     go true e h = eqb-true b (unwishedValue w) e
     go false e h = absurd (not-suc-le-zero h)
 
+-- the literal that asks a variable for a value has that variable, and wants the value
+literal-variable : (k : ℕ) (t : Bool) → variable (literal (suc k) t) ≡ suc k
+literal-variable k true = refl
+literal-variable k false = refl
+
+literal-wanted : (k b : ℕ) → b < 2 → wanted (literal (suc k) (eqb b 1)) ≡ b
+literal-wanted k zero h = refl
+literal-wanted k (suc zero) h = refl
+literal-wanted k (suc (suc b)) h = absurd (not-suc-le-zero (le-of-suc-le-suc (le-of-suc-le-suc h)))
+
 -- the literal that breaks a wish has the wish's variable, and wants the value against the wish
 pub breaking-variable : (k w : ℕ) → variable (breaking (suc k) w) ≡ suc k
-breaking-variable k w = go (eqb (unwishedValue w) 1)
-  where
-    go : (t : Bool) → variable (literal (suc k) t) ≡ suc k
-    go true = refl
-    go false = refl
+breaking-variable k w = literal-variable k (eqb (unwishedValue w) 1)
 
 pub breaking-wanted : (k w : ℕ) → wanted (breaking (suc k) w) ≡ unwishedValue w
-breaking-wanted k w = go (unwishedValue w) (unwished-bit w)
-  where
-    go : (b : ℕ) → b < 2 → wanted (literal (suc k) (eqb b 1)) ≡ b
-    go zero h = refl
-    go (suc zero) h = refl
-    go (suc (suc b)) h = absurd (not-suc-le-zero (le-of-suc-le-suc (le-of-suc-le-suc h)))
+breaking-wanted k w = literal-wanted k (unwishedValue w) (unwished-bit w)
+
+-- the literal that keeps a wish has the wish's variable, and wants the wished value
+pub keeping-variable : (k w : ℕ) → variable (keeping (suc k) w) ≡ suc k
+keeping-variable k w = literal-variable k (eqb (wishedValue w) 1)
+
+pub keeping-wanted : (k w : ℕ) → wanted (keeping (suc k) w) ≡ wishedValue w
+keeping-wanted k w = literal-wanted k (wishedValue w) (wished-bit w)
+
+-- a wish is for one value and against the other
+other : (w b : ℕ) → isWish w ≡ true → wishedValue w ≡ b → unwishedValue w ≡ 1 - b
+other w b e q = rw (e) (ap (λ (k : ℕ). 1 - k) (rw e at q))
+
+-- of a wish for on, what a value breaks and what it keeps make up the weight; of a wish for off, what it breaks is the weight where it is on
+pub cost-on : (w b : ℕ) → isWish w ≡ true → wishedValue w ≡ 1 → b < 2 → cost w b + weight w * b ≡ weight w
+cost-on w zero e on h = omega (arith, cost-broken w 0 (sym (other w 1 e on)))
+cost-on w (suc zero) e on h = omega (arith, cost-kept w 1 (λ q. (let z : _≡_ {A = ℕ} 1 0 = q ∙ other w 1 e on in omega arith)))
+cost-on w (suc (suc b)) e on h = absurd (not-suc-le-zero (le-of-suc-le-suc (le-of-suc-le-suc h)))
+
+pub cost-off : (w b : ℕ) → isWish w ≡ true → wishedValue w ≡ 0 → b < 2 → cost w b ≡ weight w * b
+cost-off w zero e off h = omega (arith, cost-kept w 0 (λ q. (let z : _≡_ {A = ℕ} 0 1 = q ∙ other w 0 e off in omega arith)))
+cost-off w (suc zero) e off h = omega (arith, cost-broken w 1 (sym (other w 0 e off)))
+cost-off w (suc (suc b)) e off h = absurd (not-suc-le-zero (le-of-suc-le-suc (le-of-suc-le-suc h)))

@@ -54,6 +54,14 @@ isAgainst row x = breaks (value row (variable x)) (wanted x)
 abbrev pub breaking : ℕ → ℕ → ℤ
 breaking v w = literal v (eqb (unwishedValue w) 1)
 
+-- the literal that keeps a wish: v where variable v is wished on, -v where it is wished off
+abbrev pub keeping : ℕ → ℕ → ℤ
+keeping v w = literal v (eqb (wishedValue w) 1)
+
+-- what a byte adds to "the number wished on" (document 02, L2): the weight of a wish for on
+abbrev pub onWeight : ℕ → ℕ
+onWeight w = cond (eqb (wishedValue w) 1) (weight w) 0
+
 -- the number of wishes of a row ("The wish file": "number of wishes m")
 abbrev pub wishCount : List ℕ → ℕ
 wishCount [] = 0
@@ -63,3 +71,8 @@ wishCount (w ∷ row) = cond (isWish w) (suc (wishCount row)) (wishCount row)
 abbrev pub totalWeight : List ℕ → ℕ
 totalWeight [] = 0
 totalWeight (w ∷ row) = weight w + totalWeight row
+
+-- "the number wished on" (document 02, L2): what the wishes for on weigh
+abbrev pub wishedOn : List ℕ → ℕ
+wishedOn [] = 0
+wishedOn (w ∷ row) = onWeight w + wishedOn row

@@ -1,7 +1,8 @@
 // What a byte of the wish row means. Only this crate looks at such a byte; the others ask it.
+use literal::Variable;
 ghost use mathlib.Core.Path.{_≡_};
-ghost use Prim.Native.Nat.{_<_};
-ghost use Rattle.wish.specs.Wish.{isRowByte, isWish, wishFor, wishedValue, unwishedValue, weight, cost, breaks, isAgainst};
+ghost use Prim.Native.Nat.{_≤_, _<_};
+ghost use Rattle.wish.specs.Wish.{isRowByte, isWish, wishFor, wishedValue, unwishedValue, weight, cost, breaks, isAgainst, keeping, onWeight};
 
 // The byte of a free variable.
 pub const FREE: u8 = 2;
@@ -75,4 +76,23 @@ pub fn is_against(x: i32, row: &[u8]) -> bool
         literal::value_of(literal::variable_of(x), row),
         literal::wanted_by(x),
     )
+}
+
+// The literal that keeps a wish. The bound is the greatest i32.
+pub fn keeping_of(v: Variable, wish: u8) -> i32
+    requires { ⌜ v .0 ≤ 2147483647 ⌝ }
+    ensures { λ r. ⌜ r ≡ keeping (v .0) wish ⌝ }
+{
+    literal::literal_of(v, wished_value(wish) == 1)
+}
+
+// What a byte adds to the weight of the wishes for on.
+pub fn on_weight_of(wish: u8) -> usize
+    ensures { λ r. ⌜ r ≡ onWeight wish ⌝ }
+{
+    if wished_value(wish) == 1 {
+        weight_of(wish)
+    } else {
+        0
+    }
 }
