@@ -40,6 +40,10 @@ wrote-as e a = rw (← e) a
 pub wrote-length : {A : Type 0} {w l : List A} {at : ℕ} {m : List A} {i : ℕ} → Wrote w l at m i → length m ≡ length l
 wrote-length {A} {w} {l} {at} a = ap length (a .list) ∙ length-sets l at w
 
+-- what is still to be written has room behind what was
+pub wrote-room : {A : Type 0} {w l : List A} {at : ℕ} {m : List A} {i : ℕ} (rest : List A) → Wrote w l at m i → at + length (w ++ rest) ≤ length l → i + length rest ≤ length m
+wrote-room {A} {w} {l} {at} rest a h = omega (arith, a .place, wrote-length a, length-append w rest)
+
 -- one more copy of an element, and one more element of a list
 pub wrote-copy : {A : Type 0} {x : A} {l : List A} {at : ℕ} {m : List A} {i : ℕ} {k : List A} {j : ℕ} (n : ℕ)
     → Wrote (replicate n x) l at m i → Wrote (x ∷ []) m i k j → Wrote (replicate (n + 1) x) l at k j

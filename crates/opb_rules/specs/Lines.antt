@@ -1,0 +1,1 @@
+-- The equations by which proofs count and put the rules.

@@ -1,0 +1,1 @@
+-- The equations by which proofs count and put the wishes, byte by byte.
