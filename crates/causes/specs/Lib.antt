@@ -5,3 +5,4 @@ pub mod Laws
 pub mod Lent
 pub mod Scans
 pub mod Sound
+pub mod Texts

@@ -1,11 +1,9 @@
 -- The call that writes a rule file (document 01, "The rule file").
 use mathlib.Core.List.{List, [], _∷_, _++_}
-use mathlib.Core.Option.{Option}
 use Prim.Native.Nat.{ℕ}
 use lib.IntN.{ℤ}
 use lib.ListN.{length}
-use Rattle.refusal.specs.declared.Refusal.{Refusal}
-use Rattle.refusal.specs.Reply.{Reply, refusing, answering, unless, filled, tooShort}
+use Rattle.refusal.specs.Reply.{Reply, refusing, answering, unless, filled}
 use Rattle.causes.specs.Lent.{Lent, withRoom, plainProblem, refusalOf}
 use Rattle.text.specs.Text.{numeral}
 use Rattle.dimacs.specs.Written.{separator, written}
@@ -28,10 +26,6 @@ writeOutput n rules file = filled (refusalOf (lentToWrite n rules (length file))
 abbrev pub replyOf : WrittenRules → Reply
 replyOf (Refused r) = refusing r
 replyOf (Written length) = answering 1 length 0 0
-
--- the last cause, where the file w has no room in the lent bytes
-abbrev pub short : List ℕ → List ℕ → Option Refusal
-short w out = tooShort (length w) (length out)
 
 -- the text of an element of the list: "entries, then 0, single spaces, a line feed"
 abbrev pub elementText : ℤ → List ℕ

@@ -6,12 +6,11 @@ use admission_steps::Admission;
 use refusal::Refusal;
 use refusal::Verdict;
 ghost use mathlib.Core.Path.{_≡_};
-ghost use Prim.Native.Nat.{_≤_};
 ghost use lib.ListN.{length};
 ghost use Rattle.formula.specs.Formula.{clauses};
-ghost use Rattle.refusal.specs.Reply.{answering, unless, filled};
-ghost use Rattle.dimacs.specs.Written.{written};
-ghost use Rattle.rule_writer.specs.Write.{writeReply, writeOutput, replyOf, short};
+ghost use Rattle.causes.specs.Admitted.{Admitted};
+ghost use Rattle.causes.specs.Lent.{plainProblem};
+ghost use Rattle.rule_writer.specs.Write.{writeReply, writeOutput, replyOf};
 
 // Refused, or the file's length.
 pub enum WrittenRules {
@@ -30,11 +29,11 @@ pub fn write_rules(n: usize, rules: &[i32], file: &mut [u8]) -> WrittenRules
     }
 }
 
-// Writes a sound list of so many clauses, if the lent bytes have room for it.
+// Writes an admitted list of so many clauses, if the lent bytes have room for it.
 fn write_sound(n: usize, count: usize, rules: &[i32], file: &mut [u8]) -> WrittenRules
-    requires { ⌜ (count ≡ length (clauses (now rules))) × (length (now rules) ≤ 40000) ⌝ }
-    ensures reply { λ r. ⌜ replyOf r ≡ unless (short (written n (now (rules .entry))) (now (file .entry))) (answering 1 (length (written n (now (rules .entry)))) 0 0) ⌝ }
-    ensures output { λ r. ⌜ now (file .exit) ≡ filled (short (written n (now (rules .entry))) (now (file .entry))) (written n (now (rules .entry))) (now (file .entry)) ⌝ }
+    requires { ⌜ Admitted (plainProblem n (now rules)) × (count ≡ length (clauses (now rules))) ⌝ }
+    ensures reply { λ r. ⌜ replyOf r ≡ writeReply n (now (rules .entry)) (length (now (file .entry))) ⌝ }
+    ensures output { λ r. ⌜ now (file .exit) ≡ writeOutput n (now (rules .entry)) (now (file .entry)) ⌝ }
 {
     let needed = count::header_length(n, count) + count::body_length(rules);
     if let Verdict::Refuse(r) = refusal::check_room(needed, file.len()) {

@@ -6,9 +6,8 @@ use Rattle.causes.specs.Lent.{Lent, plainProblem, unadmitted}
 use Rattle.admission_steps.specs.declared.Counts.{Counts}
 use Rattle.admission_steps.specs.Admission.{countsOf}
 use Rattle.admission_steps.specs.Laws.{refused-by, admitted-by}
-use Rattle.dimacs.specs.Sizes.{sound-length}
-use Rattle.rule_writer.specs.Laws.{refused, answered}
-use Rattle.rule_writer.specs.Write.{replyOf}
+use Rattle.causes.specs.Texts.{refused-early}
+use Rattle.dimacs.specs.Written.{written}
 use borrow.Author.Needs.{needs}
 use Rattle.rule_writer.proofs.write_rules.Statement.{statement}
 use Rattle.rule_writer.proofs.write_rules.Tie as tie
@@ -32,25 +31,21 @@ enum-known-counts c = search needs
 
 write-sound-requires : tie.Need-write-sound-requires
 write-sound-requires c κs =
-    let args = c .before .before .before .before .before .before .args in
     let known = passed (c .before) in
-    (ap (λ (k : Counts). k .clauses) (known .1), sound-length (args .n) (args .rules .now) (admitted (lent (c .before .before .before .before)) (known .0) .soundRules))
+    (admitted (lent (c .before .before .before .before)) (known .0), ap (λ (k : Counts). k .clauses) (known .1))
 
 returns : tie.Need-returns
 returns c =
     let args = c .before .before .before .before .before .args in
     let s = lent (c .before .before .before) in
     let r = c .before .r .given .0 .0 in
-    refused (args .n) (args .rules .now) (args .file .now) r (refused-by (unadmitted s) (countsOf s) r (sym (c .before .before .before .admit-rules .ensures) ∙ c .before .r .given .1))
+    refused-early s (written (args .n) (args .rules .now)) (args .file .now) r (refused-by (unadmitted s) (countsOf s) r (sym (c .before .before .before .admit-rules .ensures) ∙ c .before .r .given .1))
 
 same-length : tie.Need-same-length
 same-length c = search needs
 
 returns-2 : tie.Need-returns-2
-returns-2 c =
-    let args = c .before .before .before .before .before .before .before .before .before .args in
-    let call = c .before .before .write-sound in
-    answered (args .n) (args .rules .now) (args .file .now) (passed (c .before .before .before .before) .0) (replyOf (call .result)) (call .last .1 .1 .1 .0) (call .ensures)
+returns-2 c = search needs
 
 pub write-rules-spec : {M : Type 1} → statement M
 write-rules-spec =

@@ -9,7 +9,10 @@ use Rattle.refusal.specs.Laws.{enough-room}
 use Rattle.refusal.specs.Reply.{refused, tooShort}
 use Rattle.writing.specs.Wrote.{wrote-more, wrote-as, wrote-whole}
 use Rattle.dimacs.specs.Written.{written}
-use Rattle.rule_writer.specs.Laws.{no-room, room}
+use Rattle.causes.specs.Admitted.{none-applies}
+use Rattle.causes.specs.Lent.{Lent, plainProblem}
+use Rattle.causes.specs.Texts.{refused-late, answered}
+use Rattle.dimacs.specs.Sizes.{sound-length}
 use Rattle.rule_writer.specs.Writing.{written-parts, written-length}
 use borrow.Author.Needs.{needs}
 use Rattle.rule_writer.proofs.write_sound.Statement.{statement}
@@ -26,10 +29,13 @@ module _ (c : tie.After-check-room) where
   abbrev file : List ℕ
   file = written (c .before .before .before .before .args .n) (c .before .before .before .before .args .rules .now)
 
+  abbrev lent : Lent
+  lent = plainProblem (c .before .before .before .before .args .n) (c .before .before .before .before .args .rules .now)
+
   size : needed ≡ length file
   size =
       let start = c .before .before .before .before in
-      omega (arith, c .before .before .header-length .ensures .0, c .before .body-length .ensures .0, written-length (start .args .n) (start .args .count) (start .args .rules .now) (start .pre .0))
+      omega (arith, c .before .before .header-length .ensures .0, c .before .body-length .ensures .0, written-length (start .args .n) (start .args .count) (start .args .rules .now) (start .pre .1))
 
 -- past it
 module _ (c : tie.After-enum-told) where
@@ -43,7 +49,9 @@ header-length-requires : tie.Need-header-length-requires
 header-length-requires c κs = search needs
 
 body-length-requires : tie.Need-body-length-requires
-body-length-requires c κs = search needs
+body-length-requires c κs =
+    let start = c .before .before in
+    sound-length (start .args .n) (start .args .rules .now) (start .pre .0 .soundRules)
 
 add-needed : tie.Need-add-needed
 add-needed c = search needs
@@ -57,7 +65,7 @@ enum-known-r c = search needs
 returns : tie.Need-returns
 returns c =
     let p = c .before .before .before in
-    no-room (file p) (out p) (needed p) (size p) (c .before .r .given .0 .0) (sym (p .check-room .ensures) ∙ ap refused (c .before .r .given .1))
+    refused-late (lent p) (file p) (out p) (none-applies (lent p) (p .before .before .before .before .pre .0)) (needed p) (size p) (c .before .r .given .0 .0) (sym (p .check-room .ensures) ∙ ap refused (c .before .r .given .1))
 
 enum-told : tie.Need-enum-told
 enum-told c = search needs
@@ -76,12 +84,12 @@ returns-2 c =
     let past = c .before .before .before .before .before .before .before .before in
     let p = past .before .before in
     let start = p .before .before .before .before in
-    let parts = written-parts (start .args .n) (start .args .count) (start .args .rules .now) (start .pre .0) in
+    let parts = written-parts (start .args .n) (start .args .count) (start .args .rules .now) (start .pre .1) in
     let head = c .before .before .before .before .before .before .put-header in
     let tail = c .before .before .put-body in
     let whole = wrote-as parts (wrote-more (head .ensures) (tail .ensures)) in
-    room (file p) (out p) (tail .result) (omega (arith, whole .place))
-    (ap (λ (k : ℕ). tooShort k (length (out p))) (omega (arith, whole .place, size p)) ∙ passed past)
+    answered (lent p) (file p) (out p) (none-applies (lent p) (start .pre .0)) (needed p) (size p) (passed past) (tail .result)
+    (omega (arith, whole .place))
     (tail .last .1 .0)
     (wrote-whole whole (omega (arith, size p, fits past)))
 

@@ -9,7 +9,10 @@ use Rattle.refusal.specs.Reply.{refused, tooShort}
 use Rattle.writing.specs.Wrote.{Wrote, wrote-more, wrote-as, wrote-whole}
 use Rattle.wish.specs.RowLaws.{count-most}
 use Rattle.wish_file.specs.Format.{fileSize, written}
-use Rattle.wish_writer.specs.Laws.{parts, head-length, whole-length, file-length, refused-room, answered}
+use Rattle.causes.specs.Admitted.{none-applies}
+use Rattle.causes.specs.Lent.{wishesAlone}
+use Rattle.causes.specs.Texts.{refused-late, answered}
+use Rattle.wish_writer.specs.Laws.{parts, head-length, whole-length, file-length}
 use borrow.Author.Needs.{needs}
 use Rattle.wish_writer.proofs.write_row.Statement.{statement}
 use Rattle.wish_writer.proofs.write_row.Tie as tie
@@ -43,7 +46,8 @@ returns c =
     let g = c .before .before .before .before .before .before in
     let args = g .args in
     let r = c .before .r .given .0 .0 in
-    refused-room (args .n) (args .row .now) (args .d) (args .file .now) (g .pre .0) (fileSize (args .wishes)) (file-length (args .n) (args .row .now) (args .d) (g .pre .0) (args .wishes) (g .pre .1)) r
+    let s = wishesAlone (args .n) (args .row .now) (args .d) in
+    refused-late s (written (args .n) (args .row .now) (args .d)) (args .file .now) (none-applies s (g .pre .0)) (fileSize (args .wishes)) (file-length (args .n) (args .row .now) (args .d) (g .pre .0) (args .wishes) (g .pre .1)) r
     (sym (c .before .before .before .check-room .ensures) ∙ ap refused (c .before .r .given .1))
 
 enum-told : tie.Need-enum-told
@@ -82,7 +86,8 @@ returns-2 c =
     let size = file-length (args .n) row (args .d) (g .pre .0) (args .wishes) (g .pre .1) in
     let whole : Wrote (written (args .n) row (args .d)) out 0 (lines .last .1 .0) (lines .result) =
     wrote-as (parts (args .n) row (args .d) (g .pre .0) (args .wishes) (g .pre .1)) (wrote-more (header .ensures) (lines .ensures)) in
-    answered (args .n) row (args .d) out (g .pre .0) (fileSize (args .wishes)) size (passed (c .before .before .before .before .before .before .before .before)) (lines .result)
+    let s = wishesAlone (args .n) row (args .d) in
+    answered s (written (args .n) row (args .d)) out (none-applies s (g .pre .0)) (fileSize (args .wishes)) size (passed (c .before .before .before .before .before .before .before .before)) (lines .result)
     (omega (arith, whole .place))
     (lines .last .1 .0)
     (wrote-whole whole (omega (arith, size, room (c .before .before .before .before .before .before .before .before))))

@@ -6,7 +6,8 @@ use Rattle.causes.specs.Lent.{Lent, wishesAlone, unadmitted}
 use Rattle.admission_steps.specs.declared.Counts.{Counts}
 use Rattle.admission_steps.specs.Admission.{countsOf}
 use Rattle.admission_steps.specs.Laws.{refused-by, admitted-by}
-use Rattle.wish_writer.specs.Laws.{refused-lent}
+use Rattle.causes.specs.Texts.{refused-early}
+use Rattle.wish_file.specs.Format.{written}
 use borrow.Author.Needs.{needs}
 use Rattle.wish_writer.proofs.write_wishes.Statement.{statement}
 use Rattle.wish_writer.proofs.write_wishes.Tie as tie
@@ -38,7 +39,7 @@ returns c =
     let args = c .before .before .before .before .before .before .args in
     let s = lent (c .before .before .before) in
     let r = c .before .r .given .0 .0 in
-    refused-lent (args .n) (args .row .now) (args .d) (args .file .now) r (refused-by (unadmitted s) (countsOf s) r (sym (c .before .before .before .admit-row .ensures) ∙ c .before .r .given .1))
+    refused-early s (written (args .n) (args .row .now) (args .d)) (args .file .now) r (refused-by (unadmitted s) (countsOf s) r (sym (c .before .before .before .admit-row .ensures) ∙ c .before .r .given .1))
 
 same-length : tie.Need-same-length
 same-length c = search needs
