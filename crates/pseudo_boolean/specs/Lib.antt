@@ -1,3 +1,4 @@
 pub mod Differences
 pub mod Export
 pub mod PseudoBoolean
+pub mod Sums
