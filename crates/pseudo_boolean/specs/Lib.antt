@@ -1,4 +1,5 @@
 pub mod Differences
 pub mod Export
+pub mod Meaning
 pub mod PseudoBoolean
 pub mod Sums

@@ -3,7 +3,7 @@ use mathlib.Core.Path.{_≡_, refl, sym, ap, ap₂, _∙_}
 use mathlib.Core.Logic.{_↔_}
 use mathlib.Core.Bool.{Bool, true, false, cond, _||_, false≢true}
 use mathlib.Core.List.{List, [], _∷_, map, List·Memᴰ, List·Memᴰ·head, List·Memᴰ·tail}
-use Prim.Native.Nat.{ℕ, zero, suc, _+_, _*_, _<_}
+use Prim.Native.Nat.{ℕ, zero, suc, _+_, _*_, _≤_, _<_}
 use native.Mathlib.Nat.{not-suc-le-zero, zero-lt-suc, zero-mul}
 use native.Mathlib.Omega.{arith}
 use lib.Dec.{eqb}
@@ -22,7 +22,7 @@ use Rattle.pseudo_boolean.specs.Export.{coefficient, term, negatives, wi
 use Rattle.pseudo_boolean.specs.Differences.{difference-equal, difference-add}
 
 -- a choice gives each of its variables the value 0 or 1
-pub choice-value : (n : ℕ) (a : List ℕ) → Choice n a → (v : ℕ) → 0 < v → v < suc n → value a v < 2
+pub choice-value : (n : ℕ) (a : List ℕ) → Choice n a → (v : ℕ) → 0 < v → v ≤ n → value a v < 2
 choice-value n a c zero z h = absurd (not-suc-le-zero z)
 choice-value n a c (suc k) z h = rw (getD-inside a k 2 0 (omega (arith, c .size))) (c .bytes k)
 
