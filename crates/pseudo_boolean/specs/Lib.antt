@@ -3,3 +3,4 @@ pub mod Export
 pub mod Meaning
 pub mod PseudoBoolean
 pub mod Sums
+pub mod Variables

@@ -2,35 +2,27 @@
 use mathlib.Core.Path.{_≡_, refl, sym, ap, subst, _∙_}
 use mathlib.Core.Logic.{_↔_, Iff·symm, Iff·trans, Iff·and, ⊎-elim}
 use mathlib.Core.Bool.{Bool, true, false, cond, true≢false}
-use mathlib.Core.List.{List, [], _∷_, _++_, map, List·Memᴰ, List·Memᴰ·head, List·Memᴰ·tail, List·Memᴰ·not-nil, List·Memᴰ·append-cases, List·Memᴰ·eq-of-singleton, Memᴰ·append-left, Memᴰ·append-right, Memᴰ·map, Memᴰ·of-map}
-use Prim.Native.Nat.{ℕ, suc, _+_, _≤_, _<_}
+use mathlib.Core.List.{List, [], _∷_, _++_, map, List·Memᴰ, List·Memᴰ·head, List·Memᴰ·not-nil, List·Memᴰ·append-cases, List·Memᴰ·eq-of-singleton, Memᴰ·append-left, Memᴰ·append-right, Memᴰ·map, Memᴰ·of-map}
+use Prim.Native.Nat.{ℕ, _+_, _≤_, _<_}
 use native.Mathlib.Omega.{arith}
 use lib.Dec.{ltb}
-use lib.IntN.{ℤ, pos, _-ℤ_}
-use lib.Signed.{_≤ℤ_}
+use lib.IntN.{ℤ}
 use lib.ListN.{length, length-map}
-use borrow.Author.Tests.{eqb-false, ltb-true, ltb-false}
+use borrow.Author.Tests.{ltb-true, ltb-false}
 use Rattle.literal.specs.Literal.{variable}
 use Rattle.formula.specs.Formula.{clauses, satisfied, models}
 use Rattle.wish.specs.Wish.{wishCount, wishedOn}
 use Rattle.distance.specs.Distance.{disagreement, within}
 use Rattle.choices.specs.Lists.{all-at, all-false}
-use Rattle.choices.specs.Choices.{Choice, Model, within-iff}
-use Rattle.rule_list.specs.Sound.{SoundList}
-use Rattle.soundness.specs.Flat.{joining}
-use Rattle.soundness.specs.Laws.{Joined, joined}
-use Rattle.soundness.specs.Soundness.{sound}
+use Rattle.choices.specs.Choices.{Choice, within-iff}
 use Rattle.causes.specs.Lent.{wishedProblem, exportedProblem}
 use Rattle.causes.specs.Admitted.{Admitted}
 use Rattle.causes.specs.EmptyLaws.{filled-iff}
-use Rattle.pseudo_boolean.specs.PseudoBoolean.{Constraint, sum, Satisfies, SatisfiesAll}
-use Rattle.pseudo_boolean.specs.Export.{term, negatives, ruleConstraint, wishTerms, wishConstraint, wishConstraints, exported}
+use Rattle.pseudo_boolean.specs.PseudoBoolean.{Constraint, Satisfies, SatisfiesAll}
+use Rattle.pseudo_boolean.specs.Export.{term, negatives, ruleConstraint, wishConstraint, wishConstraints, exported}
+use Rattle.pseudo_boolean.specs.Variables.{Over, sound-over, choice-value}
 use Rattle.pseudo_boolean.specs.Differences.{difference-le}
-use Rattle.pseudo_boolean.specs.Sums.{choice-value, held, satisfied-held, clause-sum, wishes-sum, wishes-terms, wishes-none}
-
--- every literal of a clause has one of the variables 1 to n
-abbrev pub Over : ℕ → List ℤ → Type 0
-Over n c = (x : ℤ) → List·Memᴰ x c → (0 < variable x) × (variable x ≤ n)
+use Rattle.pseudo_boolean.specs.Sums.{held, satisfied-held, clause-sum, wishes-sum, wishes-terms, wishes-none}
 
 -- A choice satisfies the constraint of a clause exactly when it satisfies the clause.
 pub satisfies-rule : (n : ℕ) (a : List ℕ) (c : List ℤ) → Choice n a → Over n c → Satisfies a (ruleConstraint c) ↔ (satisfied a c ≡ true)
@@ -46,9 +38,9 @@ satisfies-wishes n a row d ch long =
     rw (wishes-sum 0 row a (record { size = omega (arith, ch .size); bytes = ch .bytes }))
     (Iff·trans (difference-le (wishedOn row) d (wishedOn row) (disagreement row a)) few)
 
--- the same of the line that there is only if there are wishes
-satisfies-last : (n : ℕ) (a row : List ℕ) (d : ℕ) → Choice n a → length row ≡ n → SatisfiesAll a (wishConstraints row d) ↔ (disagreement row a ≤ d)
-satisfies-last n a row d ch long = go (ltb 0 (wishCount row)) refl
+-- and so where there is that constraint only if there are wishes
+satisfies-last-line : (n : ℕ) (a row : List ℕ) (d : ℕ) → Choice n a → length row ≡ n → SatisfiesAll a (wishConstraints row d) ↔ (disagreement row a ≤ d)
+satisfies-last-line n a row d ch long = go (ltb 0 (wishCount row)) refl
   where
     go : (t : Bool) → ltb 0 (wishCount row) ≡ t → SatisfiesAll a (cond t (wishConstraint row d ∷ []) []) ↔ (disagreement row a ≤ d)
     go true e =
@@ -59,7 +51,7 @@ satisfies-last n a row d ch long = go (ltb 0 (wishCount row)) refl
       λ h c m. absurd (List·Memᴰ·not-nil m),
     )
 
--- a formula whose clauses are all over n
+-- it satisfies those of a formula exactly when it is a model
 satisfies-rules : (n : ℕ) (a : List ℕ) (f : List (List ℤ)) → Choice n a → ((c : List ℤ) → List·Memᴰ c f → Over n c)
     → SatisfiesAll a (map ruleConstraint f) ↔ (models a f ≡ true)
 satisfies-rules n a f ch o = (λ h. forth (models a f) refl h, λ h b m. back h b (Memᴰ·of-map ruleConstraint f m))
@@ -73,33 +65,19 @@ satisfies-rules n a f ch o = (λ h. forth (models a f) refl h, λ h b m. back h 
     back : models a f ≡ true → (b : Constraint) → (c : List ℤ) × List·Memᴰ c f × (ruleConstraint c ≡ b) → Satisfies a b
     back h b r = subst (Satisfies a) (r .2) (satisfies-rule n a (r .0) ch (o (r .0) (r .1)) .1 (all-at (satisfied a) h (r .1)))
 
--- constraints and others after them
+-- to satisfy constraints and others after them is to satisfy both
 satisfies-append : (a : List ℕ) (f g : List Constraint) → SatisfiesAll a (f ++ g) ↔ (SatisfiesAll a f × SatisfiesAll a g)
 satisfies-append a f g = (
   λ h. (λ c m. h c (Memᴰ·append-left g m), λ c m. h c (Memᴰ·append-right f m)),
   λ h c m. ⊎-elim (λ q. h .0 c q) (λ q. h .1 c q) (List·Memᴰ·append-cases f m),
 )
 
--- the clauses of a sound list are over its variables
-joining-over : (n : ℕ) (read c : List ℤ) → joining n read c ≡ true → Over n c
-joining-over n read [] e y m = absurd (List·Memᴰ·not-nil m)
-joining-over n read (x ∷ c) e y m = go (joined n read x c e) m (joining-over n (x ∷ read) c)
-  where
-    go : Joined n read x c → List·Memᴰ y (x ∷ c) → (joining n (x ∷ read) c ≡ true → Over n c) → (0 < variable y) × (variable y ≤ n)
-    go j (List·Memᴰ·head q) ih =
-        let z : variable x ≡ 0 → ⊥ = eqb-false (variable x) 0 (j .literal) in
-        (omega (arith, ap variable q), omega (arith, j .range, ap variable q))
-    go j (List·Memᴰ·tail m) ih = ih (j .rest) y m
-
-sound-over : (n : ℕ) (list : List ℤ) → SoundList n list → (c : List ℤ) → List·Memᴰ c (clauses list) → Over n c
-sound-over n list e c m = joining-over n [] c (all-at (joining n []) (sound n list e .formed) m)
-
 -- "A choice satisfies the lines exactly when it meets the rules within d."
 pub satisfies-exported : (n : ℕ) (rules : List ℤ) (row : List ℕ) (d : ℕ) → Admitted (wishedProblem n rules row d) → (a : List ℕ) → Choice n a
     → SatisfiesAll a (exported rules row d) ↔ ((models a (clauses rules) ≡ true) × (disagreement row a ≤ d))
 satisfies-exported n rules row d ok a ch =
     Iff·trans (satisfies-append a (map ruleConstraint (clauses rules)) (wishConstraints row d))
-    (Iff·and (satisfies-rules n a (clauses rules) ch (sound-over n rules (ok .soundRules))) (satisfies-last n a row d ch (ok .longRow)))
+    (Iff·and (satisfies-rules n a (clauses rules) ch (sound-over n rules (ok .soundRules))) (satisfies-last-line n a row d ch (ok .longRow)))
 
 -- So the choices that satisfy the lines are those that meet the rules within d, and no others.
 pub exported-within : (n : ℕ) (rules : List ℤ) (row : List ℕ) (d : ℕ) → Admitted (wishedProblem n rules row d) → (a : List ℕ)

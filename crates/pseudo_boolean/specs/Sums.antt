@@ -3,7 +3,7 @@ use mathlib.Core.Path.{_≡_, refl, sym, ap, ap₂, _∙_}
 use mathlib.Core.Logic.{_↔_}
 use mathlib.Core.Bool.{Bool, true, false, cond, _||_, false≢true}
 use mathlib.Core.List.{List, [], _∷_, map, List·Memᴰ, List·Memᴰ·head, List·Memᴰ·tail}
-use Prim.Native.Nat.{ℕ, zero, suc, _+_, _*_, _≤_, _<_}
+use Prim.Native.Nat.{ℕ, zero, suc, _+_, _*_, _<_}
 use native.Mathlib.Nat.{not-suc-le-zero, zero-lt-suc, zero-mul}
 use native.Mathlib.Omega.{arith}
 use lib.Dec.{eqb}
@@ -11,7 +11,6 @@ use lib.IntN.{ℤ, pos, negsuc, negℤ, _+ℤ_, _-ℤ_, _*ℤ_, +ℤ-idl}
 use lib.ListN.{length, drop}
 use lib.Seq.{drop-cons}
 use Rattle.literal.specs.Literal.{variable, wanted, value, holds}
-use Rattle.literal.specs.Laws.{getD-inside}
 use Rattle.formula.specs.Formula.{satisfied}
 use Rattle.wish.specs.Wish.{isWish, wishedValue, weight, cost, keeping, onWeight, wishCount, wishedOn}
 use Rattle.wish.specs.Laws.{wished-bit, weight-free, cost-free, cost-on, cost-off, keeping-variable, keeping-wanted}
@@ -19,12 +18,8 @@ use Rattle.distance.specs.Distance.{disagreement}
 use Rattle.choices.specs.Choices.{Choice}
 use Rattle.pseudo_boolean.specs.PseudoBoolean.{Term, sum}
 use Rattle.pseudo_boolean.specs.Export.{coefficient, term, negatives, wishTerms}
+use Rattle.pseudo_boolean.specs.Variables.{choice-value}
 use Rattle.pseudo_boolean.specs.Differences.{difference-equal, difference-add}
-
--- a choice gives each of its variables the value 0 or 1
-pub choice-value : (n : ℕ) (a : List ℕ) → Choice n a → (v : ℕ) → 0 < v → v ≤ n → value a v < 2
-choice-value n a c zero z h = absurd (not-suc-le-zero z)
-choice-value n a c (suc k) z h = rw (getD-inside a k 2 0 (omega (arith, c .size))) (c .bytes k)
 
 -- what a term adds, by the value that its literal wants
 term-on : (w : ℕ) (x : ℤ) (b : ℕ) → wanted x ≡ 1 → coefficient w x *ℤ pos b ≡ pos (w * b) -ℤ pos 0
@@ -99,7 +94,7 @@ wish-term k w b e h = go (wishedValue w) refl (wished-bit w)
         ∙ difference-equal (weight w * b) 0 (onWeight w) (cost w b) (omega (arith, on-wished w on, cost-on w b e on h))
     go (suc (suc s)) q l = absurd (omega arith)
 
--- the sum of the terms of the wishes from variable k + 1 on: the number wished on there, less the number of broken wishes
+-- the sum of the terms of the wishes from variable k + 1 on: the number wished on, less the number of those that the choice breaks, each wish by its weight
 pub wishes-sum : (k : ℕ) (row a : List ℕ) → Choice (k + length row) a
     → sum a (wishTerms (suc k) row) ≡ pos (wishedOn row) -ℤ pos (disagreement row (drop k a))
 wishes-sum k [] a c = refl
@@ -124,7 +119,7 @@ wishes-sum k (w ∷ row) a c =
     go false e ih =
         ih ∙ difference-equal (wishedOn row) broken (onWeight w + wishedOn row) (cost w b + broken) (omega (arith, on-free w e, cost-free w b e))
 
--- each wish has a term
+-- there is a term for each wish
 pub wishes-terms : (v : ℕ) (row : List ℕ) → length (wishTerms v row) ≡ wishCount row
 wishes-terms v [] = refl
 wishes-terms v (w ∷ row) = go (isWish w) (wishes-terms (suc v) row)
