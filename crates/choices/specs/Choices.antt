@@ -11,6 +11,8 @@ use lib.Dec.{leb, lit<}
 use lib.IntN.{ℤ}
 use lib.ListN.{length, getD}
 use borrow.Author.Tests.{leb-true, le-leb}
+use Rattle.literal.specs.Literal.{value}
+use Rattle.literal.specs.Laws.{getD-inside}
 use Rattle.formula.specs.Formula.{clauses, models}
 use Rattle.distance.specs.Distance.{disagreement, choices, permitted, within, nearest}
 use Rattle.choices.specs.Lists.{kept-passes, passes-kept, empty-iff, Minimum, least-none, least-some}
@@ -29,6 +31,11 @@ pub record Model (n : ℕ) (f : List (List ℤ)) (a : List ℕ) : Type 0 where
 pub record Nearest (n : ℕ) (f : List (List ℤ)) (row : List ℕ) (k : ℕ) : Type 0 where
   pub attained : (a : List ℕ) × Model n f a × (disagreement row a ≡ k)
   pub below : (a : List ℕ) → Model n f a → k ≤ disagreement row a
+
+-- a choice gives each of its variables the value 0 or 1
+pub choice-value : (n : ℕ) (a : List ℕ) → Choice n a → (v : ℕ) → 0 < v → v ≤ n → value a v < 2
+choice-value n a c zero z h = absurd (not-suc-le-zero z)
+choice-value n a c (suc k) z h = rw (getD-inside a k 2 0 (omega (arith, c .size))) (c .bytes k)
 
 -- the choices that start with a byte
 abbrev starting : ℕ → ℕ → List (List ℕ)

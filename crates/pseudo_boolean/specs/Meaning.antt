@@ -14,13 +14,13 @@ use Rattle.formula.specs.Formula.{clauses, satisfied, models}
 use Rattle.wish.specs.Wish.{wishCount, wishedOn}
 use Rattle.distance.specs.Distance.{disagreement, within}
 use Rattle.choices.specs.Lists.{all-at, all-false}
-use Rattle.choices.specs.Choices.{Choice, within-iff}
+use Rattle.choices.specs.Choices.{Choice, choice-value, within-iff}
 use Rattle.causes.specs.Lent.{wishedProblem, exportedProblem}
 use Rattle.causes.specs.Admitted.{Admitted}
 use Rattle.causes.specs.EmptyLaws.{filled-iff}
 use Rattle.pseudo_boolean.specs.PseudoBoolean.{Constraint, Satisfies, SatisfiesAll}
 use Rattle.pseudo_boolean.specs.Export.{term, negatives, ruleConstraint, wishConstraint, wishConstraints, exported}
-use Rattle.pseudo_boolean.specs.Variables.{Over, sound-over, choice-value}
+use Rattle.pseudo_boolean.specs.Variables.{Over, sound-over}
 use Rattle.pseudo_boolean.specs.Differences.{difference-le}
 use Rattle.pseudo_boolean.specs.Sums.{held, satisfied-held, clause-sum, wishes-sum, wishes-terms, wishes-none}
 

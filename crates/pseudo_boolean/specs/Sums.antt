@@ -13,12 +13,11 @@ use lib.Seq.{drop-cons}
 use Rattle.literal.specs.Literal.{variable, wanted, value, holds}
 use Rattle.formula.specs.Formula.{satisfied}
 use Rattle.wish.specs.Wish.{isWish, wishedValue, weight, cost, keeping, onWeight, wishCount, wishedOn}
-use Rattle.wish.specs.Laws.{wished-bit, weight-free, cost-free, cost-on, cost-off, keeping-variable, keeping-wanted}
+use Rattle.wish.specs.Laws.{wished-bit, cost-free, cost-on, cost-off, keeping-variable, keeping-wanted, on-wished, on-unwished, on-free}
 use Rattle.distance.specs.Distance.{disagreement}
-use Rattle.choices.specs.Choices.{Choice}
+use Rattle.choices.specs.Choices.{Choice, choice-value}
 use Rattle.pseudo_boolean.specs.PseudoBoolean.{Term, sum}
 use Rattle.pseudo_boolean.specs.Export.{coefficient, term, negatives, wishTerms}
-use Rattle.pseudo_boolean.specs.Variables.{choice-value}
 use Rattle.pseudo_boolean.specs.Differences.{difference-equal, difference-add}
 
 -- what a term adds, by the value that its literal wants
@@ -66,20 +65,6 @@ clause-sum a (x ∷ c) h =
     count (pos v) false = omega arith
     count (negsuc k) true = omega arith
     count (negsuc k) false = omega arith
-
--- what a byte adds to the number wished on: its weight if it wishes on, else nothing
-on-wished : (w : ℕ) → wishedValue w ≡ 1 → onWeight w ≡ weight w
-on-wished w e = ap (λ (b : ℕ). cond (eqb b 1) (weight w) 0) e
-
-on-unwished : (w : ℕ) → wishedValue w ≡ 0 → onWeight w ≡ 0
-on-unwished w e = ap (λ (b : ℕ). cond (eqb b 1) (weight w) 0) e
-
-on-free : (w : ℕ) → isWish w ≡ false → onWeight w ≡ 0
-on-free w e = go (eqb (wishedValue w) 1)
-  where
-    go : (t : Bool) → cond t (weight w) 0 ≡ 0
-    go true = weight-free w e
-    go false = refl
 
 -- what the term of a wish adds: its weight if it wishes on, less what the value breaks of it
 wish-term : (k w b : ℕ) → isWish w ≡ true → b < 2 → coefficient (weight w) (keeping (suc k) w) *ℤ pos b ≡ pos (onWeight w) -ℤ pos (cost w b)

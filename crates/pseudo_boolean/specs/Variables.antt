@@ -1,26 +1,18 @@
--- The variables of a clause and of a choice.
+-- The variables of a clause.
 use mathlib.Core.Path.{_≡_, ap}
 use mathlib.Core.Bool.{true}
 use mathlib.Core.List.{List, [], _∷_, List·Memᴰ, List·Memᴰ·head, List·Memᴰ·tail, List·Memᴰ·not-nil}
-use Prim.Native.Nat.{ℕ, zero, suc, _≤_, _<_}
-use native.Mathlib.Nat.{not-suc-le-zero}
+use Prim.Native.Nat.{ℕ, _≤_, _<_}
 use native.Mathlib.Omega.{arith}
 use lib.IntN.{ℤ}
 use borrow.Author.Tests.{eqb-false}
-use Rattle.literal.specs.Literal.{variable, value}
-use Rattle.literal.specs.Laws.{getD-inside}
+use Rattle.literal.specs.Literal.{variable}
 use Rattle.formula.specs.Formula.{clauses}
 use Rattle.choices.specs.Lists.{all-at}
-use Rattle.choices.specs.Choices.{Choice}
 use Rattle.rule_list.specs.Sound.{SoundList}
 use Rattle.soundness.specs.Flat.{joining}
 use Rattle.soundness.specs.Laws.{Joined, joined}
 use Rattle.soundness.specs.Soundness.{sound}
-
--- a choice gives each of its variables the value 0 or 1
-pub choice-value : (n : ℕ) (a : List ℕ) → Choice n a → (v : ℕ) → 0 < v → v ≤ n → value a v < 2
-choice-value n a c zero z h = absurd (not-suc-le-zero z)
-choice-value n a c (suc k) z h = rw (getD-inside a k 2 0 (omega (arith, c .size))) (c .bytes k)
 
 -- every literal of a clause has one of the variables 1 to n
 abbrev pub Over : ℕ → List ℤ → Type 0

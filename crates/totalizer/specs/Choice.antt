@@ -11,10 +11,9 @@ use lib.ListN.{length, getD, take, length-take}
 use lib.Seq.{getD-take}
 use borrow.Author.Tests.{ltb-true, lt-ltb}
 use Rattle.literal.specs.Literal.{variable, value, wanted, holds}
-use Rattle.literal.specs.Laws.{getD-inside}
 use Rattle.formula.specs.Formula.{all}
 use Rattle.soundness.specs.Laws.{and-left, and-right, and-both}
-use Rattle.choices.specs.Choices.{Choice}
+use Rattle.choices.specs.Choices.{Choice, choice-value}
 use Rattle.totalizer.specs.Meaning.{Opposite}
 
 -- a choice by one test of its bytes
@@ -32,11 +31,6 @@ choice-of n a l e = record { size = l; bytes = go a e }
     go [] h i = lit< tt
     go (b ∷ l) h zero = ltb-true b 2 (and-left (ltb b 2) (all (λ (x : ℕ). ltb x 2) l) h)
     go (b ∷ l) h (suc i) = go l (and-right (ltb b 2) (all (λ (x : ℕ). ltb x 2) l) h) i
-
--- the byte of every variable of a choice is 0 or 1
-pub choice-value : (n : ℕ) (a : List ℕ) → Choice n a → (v : ℕ) → 0 < v → v ≤ n → value a v < 2
-choice-value n a c zero z h = absurd (not-suc-le-zero z)
-choice-value n a c (suc k) z h = rw (getD-inside a k 2 0 (omega (arith, c .size))) (c .bytes k)
 
 bit : (w : ℕ) → w < 2 → (eqb w 0 ≡ not (eqb w 1)) × (eqb w 1 ≡ not (eqb w 0))
 bit zero h = (refl, refl)

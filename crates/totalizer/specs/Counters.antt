@@ -13,11 +13,11 @@ use borrow.Author.Tests.{ltb-true, ltb-false, le-ltb, eqb-true, eqb-false, not-t
 use Rattle.literal.specs.Literal.{value, holds}
 use Rattle.formula.specs.Formula.{satisfied, models}
 use Rattle.soundness.specs.Laws.{and-left, and-right, and-both, all-append}
-use Rattle.choices.specs.Choices.{Choice}
+use Rattle.choices.specs.Choices.{Choice, choice-value}
 use Rattle.totalizer.specs.Totalizer.{Tree, leaf, node, tree, size, added, output, totalizer, limit, atMost, count, unary, counters, Over, Counts, AllCount}
 use Rattle.totalizer.specs.Meaning.{count-most, right-counts, signed, totalizer-right, right-totalizer}
 use Rattle.totalizer.specs.Trees.{held, Within, tree-size, tree-count, tree-over}
-use Rattle.totalizer.specs.Choice.{choice-value, choice-opposite}
+use Rattle.totalizer.specs.Choice.{choice-opposite}
 
 pub length-unary : (m c : ℕ) → length (unary m c) ≡ m
 length-unary zero c = refl

@@ -12,11 +12,10 @@ use lib.ListN.{length, getD, set, length-set}
 use lib.Seq.{set-out, getD-set-same, getD-set-other}
 use borrow.Author.Tests.{eqb-true, eqb-false, ltb-true, ltb-false, ne-eqb}
 use Rattle.literal.specs.Literal.{variable, wanted, value, holds}
-use Rattle.literal.specs.Laws.{getD-inside}
 use Rattle.wish.specs.Wish.{cost}
 use Rattle.wish.specs.Laws.{free-cost, cost-unassigned}
 use Rattle.distance.specs.Distance.{disagreement}
-use Rattle.choices.specs.Choices.{Choice}
+use Rattle.choices.specs.Choices.{Choice, choice-value}
 use Rattle.walk.specs.State.{State, isUnset, unassigned, assign, satisfy, isUnassigned}
 use Rattle.walk.specs.Extension.{Extends, wanted-bit}
 
@@ -89,10 +88,6 @@ assign-cost h row zero b l u e = absurd (not-suc-le-zero l)
 assign-cost {n} {a} h row (suc j) b l u e = store-cost row a j b (omega (arith, h .size)) e
 
 -- a choice gives each variable off or on, so that it extends one of the two branches
-pub choice-bit : {n : ℕ} {c : List ℕ} → Choice n c → (v : ℕ) → 0 < v → v ≤ n → value c v < 2
-choice-bit h zero l u = absurd (not-suc-le-zero l)
-choice-bit {n} {c} h (suc j) l u = omega (arith, getD-inside c j 2 0 (omega (arith, h .size)), h .bytes j)
-
 pub extends-branch : {n : ℕ} {c a : List ℕ} → Choice n c → Extends c a → (v b : ℕ) → 0 < v → v ≤ n → b < 2
     → Extends c (assign a v b) ⊎ Extends c (assign a v (1 - b))
 extends-branch {n} {c} {a} h k v b l u q = go (eqb (value c v) b) refl
@@ -101,7 +96,7 @@ extends-branch {n} {c} {a} h k v b l u q = go (eqb (value c v) b) refl
     go true e = inl (extends-assign k v b (eqb-true (value c v) b e))
     go false e =
         let other : value c v ≡ b → ⊥ = eqb-false (value c v) b e in
-        let z : value c v ≡ 1 - b = omega (arith, choice-bit h v l u) in
+        let z : value c v ≡ 1 - b = omega (arith, choice-value n c h v l u) in
         inr (extends-assign k v (1 - b) z)
 
 -- making a literal hold, where it is unassigned

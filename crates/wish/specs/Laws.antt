@@ -7,7 +7,7 @@ use native.Mathlib.Omega.{arith}
 use lib.Dec.{eqb, lit<}
 use borrow.Author.Tests.{lt-ltb, le-leb, ltb-true, ltb-false, leb-true, eq-eqb, ne-eqb, eqb-true}
 use Rattle.literal.specs.Literal.{variable, wanted, literal}
-use Rattle.wish.specs.Wish.{isRowByte, freeByte, isWish, wishFor, wishedValue, unwishedValue, weight, maxWeight, cost, breaking, keeping}
+use Rattle.wish.specs.Wish.{isRowByte, freeByte, isWish, wishFor, wishedValue, unwishedValue, weight, maxWeight, cost, breaking, keeping, onWeight}
 
 -- the byte of a free variable, and the only one that is no wish
 pub free-byte : isRowByte freeByte ≡ true
@@ -146,3 +146,17 @@ pub cost-off : (w b : ℕ) → isWish w ≡ true → wishedValue w ≡ 0 → b <
 cost-off w zero e off h = omega (arith, cost-kept w 0 (λ q. (let z : _≡_ {A = ℕ} 0 1 = q ∙ other w 0 e off in omega arith)))
 cost-off w (suc zero) e off h = omega (arith, cost-broken w 1 (sym (other w 0 e off)))
 cost-off w (suc (suc b)) e off h = absurd (not-suc-le-zero (le-of-suc-le-suc (le-of-suc-le-suc h)))
+
+-- what a byte adds to the number wished on: its weight if it wishes on, else nothing
+pub on-wished : (w : ℕ) → wishedValue w ≡ 1 → onWeight w ≡ weight w
+on-wished w e = ap (λ (b : ℕ). cond (eqb b 1) (weight w) 0) e
+
+pub on-unwished : (w : ℕ) → wishedValue w ≡ 0 → onWeight w ≡ 0
+on-unwished w e = ap (λ (b : ℕ). cond (eqb b 1) (weight w) 0) e
+
+pub on-free : (w : ℕ) → isWish w ≡ false → onWeight w ≡ 0
+on-free w e = go (eqb (wishedValue w) 1)
+  where
+    go : (t : Bool) → cond t (weight w) 0 ≡ 0
+    go true = weight-free w e
+    go false = refl
