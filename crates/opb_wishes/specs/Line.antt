@@ -71,12 +71,16 @@ terms-end row i v h = rw (drop-of-length-le row h)
 -- the line of so many wishes: none without a wish, else the terms and the bound
 module _ (row : List ℕ) (m d : ℕ) (count : m ≡ wishCount row) where
   pub line-none : m ≡ 0 → linesText (wishConstraints row d) ≡ []
-  line-none z = ap (λ (k : ℕ). linesText (cond (ltb 0 k) (wishConstraint row d ∷ []) [])) (sym count ∙ z)
+  line-none none = ap (λ (k : ℕ). linesText (cond (ltb 0 k) (wishConstraint row d ∷ []) [])) (sym count ∙ none)
 
-  pub line-parts : (on : ℕ) → (m ≡ 0 → ⊥) → on ≡ wishedOn row → termsText (wishTerms 1 row) ++ boundText (pos on -ℤ pos d) ≡ linesText (wishConstraints row d)
-  line-parts on some e =
+  pub line-parts : (m ≡ 0 → ⊥) → (on : ℕ) → on ≡ wishedOn row → termsText (wishTerms 1 row) ++ boundText (pos on -ℤ pos d) ≡ linesText (wishConstraints row d)
+  line-parts some on e =
       ap (λ (k : ℕ). termsText (wishTerms 1 row) ++ boundText (pos k -ℤ pos d)) e
       ∙ sym (
       ap (λ (t : Bool). linesText (cond t (wishConstraint row d ∷ []) [])) (lt-ltb 0 (wishCount row) (omega arith))
       ∙ append-nil (lineText (wishConstraint row d))
       )
+
+  pub line-length : (m ≡ 0 → ⊥) → (on : ℕ) → on ≡ wishedOn row
+      → length (termsText (wishTerms 1 row)) + length (boundText (pos on -ℤ pos d)) ≡ length (linesText (wishConstraints row d))
+  line-length some on e = sym (length-append (termsText (wishTerms 1 row)) (boundText (pos on -ℤ pos d))) ∙ ap length (line-parts some on e)

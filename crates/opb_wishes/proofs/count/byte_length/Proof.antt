@@ -1,6 +1,5 @@
 -- `opb_wishes::count::byte_length` meets its contract: the term of a wish, or nothing.
-use mathlib.Core.Path.{_≡_, sym, ap, _∙_}
-use mathlib.Core.Bool.{true}
+use mathlib.Core.Path.{sym, ap, _∙_}
 use native.Mathlib.Omega.{arith}
 use lib.ListN.{length}
 use borrow.Author.Needs.{needs}
@@ -23,7 +22,7 @@ term-length-requires : tie.Need-term-length-requires
 term-length-requires c κs =
     let is-wish = c .before .before .before .is-wish in
     let wish = c .before .before .before .before .args .wish in
-    omega (arith, c .before .weight-of .ensures, weight-wish wish (sym (is-wish .ensures) ∙ c .before .before .if1 .taken))
+    omega (arith, weight-wish wish (sym (is-wish .ensures) ∙ c .before .before .if1 .taken))
 
 returns : tie.Need-returns
 returns c =
@@ -32,7 +31,7 @@ returns c =
     let weight = c .before .before .weight-of in
     let is-wish = sym (c .before .before .before .before .is-wish .ensures) ∙ c .before .before .before .if1 .taken in
     let own = term-wish (args .v .0) (args .wish) (weight .result) _ is-wish (weight .ensures) (as-read (keeping .result) (keeping .ok) ∙ keeping .ensures) in
-    omega (arith, c .term-length .ensures, ap length own)
+    omega (arith, ap length own)
 
 returns-2 : tie.Need-returns-2
 returns-2 c =

@@ -40,7 +40,7 @@ loop-less c = search needs
 loop-again : tie.Need-loop-again Inv-loop μ-loop
 loop-again c =
     let row = c .before .before .before .before .before .args .row .now in
-    omega (arith, c .byte-length .ensures, terms-length row (c .before .before .before .loop .i) (c .before .before .loop-test .taken))
+    omega (arith, terms-length row (c .before .before .before .loop .i) (c .before .before .loop-test .taken))
 
 returns : tie.Need-returns Inv-loop μ-loop
 returns c =

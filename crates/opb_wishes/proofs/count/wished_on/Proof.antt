@@ -28,7 +28,7 @@ on-weight-of-requires c κs = search needs
 most : (c : tie.After-on-weight-of Inv-loop μ-loop) → c .on-weight-of .result ≤ maxWeight
 most c =
     let row = c .before .before .before .before .before .args .row .now in
-    omega (arith, c .on-weight-of .ensures, on-weight-most (getD row (c .before .before .before .loop .i) 0))
+    omega (arith, on-weight-most (getD row (c .before .before .before .loop .i) 0))
 
 add-total : tie.Need-add-total Inv-loop μ-loop
 add-total c = omega (arith, most c)
@@ -42,7 +42,7 @@ loop-less c = search needs
 loop-again : tie.Need-loop-again Inv-loop μ-loop
 loop-again c =
     let row = c .before .before .before .before .before .args .row .now in
-    omega (arith, most c, c .on-weight-of .ensures, on-step row (c .before .before .before .loop .i) (c .before .before .loop-test .taken))
+    omega (arith, most c, on-step row (c .before .before .before .loop .i) (c .before .before .loop-test .taken))
 
 returns : tie.Need-returns Inv-loop μ-loop
 returns c =
