@@ -48,7 +48,7 @@ loop-again c =
     let later : List ℕ = rest row (loop .i) inside in (
       omega arith,
       call .kept .1 .1 .0 ∙ loop .inv .1,
-      omega (arith, terms-length row (loop .i) inside, call .ensures .place, loop .inv .2),
+      omega (arith, terms-length row (loop .i) inside),
       wrote-before later (call .ensures) ∙ ap (sets (loop .out) (loop .at)) (sym (terms-split row (loop .i) inside)) ∙ loop .inv .3,
     )
 

@@ -42,7 +42,7 @@ keeping-of-requires c κs = search needs
 put-term-requires : tie.Need-put-term-requires
 put-term-requires c κs =
     let wish = c .before .before .before .before .before .before .args .wish in
-    omega (arith, c .before .before .weight-of .ensures, weight-wish wish (is-wish c), ap length (own c))
+    omega (arith, weight-wish wish (is-wish c), ap length (own c))
 
 same-length : tie.Need-same-length
 same-length c = search needs
