@@ -4,8 +4,8 @@ ghost use Prim.Native.Nat.{_+_, _<_, _≤_};
 ghost use lib.ListN.{length};
 ghost use Rattle.writing.specs.Wrote.{Wrote};
 ghost use Rattle.pseudo_boolean.specs.Export.{term};
+ghost use Rattle.opb_format.specs.Laws.{signOf};
 ghost use Rattle.opb_format.specs.Opb.{termText};
-ghost use Rattle.opb_parts.specs.Parts.{signOf};
 
 // How many bytes a term takes, with the space behind it: two numbers, a sign, an x and two spaces.
 pub fn term_length(weight: usize, x: i32) -> usize

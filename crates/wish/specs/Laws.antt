@@ -160,3 +160,10 @@ on-free w e = go (eqb (wishedValue w) 1)
     go : (t : Bool) → cond t (weight w) 0 ≡ 0
     go true = weight-free w e
     go false = refl
+
+pub on-weight : (w : ℕ) → onWeight w ≤ weight w
+on-weight w = go (eqb (wishedValue w) 1)
+  where
+    go : (t : Bool) → cond t (weight w) 0 ≤ weight w
+    go true = le-refl (weight w)
+    go false = zero-le

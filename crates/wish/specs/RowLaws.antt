@@ -7,8 +7,8 @@ use native.Mathlib.Numerals.{add-one}
 use native.Mathlib.Omega.{arith}
 use lib.ListN.{length, getD, drop, drop-of-length-le}
 use lib.Seq.{drop-cons}
-use Rattle.wish.specs.Wish.{isWish, weight, wishCount, totalWeight}
-use Rattle.wish.specs.Laws.{weight-wish}
+use Rattle.wish.specs.Wish.{isWish, weight, wishCount, totalWeight, wishedOn}
+use Rattle.wish.specs.Laws.{weight-wish, on-weight}
 
 -- a row has no more wishes than variables
 pub count-most : (row : List ℕ) → wishCount row ≤ length row
@@ -27,6 +27,11 @@ count-weight (w ∷ row) = go (isWish w) refl (count-weight row)
     go : (t : Bool) → isWish w ≡ t → wishCount row ≤ totalWeight row → cond t (suc (wishCount row)) (wishCount row) ≤ weight w + totalWeight row
     go true e h = omega (arith, weight-wish w e)
     go false e h = omega arith
+
+-- the wishes for on weigh no more than all
+pub on-most : (row : List ℕ) → wishedOn row ≤ totalWeight row
+on-most [] = zero-le
+on-most (w ∷ row) = omega (arith, on-weight w, on-most row)
 
 -- how many wishes are left of a row: one and the rest, or the rest; none past its end
 pub count-wish : (row : List ℕ) (i : ℕ) → i < length row → isWish (getD row i 0) ≡ true → wishCount (drop i row) ≡ suc (wishCount (drop (i + 1) row))

@@ -4,7 +4,7 @@ use native.Mathlib.Omega.{arith}
 use lib.IntN.{pos, _-ℤ_}
 use lib.ListN.{length}
 use borrow.Author.Needs.{needs}
-use Rattle.opb_parts.specs.Parts.{difference-less, difference-more, bound-size}
+use Rattle.opb_format.specs.Laws.{difference-less, difference-more, bound-size}
 use Rattle.opb_parts.proofs.bound.bound_length.Statement.{statement}
 use Rattle.opb_parts.proofs.bound.bound_length.Tie as tie
 

@@ -7,7 +7,7 @@ use lib.ListN.{length}
 use borrow.Author.Needs.{needs}
 use Rattle.text.specs.Text.{numeral}
 use Rattle.writing.specs.Wrote.{wrote-more, wrote-room}
-use Rattle.opb_parts.specs.Parts.{bound-size}
+use Rattle.opb_format.specs.Laws.{bound-size}
 use Rattle.opb_parts.proofs.bound.put_bound.Statement.{statement}
 use Rattle.opb_parts.proofs.bound.put_bound.Tie as tie
 

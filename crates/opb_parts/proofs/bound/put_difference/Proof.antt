@@ -4,7 +4,7 @@ use native.Mathlib.Omega.{arith}
 use lib.ListN.{length}
 use borrow.Author.Needs.{needs}
 use Rattle.writing.specs.Wrote.{wrote-as, wrote-more}
-use Rattle.opb_parts.specs.Parts.{difference-less, difference-more}
+use Rattle.opb_format.specs.Laws.{difference-less, difference-more}
 use Rattle.opb_parts.proofs.bound.put_difference.Statement.{statement}
 use Rattle.opb_parts.proofs.bound.put_difference.Tie as tie
 

@@ -1,7 +1,7 @@
 -- `opb_parts::header::header_length` meets its contract: two numbers and 28 other bytes.
 use native.Mathlib.Omega.{arith}
 use borrow.Author.Needs.{needs}
-use Rattle.opb_parts.specs.Parts.{header-size}
+use Rattle.opb_format.specs.Laws.{header-size}
 use Rattle.opb_parts.proofs.header.header_length.Statement.{statement}
 use Rattle.opb_parts.proofs.header.header_length.Tie as tie
 

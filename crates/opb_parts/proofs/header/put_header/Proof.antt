@@ -6,8 +6,8 @@ use lib.ListN.{length, length-append}
 use borrow.Author.Needs.{needs}
 use Rattle.decimal.specs.Decimal.{decimal}
 use Rattle.writing.specs.Wrote.{wrote-more, wrote-room}
+use Rattle.opb_format.specs.Laws.{header-size}
 use Rattle.opb_format.specs.Opb.{constraintWord}
-use Rattle.opb_parts.specs.Parts.{header-size}
 use Rattle.opb_parts.proofs.header.put_header.Statement.{statement}
 use Rattle.opb_parts.proofs.header.put_header.Tie as tie
 

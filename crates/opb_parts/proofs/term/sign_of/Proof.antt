@@ -4,7 +4,7 @@ use mir.Syntax.{w32}
 use mir.ValLaws.{toZ-ofZ}
 use borrow.Author.Needs.{needs}
 use Rattle.literal.specs.Literal.{wanted}
-use Rattle.opb_parts.specs.Parts.{sign-off, sign-on}
+use Rattle.opb_format.specs.Laws.{sign-off, sign-on}
 use Rattle.opb_parts.proofs.term.sign_of.Statement.{statement}
 use Rattle.opb_parts.proofs.term.sign_of.Tie as tie
 

@@ -5,7 +5,7 @@ use mir.Syntax.{w32}
 use mir.ValLaws.{toZ-ofZ}
 use borrow.Author.Needs.{needs}
 use Rattle.literal.specs.Literal.{variable}
-use Rattle.opb_parts.specs.Parts.{term-size}
+use Rattle.opb_format.specs.Laws.{term-size}
 use Rattle.opb_parts.proofs.term.term_length.Statement.{statement}
 use Rattle.opb_parts.proofs.term.term_length.Tie as tie
 
