@@ -4,6 +4,7 @@ use admission_steps::Counts;
 use refusal::Refusal;
 use refusal::Verdict;
 ghost use mathlib.Core.Path.{_≡_};
+ghost use Prim.Native.Nat.{_≤_};
 ghost use lib.ListN.{length};
 ghost use Rattle.causes.specs.Admitted.{Admitted};
 ghost use Rattle.causes.specs.Lent.{exportedProblem};
