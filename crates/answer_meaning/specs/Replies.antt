@@ -20,6 +20,8 @@ use Rattle.wish_writer.specs.Write as wishes
 use Rattle.searches.specs.Searches.{found, brokenBy, lentToSearch, lentToPlain, searchReply, plainReply, nearestReply}
 use Rattle.totalizer.specs.Totalizer.{rewrittenVariables, rewritten}
 use Rattle.encoding.specs.Rewrite.{lentToRewrite, rewriteReply}
+use Rattle.opb_format.specs.Opb.{opbOf}
+use Rattle.opb_writer.specs.Write as opb
 use Rattle.answers.specs.Answers.{answerOf}
 use Rattle.answer_meaning.specs.Numbers.{Numbered, lent-numbered}
 
@@ -70,6 +72,11 @@ module _ (n : ℕ) (list : List ℤ) (row : List ℕ) where
   rewrite-told d room =
       let s : Lent = lentToRewrite n list row d room in
       told-unless (refusalOf s) 1 (rewrittenVariables n row) (length (rewritten n list row d)) 0 (lent-numbered s)
+
+  pub write-opb-told : (d room : ℕ) → Told (opb.writeReply n list row d room)
+  write-opb-told d room =
+      let s : Lent = opb.lentToWrite n list row d room in
+      told-unless (refusalOf s) 1 (length (opbOf n list row d)) 0 0 (lent-numbered s)
 
 -- a row and no rule list
 pub write-wishes-told : (n : ℕ) (row : List ℕ) (d room : ℕ) → Told (wishes.writeReply n row d room)

@@ -1,10 +1,12 @@
-// The answers of the calls that read and write the two files.
+// The answers of the calls that read and write files.
 use answers::Answer;
+use opb_writer::WrittenOpb;
 use rule_reader::ReadRules;
 use rule_writer::WrittenRules;
 use wish_reader::ReadWishes;
 use wish_writer::WrittenWishes;
 ghost use mathlib.Core.Path.{_≡_};
+ghost use Rattle.opb_writer.specs.Write as opb_written;
 ghost use Rattle.rule_reader.specs.Read as rules_read;
 ghost use Rattle.rule_writer.specs.Write as rules_written;
 ghost use Rattle.wish_reader.specs.Read as wishes_read;
@@ -52,5 +54,15 @@ pub fn of_written_wishes(written: WrittenWishes) -> Answer
     match written {
         WrittenWishes::Refused(r) => answers::refused(r),
         WrittenWishes::Written(length) => answers::answered(1, length, 0, 0),
+    }
+}
+
+// The value is the length of the file.
+pub fn of_written_opb(written: WrittenOpb) -> Answer
+    ensures { λ a. ⌜ a ≡ answerOf (opb_written.replyOf written) ⌝ }
+{
+    match written {
+        WrittenOpb::Refused(r) => answers::refused(r),
+        WrittenOpb::Written(length) => answers::answered(1, length, 0, 0),
     }
 }

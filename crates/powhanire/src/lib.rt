@@ -1,5 +1,6 @@
-// The library as C links it: the nine calls under plain names, each with its answer as a struct.
+// The library as C links it: the ten calls under plain names, each with its answer as a struct.
 // A slice is a pointer and a length in elements.
+pub mod export;
 pub mod files;
 pub mod judge;
 pub mod rewrite;
