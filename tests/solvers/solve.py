@@ -5,7 +5,8 @@ results.txt. It stops where two of them disagree.
 clasp gets the rules and the wishes as a pseudo-Boolean problem and gives the least number of broken wishes.
 cadical and minisat get the given rule file, and the rewritten one for each limit from 0 to the number of wishes:
 above that it is the same file. The reference of tests/interface rewrites. clasp and Sat4j get the very bytes that the
-program `opb` of this repository prints (`rt check opb` builds it), for the limits at which `routes` exports the book.
+program `opb` of this repository prints (`rt check opb` builds it), for the limits at which `routes` exports the book;
+the reference must print the same.
 Debian's packages clasp, cadical, minisat and sat4j have the four programs."""
 
 import pathlib
@@ -17,7 +18,7 @@ sys.path.append(str(pathlib.Path(__file__).resolve().parents[1]))
 import books
 import reference
 
-REWRITE = reference.program('reference', 'rewrite')
+REWRITE, EXPORT = (reference.program('reference', name) for name in ('rewrite', 'opb'))
 OPB = books.ROOT / 'target' / 'bin' / 'opb'
 SATISFIABLE, UNSATISFIABLE = '+', '-'
 
@@ -119,6 +120,8 @@ def exported(book, folder, n, rules, wishes, least, limit):
     entries, place the first such rule's closing zero"."""
     limits = list(dict.fromkeys(books.search_limits(least, limit)))
     files = [printed(OPB, book, folder, n, wishes, d) for d in limits]
+    if files != [printed(EXPORT, book, folder, n, wishes, d) for d in limits]:
+        fail(book, 'is exported otherwise by the reference, at one of the limits', *limits)
     place = empty_place(rules)
     if place is not None:
         if any(file != b'16 %d\n' % place for file in files):
