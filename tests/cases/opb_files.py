@@ -6,7 +6,7 @@ from asked import needed
 from case_lines import encode, write_opb
 
 # Room for the longest file: include/powhanire.h has this number.
-ENOUGH = 172588
+ENOUGH = 165306
 
 
 def write(text, n, rules, row, d, rooms=None):

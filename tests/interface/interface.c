@@ -37,7 +37,7 @@ static void is(const char *what, answer a, uint64_t refusal, uint64_t place, uin
 
 /* ---- buffers of the sizes that the header says always suffice ---- */
 
-enum { RULES = 40000, RULE_FILE = 173015, WISH_FILE = 720, REWRITTEN = 38914, OPB_FILE = 172588 };
+enum { RULES = 40000, RULE_FILE = 173015, WISH_FILE = 720, REWRITTEN = 38914, OPB_FILE = 165306 };
 
 static int32_t out_rules[RULES], out_rewritten[REWRITTEN];
 static uint8_t out_file[RULE_FILE], out_row[256], out_wishes[WISH_FILE], out_choice[640], out_opb[OPB_FILE];
@@ -227,7 +227,7 @@ static const struct {
     {"write_wishes", "256 settings, 64 wishes", write_wishes, {WISH_FILE, 0, 0}, 4096},
     {"check", "256 settings, 4,096 rules, 16,384 entries", check, {64, 0, 0}, 4096},
     {"rewrite", "the same, 64 wishes", rewrite, {640, REWRITTEN, 0}, 4096},
-    {"write_opb", "the same, the longest file", write_opb, {165306, 0, 0}, 4096},
+    {"write_opb", "the same, the longest file", write_opb, {OPB_FILE, 0, 0}, 4096},
     {"search", "the same, 64 wishes", search_full, {0, 0, 0}, 150000},
     {"nearest", "the same, 64 wishes", nearest_full, {0, 0, 0}, 150000},
     {"plain", "640 settings, 9,000 rules, 31,000 entries", plain_full, {0, 0, 0}, 340000},

@@ -229,7 +229,7 @@ fn longest_rule_file() {
 
 /// The file of the export to OPB, with all the room it may need.
 fn exported(n: u64, rules: &[i32], row: &[u8], d: u64) -> String {
-    let mut file = vec![9; 172_588];
+    let mut file = vec![9; 165_306];
     let a = write_opb(n, rules, row, d, &mut file);
     let (text, past) = file.split_at(a.value[0] as usize);
     assert_eq!(a, Answer { verdict: 1, value: [text.len() as u64, 0, 0], ..Answer::default() });
