@@ -28,6 +28,7 @@
  *     file      (write_wishes)  720 bytes            16 + 11 * wishes
  *     choice    (searches)      n bytes              at most 256 with a wish row, 640 without
  *     rewritten (rewrite)       38,914 numbers       the given list's length + 18,434
+ *     file      (write_opb)     165,306 bytes        at most 556 + 8 * entries + 10 * rules
  *   A call that refuses with 15 says in `place` how many elements it needs.
  *
  * The calls keep no state and use no heap, so several threads may call at once on separate buffers.
@@ -68,8 +69,9 @@ extern "C" {
  *   13  unsound rule list, row or given choice       index of the first bad element; length if not closed
  *   14  n outside 1 to 640, or d above 64            0
  *   15  output buffer too short                      length needed, in elements
+ *   16  rule without entries lent to write_opb       index of the first such rule's closing zero
  * A file's leftmost fault comes first; at one token the order is 3, 6, 7, 4, 5; on a wish line 8, then 9 or 10.
- * Lent values are judged in the order 14, 13 (rules, row, choice), 11, 12; the output's length (15) is last.
+ * Lent values are judged in the order 14, 13 (rules, row, choice), 11, 12, 16; the output's length (15) is last.
  */
 typedef struct {
     uint64_t refusal;   /* 0, or the number above */
@@ -133,6 +135,16 @@ powhanire_answer powhanire_nearest(uint64_t n, const int32_t *rules, size_t rule
 powhanire_answer powhanire_rewrite(uint64_t n, const int32_t *rules, size_t rules_len,
                                    const uint8_t *row, size_t row_len, uint64_t d,
                                    int32_t *rewritten, size_t rewritten_len);
+
+/* Writes rules, wishes and limit as an OPB file, for pseudo-Boolean solvers: a choice satisfies its lines exactly when
+ * it meets the rules and breaks at most d wishes. The first line is `* #variable= N #constraint= C`, with C the number
+ * of lines after it. Each rule is a line: `+1 xV` for entry V, `-1 xV` for -V, in order, then `>= K ;`, K being 1 less
+ * the number of negative entries. If there are wishes, a last line has `+1 xV` for wished on and `-1 xV` for wished
+ * off, by rising setting, and K is the number wished on less d. A rule without entries is refused (16).
+ * value: length of the file. */
+powhanire_answer powhanire_write_opb(uint64_t n, const int32_t *rules, size_t rules_len,
+                                     const uint8_t *row, size_t row_len, uint64_t d,
+                                     uint8_t *file, size_t file_len);
 
 #ifdef __cplusplus
 }

@@ -70,6 +70,12 @@ def write_wishes(text, n, row, d, room):
     lines.append('write_wishes %d %s %d %s' % (n, encode(row), d, encode(buffer)))
 
 
+def write_opb(text, n, rules, row, d, room):
+    buffer = pattern(BYTES, room)
+    label('write OPB: ' + text)
+    lines.append('write_opb %d %s %s %d %s' % (n, encode(rules), encode(row), d, encode(buffer)))
+
+
 def shown(file):
     """A short file for a label."""
     return repr(file)[1:]

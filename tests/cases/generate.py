@@ -4,7 +4,7 @@
     python3 tests/cases/generate.py
 
 writes crates/cases/stdin, and crates/cases/stdout with what the reference of tests/interface answers, which
-follows document 01 and not the library. `rt check cases` then runs the program and compares. The numbers are
+follows documents 01 and 02 and not the library. `rt check cases` then runs the program and compares. The numbers are
 drawn from a fixed seed, so a second run writes the same files.
 
 A case is a line: the name of a call, then its values, single spaces between them. A list is its
@@ -19,6 +19,7 @@ import pathlib
 import random
 
 import forks
+import opb_files
 import rule_files
 import searches
 import wish_files
@@ -276,6 +277,10 @@ def malformed():
         ('rewriting without a buffer', 'rewrite 1 0 1 2 0'),
         ('forks without a limit', 'forks 1 0 1 2'),
         ('forks with a buffer', 'forks 1 0 1 2 0 1 7'),
+        ('OPB without a limit', 'write_opb 1 0 1 2'),
+        ('OPB without a buffer', 'write_opb 1 0 1 2 0'),
+        ('a buffer of numbers for OPB', 'write_opb 1 0 1 2 0 1 -1'),
+        ('a row that is too long for OPB', 'write_opb 1 0 1025 2 @ 1024 1 0 0'),
     ):
         label(NO_CASE + text)
         lines.append(line)
@@ -305,6 +310,7 @@ def main():
     wish_files.add(random.Random(3))
     searches.add(random.Random(4))
     forks.add(random.Random(5))
+    opb_files.add(random.Random(6))
     malformed()
     cases = '\n'.join(lines) + '\n'
     answers = all_answers(cases)

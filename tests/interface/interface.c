@@ -1,5 +1,5 @@
-/* The calls from C: document 01's examples, comment lines, each call on its largest and deepest input, the stack that each
- * takes, and several threads at once. Also compiled as C++. */
+/* The calls from C: document 01's examples, comment lines, the export to OPB, each call on its largest and deepest
+ * input, the stack that each takes, and several threads at once. Also compiled as C++. */
 #include "powhanire.h"
 
 #include <pthread.h>
@@ -37,10 +37,10 @@ static void is(const char *what, answer a, uint64_t refusal, uint64_t place, uin
 
 /* ---- buffers of the sizes that the header says always suffice ---- */
 
-enum { RULES = 40000, RULE_FILE = 173015, WISH_FILE = 720, REWRITTEN = 38914 };
+enum { RULES = 40000, RULE_FILE = 173015, WISH_FILE = 720, REWRITTEN = 38914, OPB_FILE = 165306 };
 
 static int32_t out_rules[RULES], out_rewritten[REWRITTEN];
-static uint8_t out_file[RULE_FILE], out_row[256], out_wishes[WISH_FILE], out_choice[640];
+static uint8_t out_file[RULE_FILE], out_row[256], out_wishes[WISH_FILE], out_choice[640], out_opb[OPB_FILE];
 
 /* ---- examples ---- */
 
@@ -119,6 +119,22 @@ static void rewriting_example(void) {
     expect(memcmp(out_wishes, wishes, strlen(wishes)) == 0, "the wish file again");
 }
 
+/* Document 02, L2, on the same example; 16 at a closing zero, and 15 after it. */
+static void opb_example(void) {
+    static const int32_t one_or_two[] = {1, 2, 0}, empty_rule[] = {1, 0, 0};
+    static const uint8_t both_off[] = {0, 0};
+    static const char exported[] = "* #variable= 2 #constraint= 2\n+1 x1 +1 x2 >= 1 ;\n-1 x1 -1 x2 >= -1 ;\n";
+    const size_t length = strlen(exported);
+    memset(out_opb, 9, OPB_FILE);
+    is("a byte too short", powhanire_write_opb(2, one_or_two, 3, both_off, 2, 1, out_opb, length - 1), 15, length, 0, 0, 0, 0);
+    is("no room", powhanire_write_opb(2, one_or_two, 3, both_off, 2, 1, NULL, 0), 15, length, 0, 0, 0, 0);
+    is("a rule without entries", powhanire_write_opb(2, empty_rule, 3, both_off, 2, 1, out_opb, OPB_FILE), 16, 2, 0, 0, 0, 0);
+    is("the same without room", powhanire_write_opb(2, empty_rule, 3, both_off, 2, 1, NULL, 0), 16, 2, 0, 0, 0, 0);
+    expect(out_opb[0] == 9 && memcmp(out_opb, out_opb + 1, OPB_FILE - 1) == 0, "a refusal leaves the file");
+    is("exported", powhanire_write_opb(2, one_or_two, 3, both_off, 2, 1, out_opb, OPB_FILE), 0, 0, 1, length, 0, 0);
+    expect(memcmp(out_opb, exported, length) == 0 && out_opb[length] == 9, "the OPB file, and what lies past stays");
+}
+
 /* ---- the largest and the deepest inputs ---- */
 
 /* A search makes n - 1 forks on one path of this book, as many as there can be: a fork settles one setting,
@@ -148,8 +164,21 @@ static size_t full(size_t rules, size_t entries, int32_t highest, int32_t *list)
     return length;
 }
 
-static int32_t ladder640[RULES], ladder256[RULES], full640[RULES], full256[RULES];
-static size_t ladder640_len, ladder256_len, full640_len, full256_len;
+/* The list with the longest OPB file: 16,384 entries of three digits in 4,096 rules. A K of two places takes 2 negative
+ * entries, one of three takes 11. */
+static size_t longest_opb(int32_t *list) {
+    size_t length = 0;
+    for (size_t r = 0; r < 4096; r++) {
+        size_t own = r < 910 ? 11 : r < 912 ? 3 : 2;
+        for (size_t k = 0; k < own; k++)
+            list[length++] = -100 - (int32_t)k;
+        list[length++] = 0;
+    }
+    return length;
+}
+
+static int32_t ladder640[RULES], ladder256[RULES], full640[RULES], full256[RULES], opb256[RULES];
+static size_t ladder640_len, ladder256_len, full640_len, full256_len, opb256_len;
 static uint8_t full_file[RULE_FILE], wish_file[WISH_FILE], off64[256], on64[256], last64[256], choice256[256];
 static answer result;
 
@@ -158,6 +187,7 @@ static void build(void) {
     ladder256_len = ladder(256, ladder256);
     full640_len = full(9000, 31000, 640, full640);
     full256_len = full(4096, 16384, 256, full256);
+    opb256_len = longest_opb(opb256);
     memset(off64, 2, 256);
     memset(on64, 2, 256);
     memset(last64, 2, 256);
@@ -182,6 +212,7 @@ static void plain_full(void) { result = powhanire_plain(640, full640, full640_le
 static void nearest_deep(void) { result = powhanire_nearest(256, ladder256, ladder256_len, on64, 256, out_choice, 256); }
 static void nearest_full(void) { result = powhanire_nearest(256, full256, full256_len, on64, 256, out_choice, 256); }
 static void rewrite(void) { result = powhanire_rewrite(256, full256, full256_len, off64, 256, 0, out_rewritten, REWRITTEN); }
+static void write_opb(void) { result = powhanire_write_opb(256, opb256, opb256_len, last64, 256, 64, out_opb, OPB_FILE); }
 
 /* With each call its input, its answer, and a bound on its stack, a little above what include/powhanire.h says. */
 static const struct {
@@ -196,6 +227,7 @@ static const struct {
     {"write_wishes", "256 settings, 64 wishes", write_wishes, {WISH_FILE, 0, 0}, 4096},
     {"check", "256 settings, 4,096 rules, 16,384 entries", check, {64, 0, 0}, 4096},
     {"rewrite", "the same, 64 wishes", rewrite, {640, REWRITTEN, 0}, 4096},
+    {"write_opb", "the same, the longest file", write_opb, {OPB_FILE, 0, 0}, 4096},
     {"search", "the same, 64 wishes", search_full, {0, 0, 0}, 150000},
     {"nearest", "the same, 64 wishes", nearest_full, {0, 0, 0}, 150000},
     {"plain", "640 settings, 9,000 rules, 31,000 entries", plain_full, {0, 0, 0}, 340000},
@@ -291,6 +323,7 @@ int main(void) {
     expect(getrlimit(RLIMIT_STACK, &limit) == 0 && limit.rlim_cur <= STACK, "run under `ulimit -s 1024`");
     examples();
     rewriting_example();
+    opb_example();
     build();
     run_largest();
     threads();

@@ -1,12 +1,16 @@
 """The rule books of the program `routes`: how its input holds them, and the two files of document 01."""
 
 import collections
+import functools
 import pathlib
 
 ROOT = pathlib.Path(__file__).resolve().parents[2]
 STDIN = ROOT / 'crates' / 'routes' / 'stdin'
 STDOUT = ROOT / 'crates' / 'routes' / 'stdout'
 RESULTS = ROOT / 'tests' / 'solvers' / 'results.txt'
+
+# The greatest limit.
+GREATEST = 64
 
 # A book has a name, the number of limits at which both routes are run, and its two files.
 Book = collections.namedtuple('Book', 'name limits rule_file wish_file')
@@ -49,6 +53,18 @@ def parse_wishes(file):
     wishes = dict(lines)
     assert len(wishes) == count
     return n, wishes, limit
+
+
+def search_limits(least, limit):
+    """The limits of the wish search and the export in a book's line: the least number of broken wishes, one below and
+    0, or the greatest and 0 where the rules cannot be met; and the limit of the wish file."""
+    near = [GREATEST, 0] if least is None else dict.fromkeys([least, max(least - 1, 0), 0])
+    return [*near, limit]
+
+
+def sum_of(file):
+    """A sum in which the order of the bytes counts, as the programs `cases` and `routes` have it."""
+    return functools.reduce(lambda total, byte: (total * 31 + byte) % 998244353, file, 0)
 
 
 def frame(book):

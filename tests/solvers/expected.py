@@ -2,7 +2,8 @@
 """Writes what the program `routes` must write, to crates/routes/stdout, from the solvers' results alone.
 
 In its lines `found, met` says that the checking call finds all rules met, as many wishes broken as the search
-says, and no more than the limit."""
+says, and no more than the limit. Beside each answer of the wish search stands the OPB file of the same limit, whose
+verdict by the solvers that answer is."""
 
 import books
 
@@ -20,12 +21,25 @@ def run_of(values, low, wanted):
     return next((i for i in range(low, len(values)) if values[i] != wanted), len(values))
 
 
-def searches(least, limit):
-    """Nearest, the wish search at its count and one below, and at the limit of the wish file."""
-    if least is None:
-        return ['nearest none', 'limit 64 none', 'limit %d none' % limit]
-    limits = [least, least - 1, limit] if least else [least, limit]
-    return ['nearest %d found, met' % least] + ['limit %d %s' % (d, word(least <= d)) for d in limits]
+def exports(words):
+    """For a limit, whether the solvers can satisfy the exported file, and what is printed of that file."""
+    if words[0] == 'refused':
+        return lambda d: (False, 'OPB refused %s at %s' % (words[1], words[2]))
+    *files, _, verdicts, _, _ = words
+    shown = {}
+    for file, verdict in zip(files, verdicts):
+        d, length, total = file.split(':')
+        shown[int(d)] = verdict == '+', 'OPB of %s bytes, sum %s' % (length, total)
+    return shown.__getitem__
+
+
+def searches(least, limit, exported):
+    """Nearest, and the wish search at some limits, with the exported file of each."""
+    parts = ['nearest none' if least is None else 'nearest %d found, met' % least]
+    for d in books.search_limits(least, limit):
+        found, file = exported(d)
+        parts.append('limit %d %s, %s' % (d, word(found), file))
+    return parts
 
 
 def routes(least, rewritten, count):
@@ -41,10 +55,10 @@ def routes(least, rewritten, count):
 
 def line(result):
     """The line of a book. Its fields are named at the top of the results."""
-    name, n, rules, wishes, limit, count, _, least, _, given, rewritten = result.split()[:11]
+    name, n, rules, wishes, limit, count, _, least, _, given, rewritten, _, _, _, _, *exported = result.split()
     least = None if least == 'none' else int(least)
     parts = ['%s: settings %s rules %s wishes %s limit %s' % (name, n, rules, wishes, limit)]
-    parts += searches(least, int(limit))
+    parts += searches(least, int(limit), exports(exported))
     parts.append('plain ' + word(given == '+'))
     parts.append(routes(least, rewritten, int(count)))
     return '; '.join(parts) + '\n'

@@ -4,7 +4,10 @@ results.txt. It stops where two of them disagree.
 
 clasp gets the rules and the wishes as a pseudo-Boolean problem and gives the least number of broken wishes.
 cadical and minisat get the given rule file, and the rewritten one for each limit from 0 to the number of wishes:
-above that it is the same file. The reference of tests/interface rewrites. Debian's packages clasp, cadical and minisat have the three programs."""
+above that it is the same file. The reference of tests/interface rewrites. clasp and Sat4j get the very bytes that the
+program `opb` of this repository prints (`rt check opb` builds it), for the limits at which `routes` exports the book;
+the reference must print the same.
+Debian's packages clasp, cadical, minisat and sat4j have the four programs."""
 
 import pathlib
 import subprocess
@@ -15,14 +18,20 @@ sys.path.append(str(pathlib.Path(__file__).resolve().parents[1]))
 import books
 import reference
 
-REWRITE = reference.program('reference', 'rewrite')
+REWRITE, EXPORT = (reference.program('reference', name) for name in ('rewrite', 'opb'))
+OPB = books.ROOT / 'target' / 'bin' / 'opb'
 SATISFIABLE, UNSATISFIABLE = '+', '-'
 
 # With which words each solver is run on a file.
-CLASP, CADICAL, MINISAT = ['clasp', '--quiet=1,0'], ['cadical', '-q', '-n'], ['minisat', '-verb=0']
+COMMANDS = {
+    'clasp': ['clasp', '--quiet=1,0'],
+    'cadical': ['cadical', '-q', '-n'],
+    'minisat': ['minisat', '-verb=0'],
+    'sat4j': ['java', '-jar', '/usr/share/java/org.ow2.sat4j.pb.jar'],
+}
 
-# The exit statuses of the SAT competitions.
-VERDICTS = {10: SATISFIABLE, 20: UNSATISFIABLE}
+# The exit statuses of the SAT competitions; clasp has 30 where it sees besides that the choice is the only one.
+VERDICTS = {10: SATISFIABLE, 20: UNSATISFIABLE, 30: SATISFIABLE}
 
 
 def fail(book, *words):
@@ -41,16 +50,16 @@ def pseudo_boolean(n, rules, wishes):
     return ''.join(line + '\n' for line in lines).encode('ascii')
 
 
-def run(command, folder, content):
+def run(solver, folder, content):
     """A solver on a file."""
     path = folder / 'problem'
     path.write_bytes(content)
-    return subprocess.run([*command, path], capture_output=True, text=True)
+    return subprocess.run([*COMMANDS[solver], path], capture_output=True, text=True)
 
 
 def least_broken(book, folder, problem):
     """clasp's answer: a number, or None where the rules cannot be met."""
-    result = run(CLASP, folder, pseudo_boolean(*problem))
+    result = run('clasp', folder, pseudo_boolean(*problem))
     lines = result.stdout.splitlines()
     if 's UNSATISFIABLE' in lines:
         return None
@@ -61,22 +70,70 @@ def least_broken(book, folder, problem):
     return int([line for line in lines if line.startswith('o ')][-1].split()[1])
 
 
-def verdict(book, command, folder, content):
-    """The verdict of cadical or minisat."""
-    result = run(command, folder, content)
+def verdict(book, solver, folder, content):
+    """Whether a solver says that a file can be satisfied."""
+    result = run(solver, folder, content)
     if result.returncode not in VERDICTS:
-        fail(book, command[0], 'gives no verdict:', result.stdout, result.stderr)
+        fail(book, solver, 'gives no verdict:', result.stdout, result.stderr)
     return VERDICTS[result.returncode]
 
 
-def rewritten(book, folder, n, wishes, d):
-    """The file that document 01's rewriting program prints for a limit, by the reference."""
+def verdicts(book, solver, folder, files):
+    return ''.join(verdict(book, solver, folder, file) for file in files)
+
+
+def by_least(least, limits):
+    """The verdicts that the least number of broken wishes gives for some limits."""
+    return ''.join(UNSATISFIABLE if least is None or least > d else SATISFIABLE for d in limits)
+
+
+def printed(program, book, folder, n, wishes, d):
+    """What a program prints for a book with a limit."""
     (folder / 'rules.cnf').write_bytes(book.rule_file)
     (folder / 'wish.txt').write_bytes(books.wish_file(n, wishes, d))
-    file = subprocess.run([REWRITE, folder], stdout=subprocess.PIPE, check=True).stdout
-    if not file.startswith(b'p cnf'):
-        fail(book, 'rewriting gives', file)
-    return file
+    return subprocess.run([program], cwd=folder, stdout=subprocess.PIPE, check=True).stdout
+
+
+def rewritten(book, folder, n, wishes, least):
+    """cadical's and minisat's verdicts on the given rules and on the rewritten ones."""
+    limits = range(len(wishes) + 1)
+    files = [printed(REWRITE, book, folder, n, wishes, d) for d in limits]
+    if not all(file.startswith(b'p cnf') for file in files):
+        fail(book, 'rewriting gives', *files)
+    words = []
+    for solver in ('cadical', 'minisat'):
+        given, found = verdict(book, solver, folder, book.rule_file), verdicts(book, solver, folder, files)
+        if given != (UNSATISFIABLE if least is None else SATISFIABLE) or found != by_least(least, limits):
+            fail(book, 'clasp', least, 'and', solver, given, found, 'disagree')
+        words += [solver, given, found]
+    return words
+
+
+def empty_place(rules):
+    """The place in the rule list of the first empty rule's closing zero, None where no rule is empty."""
+    lengths = [len(rule) for rule in rules]
+    return sum(length + 1 for length in lengths[: lengths.index(0)]) if 0 in lengths else None
+
+
+def exported(book, folder, n, rules, wishes, least, limit):
+    """The exported files, and clasp's and Sat4j's verdicts on them. An empty rule is refused: "16, a rule without
+    entries, place the first such rule's closing zero"."""
+    limits = list(dict.fromkeys(books.search_limits(least, limit)))
+    files = [printed(OPB, book, folder, n, wishes, d) for d in limits]
+    if files != [printed(EXPORT, book, folder, n, wishes, d) for d in limits]:
+        fail(book, 'is exported otherwise by the reference, at one of the limits', *limits)
+    place = empty_place(rules)
+    if place is not None:
+        if any(file != b'16 %d\n' % place for file in files):
+            fail(book, 'has an empty rule at', place, 'and the export gives', *files)
+        return ['opb', 'refused', 16, place]
+    words = ['opb', *('%d:%d:%d' % (d, len(file), books.sum_of(file)) for d, file in zip(limits, files))]
+    for solver in ('clasp', 'sat4j'):
+        found = verdicts(book, solver, folder, files)
+        if found != by_least(least, limits):
+            fail(book, 'clasp', least, 'and', solver, 'on the exported files', *limits, found, 'disagree')
+        words += [solver, found]
+    return words
 
 
 def solved(book, folder):
@@ -86,18 +143,10 @@ def solved(book, folder):
     if n != m:
         fail(book, 'its two files differ in the number of settings')
     least = least_broken(book, folder, (n, rules, wishes))
-    limits = range(len(wishes) + 1)
-    files = [rewritten(book, folder, n, wishes, d) for d in limits]
-    words = ['clasp', 'none' if least is None else least]
-    for command in (CADICAL, MINISAT):
-        given = verdict(book, command, folder, book.rule_file)
-        verdicts = ''.join(verdict(book, command, folder, file) for file in files)
-        expected = ''.join(UNSATISFIABLE if least is None or least > d else SATISFIABLE for d in limits)
-        if given != (UNSATISFIABLE if least is None else SATISFIABLE) or verdicts != expected:
-            fail(book, 'clasp', least, 'and', command[0], given, verdicts, 'disagree')
-        words += [command[0], given, verdicts]
-    sizes = n, len(rules), len(wishes), limit, book.limits
-    return ' '.join(map(str, (book.name, *sizes, *words)))
+    words = [book.name, n, len(rules), len(wishes), limit, book.limits, 'clasp', 'none' if least is None else least]
+    words += rewritten(book, folder, n, wishes, least)
+    words += exported(book, folder, n, rules, wishes, least, limit)
+    return ' '.join(map(str, words))
 
 
 def version(package):
@@ -106,12 +155,16 @@ def version(package):
 
 
 def main():
+    if not OPB.exists():
+        sys.exit('no %s: run `rt check opb` first' % OPB)
     lines = [
         '# What solvers from elsewhere answer on the rule books of crates/routes/stdin. solve.py writes this file.',
-        '# The solvers are the Debian packages %s.' % ', '.join(map(version, ('clasp', 'cadical', 'minisat'))),
+        '# The solvers are the Debian packages %s.' % ', '.join(map(version, COMMANDS)),
         '# A line: the book, its settings, rules, wishes, limit, and the number of limits for both routes; the least',
         '# number of broken wishes by clasp, or none; then, by cadical and by minisat, whether the given rules can be',
-        '# met (+) or not (-), and the same of the rewritten rules for each limit from 0 to the number of wishes.',
+        '# met (+) or not (-), and the same of the rewritten rules for each limit from 0 to the number of wishes; then',
+        '# the OPB files that the program `opb` prints, LIMIT:LENGTH:SUM each, and by clasp and by sat4j whether each of',
+        '# them can be satisfied; or the number and the place of their refusal.',
     ]
     with tempfile.TemporaryDirectory() as folder:
         lines += [solved(book, pathlib.Path(folder)) for book in books.read()]

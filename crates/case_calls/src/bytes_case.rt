@@ -2,6 +2,7 @@
 use crate::call::CHECK;
 use crate::call::READ_WISHES;
 use crate::call::SEARCH;
+use crate::call::WRITE_OPB;
 use crate::call::WRITE_RULES;
 use crate::search_case;
 use crate::show;
@@ -37,6 +38,7 @@ fn called(call: usize, n: usize, rules: &[i32], row: &[u8], d: usize, out: &mut 
     match call {
         READ_WISHES => file_answers::of_read_wishes(wish_reader::read_wishes(row, out)),
         WRITE_RULES => file_answers::of_written_rules(rule_writer::write_rules(n, rules, out)),
+        WRITE_OPB => file_answers::of_written_opb(opb_writer::write_opb(n, rules, row, d, out)),
         _ => file_answers::of_written_wishes(wish_writer::write_wishes(n, row, d, out)),
     }
 }

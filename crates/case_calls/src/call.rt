@@ -9,21 +9,23 @@ pub const READ_WISHES: usize = 3;
 
 pub const WRITE_WISHES: usize = 4;
 
-pub const SEARCH: usize = 5;
+pub const WRITE_OPB: usize = 5;
 
-pub const PLAIN: usize = 6;
+pub const SEARCH: usize = 6;
 
-pub const NEAREST: usize = 7;
+pub const PLAIN: usize = 7;
 
-pub const REWRITE: usize = 8;
+pub const NEAREST: usize = 8;
 
-pub const FORKS: usize = 9;
+pub const REWRITE: usize = 9;
+
+pub const FORKS: usize = 10;
 
 // Which call a line names; any other number where it names none.
 pub fn named(line: &[u8]) -> usize {
     case_text::name_of(
         line,
-        b"check\nread_rules\nwrite_rules\nread_wishes\nwrite_wishes\nsearch\nplain\nnearest\nrewrite\nforks\n",
+        b"check\nread_rules\nwrite_rules\nread_wishes\nwrite_wishes\nwrite_opb\nsearch\nplain\nnearest\nrewrite\nforks\n",
     )
 }
 

@@ -66,7 +66,7 @@ fn sum_of_numbers(list: &[i32]) -> usize {
     sum
 }
 
-fn sum_of_bytes(list: &[u8]) -> usize {
+pub fn sum_of_bytes(list: &[u8]) -> usize {
     let mut sum: usize = 0;
     let mut i = 0;
     while i < list.len() {

@@ -12,12 +12,12 @@ ghost use mathlib.Core.Path.{_≡_};
 ghost use lib.ListN.{length};
 
 // The input must be shorter than this.
-const INPUT: usize = 1048576;
+const INPUT: usize = 1310720;
 
-fn input() -> [u8; 1048576]
-    ensures { λ r. ⌜ 1048576 ≡ length r ⌝ }
+fn input() -> [u8; 1310720]
+    ensures { λ r. ⌜ 1310720 ≡ length r ⌝ }
 {
-    [0; 1048576]
+    [0; 1310720]
 }
 
 fn main() {

@@ -1,7 +1,9 @@
-// Runs the searches and both routes on the rule books of standard input, and writes a line for each.
+// Runs the searches, the export to OPB and both routes on the rule books of standard input, and writes a line
+// for each.
 // What it must write was made from the results of solvers from elsewhere (tests/solvers).
 mod book;
 mod books;
+mod export;
 mod outcome;
 mod report;
 mod route;

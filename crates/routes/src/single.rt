@@ -1,4 +1,5 @@
-// The searches, each on its own.
+// The searches, each on its own, and the export beside the wish search.
+use crate::export;
 use crate::outcome;
 use crate::report;
 use crate::route;
@@ -9,7 +10,8 @@ use searches::Searched;
 // The greatest limit, and the greatest number of wishes.
 const GREATEST: usize = 64;
 
-// Nearest, and the wish search at its count and at one below; at the greatest limit where it finds none.
+// Nearest, and the wish search at its count, at one below and at 0; at the greatest limit and at 0 where it
+// finds none.
 pub fn nearest(n: usize, rules: &[i32], row: &[u8]) {
     let mut choice = unset::choice();
     nearest_into(n, rules, row, &mut choice);
@@ -25,6 +27,7 @@ fn nearest_into(n: usize, rules: &[i32], row: &[u8], choice: &mut [u8]) {
         Searched::Nothing => {
             words::write(words::NONE);
             wished(n, rules, row, GREATEST);
+            wished(n, rules, row, 0);
         }
         Searched::Found(count) => {
             report::value(words::BLANK, count);
@@ -39,12 +42,16 @@ fn around(n: usize, rules: &[i32], row: &[u8], count: usize) {
     if 0 < count {
         wished(n, rules, row, count - 1);
     }
+    if 1 < count {
+        wished(n, rules, row, 0);
+    }
 }
 
-// The wish search at a limit.
+// The wish search and the export at a limit.
 pub fn wished(n: usize, rules: &[i32], row: &[u8], d: usize) {
     report::value(words::AT_LIMIT, d);
     report::outcome(route::first(n, rules, row, d));
+    export::at_limit(n, rules, row, d);
 }
 
 // Plain search on the given rules, whatever wishes its choice breaks.

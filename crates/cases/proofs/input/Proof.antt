@@ -6,7 +6,7 @@ use Rattle.cases.proofs.input.Statement.{statement}
 use Rattle.cases.proofs.input.Tie as tie
 
 returns : tie.Need-returns
-returns c = sym (length-replicate {0} {A = ℕ} 1048576 0)
+returns c = sym (length-replicate {0} {A = ℕ} 1310720 0)
 
 pub input-spec : {M : Type 1} → statement M
 input-spec = tie.close (tie.spec returns)

@@ -18,6 +18,7 @@ fn called(line: &str, short: usize) -> Option<String> {
         "write_rules" => write_rules,
         "read_wishes" => read_wishes,
         "write_wishes" => write_wishes,
+        "write_opb" => write_opb,
         "search" => search,
         "plain" => plain,
         "nearest" => nearest,
@@ -89,6 +90,13 @@ fn write_wishes(mut v: Values, short: usize) -> Option<String> {
     let (n, row, d, mut file) = (v.number()?, v.row()?, v.number()?, v.bytes()?);
     v.end()?;
     let words = said(reference::write_wishes(n, &row, d, &mut file), written);
+    Some(format!("{words}\n{}", held(&file, short)))
+}
+
+fn write_opb(mut v: Values, short: usize) -> Option<String> {
+    let (n, rules, row, d, mut file) = (v.number()?, v.numbers()?, v.row()?, v.number()?, v.bytes()?);
+    v.end()?;
+    let words = said(reference::write_opb(n, &rules, &row, d, &mut file), written);
     Some(format!("{words}\n{}", held(&file, short)))
 }
 

@@ -181,4 +181,16 @@ impl Both {
         let input = || format!("n {n} rules {} row {} d {d} room {room}", short(rules), short(row));
         self.judge("rewrite", (got, right), alike, (left, expected), input)
     }
+
+    pub fn write_opb(&mut self, n: u64, rules: &[i32], row: &[u8], d: u64, room: usize) -> (Answer, Vec<u8>) {
+        let before = filled(room);
+        let mut expected = before.clone();
+        let right = reference::write_opb(n, rules, row, d, &mut expected);
+        let [a, b, o, _] = &mut self.pages;
+        let got = powhanire::write_opb(n, a.lend(rules), b.lend(row), d, o.lend(&before));
+        let alike = a.after(rules.len()).as_deref() == Some(rules) && b.after(row.len()).as_deref() == Some(row);
+        let left = o.after(room);
+        let input = || format!("n {n} rules {} row {} d {d} room {room}", short(rules), short(row));
+        self.judge("write_opb", (got, right), alike, (left, expected), input)
+    }
 }

@@ -1,6 +1,7 @@
 //! Compares the library with the reference. Without an argument every group runs; `compare GROUP` runs one.
 
 mod both;
+mod exports;
 mod files;
 mod page;
 mod random;
@@ -14,7 +15,7 @@ type Group = (&'static str, u64, fn(&mut Both, &mut random::Random));
 
 fn main() {
     let only = std::env::args().nth(1);
-    let groups: Vec<Group> = [files::GROUPS, values::GROUPS, searches::GROUPS].concat();
+    let groups: Vec<Group> = [files::GROUPS, values::GROUPS, searches::GROUPS, exports::GROUPS].concat();
     let mut both = Both::new();
     for (name, runs, run) in groups.iter().filter(|g| only.as_deref().map_or(true, |o| o == g.0)) {
         let (before, start) = (both.passed, std::time::Instant::now());
@@ -34,7 +35,7 @@ fn main() {
 
 /// The refusals and verdicts that each call can give; one that never came was never compared.
 fn every_answer_was_seen(both: &mut Both) {
-    let expected: [(&str, &[u64], &[u64]); 9] = [
+    let expected: [(&str, &[u64], &[u64]); 10] = [
         ("read_rules", &[1, 2, 3, 4, 5, 6, 7, 15], &[1]),
         ("write_rules", &[13, 14, 15], &[1]),
         ("read_wishes", &[8, 9, 10, 15], &[1]),
@@ -44,6 +45,7 @@ fn every_answer_was_seen(both: &mut Both) {
         ("plain", &[13, 14, 15], &[0, 1]),
         ("nearest", &[11, 12, 13, 14, 15], &[0, 1]),
         ("rewrite", &[11, 12, 13, 14, 15], &[1]),
+        ("write_opb", &[11, 12, 13, 14, 15, 16], &[1]),
     ];
     println!("\nanswers seen: refusal number or verdict, and how often");
     for (call, refusals, verdicts) in expected {
@@ -59,5 +61,5 @@ fn every_answer_was_seen(both: &mut Both) {
         println!("{call:<13}{line}");
     }
     let others = format!("{:?}", both.seen);
-    both.hold(both.seen.is_empty(), || format!("answers that document 01 does not have: {others}"));
+    both.hold(both.seen.is_empty(), || format!("answers that the documents do not have: {others}"));
 }

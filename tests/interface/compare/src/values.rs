@@ -26,6 +26,7 @@ fn every_call(both: &mut Both, random: &mut Random, n: u64, rules: &[i32], row: 
     let (written, _) = both.write_rules(n, rules, rules.len() * 5 + 30);
     let (made, _) = both.rewrite(n, rules, row, d, rules.len() + 20_000);
     let (wished, _) = both.write_wishes(n, row, d, 1_000);
+    let (exported, _) = both.write_opb(n, rules, row, d, rules.len() * 10 + 556);
     for _ in 0..2 {
         let room = a_room(random, written.value[0] as usize);
         both.write_rules(n, rules, room);
@@ -33,6 +34,8 @@ fn every_call(both: &mut Both, random: &mut Random, n: u64, rules: &[i32], row: 
         both.rewrite(n, rules, row, d, room);
         let room = a_room(random, wished.value[0] as usize);
         both.write_wishes(n, row, d, room);
+        let room = a_room(random, exported.value[0] as usize);
+        both.write_opb(n, rules, row, d, room);
     }
 }
 
@@ -197,6 +200,7 @@ fn empty(both: &mut Both, random: &mut Random) {
             both.search(n, list, &[1], 0, 0);
             both.nearest(n, list, &[1], 0);
             both.rewrite(n, list, &[1], 0, 0);
+            both.write_opb(n, list, &[1], 0, 0);
             both.write_wishes(n, &[1], 0, 0);
         }
     }

@@ -1,4 +1,4 @@
-//! The nine calls of include/powhanire.h on slices.
+//! The ten calls of include/powhanire.h on slices.
 
 #[repr(C)]
 #[derive(Clone, Copy, Debug, Default, PartialEq, Eq)]
@@ -22,6 +22,7 @@ mod c {
         pub fn powhanire_plain(n: u64, rules: *const i32, rules_len: usize, choice: *mut u8, choice_len: usize) -> Answer;
         pub fn powhanire_nearest(n: u64, rules: *const i32, rules_len: usize, row: *const u8, row_len: usize, choice: *mut u8, choice_len: usize) -> Answer;
         pub fn powhanire_rewrite(n: u64, rules: *const i32, rules_len: usize, row: *const u8, row_len: usize, d: u64, rewritten: *mut i32, rewritten_len: usize) -> Answer;
+        pub fn powhanire_write_opb(n: u64, rules: *const i32, rules_len: usize, row: *const u8, row_len: usize, d: u64, file: *mut u8, file_len: usize) -> Answer;
     }
 }
 
@@ -85,6 +86,21 @@ pub fn rewrite(n: u64, rules: &[i32], row: &[u8], d: u64, rewritten: &mut [i32])
             d,
             rewritten.as_mut_ptr(),
             rewritten.len(),
+        )
+    }
+}
+
+pub fn write_opb(n: u64, rules: &[i32], row: &[u8], d: u64, file: &mut [u8]) -> Answer {
+    unsafe {
+        c::powhanire_write_opb(
+            n,
+            rules.as_ptr(),
+            rules.len(),
+            row.as_ptr(),
+            row.len(),
+            d,
+            file.as_mut_ptr(),
+            file.len(),
         )
     }
 }

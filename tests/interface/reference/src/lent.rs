@@ -1,4 +1,4 @@
-//! Refusals of lent values: 11 to 15.
+//! Refusals of lent values: 11 to 16.
 
 pub const MAX_N: u64 = 640;
 pub const MAX_RULES: usize = 9_000;
@@ -83,6 +83,14 @@ pub fn small(n: u64, list: &[i32]) -> Result<(), Refusal> {
         refuse(12, 0)
     } else {
         Ok(())
+    }
+}
+
+/// 16 (document 02, L2): "a rule without entries, place the first such rule's closing zero"
+pub fn entries(list: &[i32]) -> Result<(), Refusal> {
+    match (0..list.len()).find(|&at| list[at] == 0 && (at == 0 || list[at - 1] == 0)) {
+        Some(at) => refuse(16, at),
+        None => Ok(()),
     }
 }
 

@@ -1,7 +1,9 @@
-//! The nine calls, written from the text of document 01 and of the landed requests of document 02 alone, and from nothing
+//! The ten calls, written from the text of document 01 and of the landed requests of document 02 alone, and from nothing
 //! of the library, so that a comparison of the two can find a misreading in either. It is plain rather than quick.
 
 pub mod lent;
+pub mod opb;
+pub mod program;
 pub mod rule_file;
 pub mod totalizer;
 pub mod walk;
@@ -142,5 +144,20 @@ pub fn rewrite(n: u64, rules: &[i32], row: &[u8], d: u64, rewritten: &mut [i32])
         let (settings, list) = totalizer::rewrite(n, rules, row, d);
         lent::room(rewritten, list.len())?[..list.len()].copy_from_slice(&list);
         Ok(answer(true, [settings, list.len() as u64, 0]))
+    })())
+}
+
+/// What the export to OPB refuses before its output is looked at: 16 comes "after 12 and before 15".
+pub fn exported(n: u64, rules: &[i32], row: &[u8], d: u64) -> Result<(), Refusal> {
+    wished(n, rules, row, d)?;
+    lent::entries(rules)
+}
+
+pub fn write_opb(n: u64, rules: &[i32], row: &[u8], d: u64, file: &mut [u8]) -> Answer {
+    replied((|| {
+        exported(n, rules, row, d)?;
+        let text = opb::write(n, rules, row, d);
+        lent::room(file, text.len())?[..text.len()].copy_from_slice(&text);
+        Ok(answer(true, [text.len() as u64, 0, 0]))
     })())
 }

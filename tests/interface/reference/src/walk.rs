@@ -48,7 +48,8 @@ pub fn broken(row: &[u8], choice: &[u8]) -> u64 {
     row.iter().zip(choice).filter(|(&w, &c)| w != 2 && w != c).count() as u64
 }
 
-fn rules_of(list: &[i32]) -> Vec<&[i32]> {
+/// The entries of each rule of a closed list.
+pub fn rules_of(list: &[i32]) -> Vec<&[i32]> {
     let mut rules: Vec<&[i32]> = list.split(|&e| e == 0).collect();
     rules.pop(); // what follows the last closing zero
     rules

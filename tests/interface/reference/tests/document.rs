@@ -1,5 +1,5 @@
-//! The reference held to document 01 and to what document 02 changes in it: examples, and all choices of small books
-//! by brute force.
+//! The reference held to document 01 and to what document 02 changes in it and adds: examples, and all choices of small
+//! books by brute force.
 
 use reference::walk::{broken, met};
 use reference::*;
@@ -225,4 +225,86 @@ fn longest_rule_file() {
     let list: Vec<i32> = (0..9_000).flat_map(|r| rule(3 + (r < 4_000) as i32)).collect();
     assert_eq!(list.len(), 40_000);
     assert_eq!(rule_file::write(640, &list).len(), 173_015);
+}
+
+/// The file of the export to OPB, with all the room it may need.
+fn exported(n: u64, rules: &[i32], row: &[u8], d: u64) -> String {
+    let mut file = vec![9; 165_306];
+    let a = write_opb(n, rules, row, d, &mut file);
+    let (text, past) = file.split_at(a.value[0] as usize);
+    assert_eq!(a, Answer { verdict: 1, value: [text.len() as u64, 0, 0], ..Answer::default() });
+    assert!(past.iter().all(|&b| b == 9));
+    String::from_utf8(text.to_vec()).unwrap()
+}
+
+/// Document 02, L2, on the example of document 01 and on lines of every kind.
+#[test]
+fn examples_of_opb() {
+    for (n, rules, row, d, lines) in [
+        (2, &[1, 2, 0][..], &[0, 0][..], 1, "+1 x1 +1 x2 >= 1 ;\n-1 x1 -1 x2 >= -1 ;\n"),
+        (2, &[1, 2, 0], &[0, 0], 0, "+1 x1 +1 x2 >= 1 ;\n-1 x1 -1 x2 >= 0 ;\n"),
+        (3, &[-3, 1, 0, -2, -1, -3, 0], &[2, 2, 2], 5, "-1 x3 +1 x1 >= 0 ;\n-1 x2 -1 x1 -1 x3 >= -2 ;\n"),
+        (3, &[-2, 0], &[1, 2, 0], 0, "-1 x2 >= 0 ;\n+1 x1 -1 x3 >= 1 ;\n"),
+        (4, &[], &[1, 0, 2, 1], 1, "+1 x1 -1 x2 +1 x4 >= 1 ;\n"),
+        (4, &[], &[1, 0, 2, 1], 2, "+1 x1 -1 x2 +1 x4 >= 0 ;\n"),
+        (4, &[], &[1, 0, 2, 1], 64, "+1 x1 -1 x2 +1 x4 >= -62 ;\n"),
+        (1, &[], &[2], 64, ""),
+    ] {
+        let header = format!("* #variable= {n} #constraint= {}\n", lines.matches('\n').count());
+        assert_eq!(exported(n, rules, row, d), header + lines);
+    }
+}
+
+/// "Errors: 16, a rule without entries, place the first such rule's closing zero, after 12 and before 15."
+#[test]
+fn refusals_of_opb() {
+    let large = [1, 0].repeat(4_097);
+    let larger = [&[0][..], &large].concat();
+    for (n, rules, row, d, refusal, place) in [
+        (2, &[0][..], &[0, 0][..], 0, 16, 0),
+        (2, &[1, 0, 0], &[0, 0], 0, 16, 2),
+        (2, &[1, 2, 0, 0, -1, 0, 0, 0], &[0, 0], 0, 16, 3),
+        (2, &[1, 0], &[0, 0], 0, 15, 62),
+        (2, &larger, &[0, 0], 0, 12, 0),
+        (2, &larger, &[0], 0, 11, 0),
+        (2, &larger, &[0, 3], 0, 13, 1),
+        (2, &[0, 1], &[0, 3], 0, 13, 2),
+        (2, &[0, 1], &[0, 3], 65, 14, 0),
+        (0, &[0, 1], &[0, 3], 0, 14, 0),
+    ] {
+        let mut file = [9; 61];
+        assert_eq!(refused(write_opb(n, rules, row, d, &mut file)), (refusal, place));
+        assert_eq!(file, [9; 61]);
+    }
+}
+
+/// "A choice satisfies the lines exactly when it meets the rules within d."
+#[test]
+fn opb_by_brute_force() {
+    let mut random = Random(4);
+    for _ in 0..3_000 {
+        let n = 1 + random.below(4);
+        let (rules, row) = (random.book(n), random.row(n));
+        for d in 0..=n + 1 {
+            let (settings, lines) = opb::read(exported(n, &rules, &row, d).as_bytes()).unwrap();
+            assert_eq!(settings as u64, n);
+            for choice in choices(n as usize) {
+                let within = met(&rules, &choice) && broken(&row, &choice) <= d;
+                assert_eq!(lines.iter().all(|line| line.satisfied(&choice)), within);
+            }
+        }
+    }
+}
+
+/// 4,096 rules and 16,384 entries, each the longest there is. A K of two places takes 2 negative entries, one of three
+/// takes 11: as many rules as can have 11, the others 2, and the two entries that are left.
+#[test]
+fn longest_opb_file() {
+    let rule = |length: i32| (0..length).map(|k| -100 - k).chain([0]);
+    let lengths = [vec![11; 910], vec![3; 2], vec![2; 3_184]].concat();
+    let list: Vec<i32> = lengths.into_iter().flat_map(rule).collect();
+    assert_eq!(list.len(), 16_384 + 4_096);
+    let mut row = vec![2; 192];
+    row.resize(256, 0);
+    assert_eq!(exported(256, &list, &row, 64).len(), 165_306);
 }
