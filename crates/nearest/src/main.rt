@@ -1,7 +1,7 @@
 // `nearest RULES WISH`, or `nearest` alone for `rules.cnf` and `wish.txt` of the current folder: prints
 // the least number of broken wishes and a choice, or the line of a refusal. What is printed is
 // `nearestPrinted` in nearest_text/specs/Printed.antt.
-use input_file::FileRead;
+use input_file::FilesRead;
 use libc::STDERR_FILENO;
 use libc::STDOUT_FILENO;
 ghost use mathlib.Core.Path.{_≡_};
@@ -41,10 +41,12 @@ fn run_named() {
 fn run(rules_path: &[u8], wish_path: &[u8]) {
     let mut rules = input_file::space();
     let mut wishes = input_file::space();
-    let FileRead::Bytes(k) = input_file::read_file(rules_path, &mut rules) else {
-        return;
-    };
-    let FileRead::Bytes(w) = input_file::read_file(wish_path, &mut wishes) else {
+    let FilesRead::Bytes(k, w) = input_file::read_files(
+        rules_path,
+        wish_path,
+        &mut rules,
+        &mut wishes,
+    ) else {
         return;
     };
     show(&rules[..k], &wishes[..w]);

@@ -1,6 +1,6 @@
 // Reads `rules.cnf` and `wish.txt` of the current folder, and prints the rule file of the rewritten
 // rules, or the line of a refusal. What is printed is `printed` in rewrite_text/specs/Printed.antt.
-use input_file::FileRead;
+use input_file::FilesRead;
 use libc::STDOUT_FILENO;
 ghost use mathlib.Core.Path.{_≡_};
 ghost use lib.ListN.{length};
@@ -9,10 +9,12 @@ ghost use Rattle.rewrite_text.specs.Printed.{longest};
 fn main() {
     let mut rules = input_file::space();
     let mut wishes = input_file::space();
-    let FileRead::Bytes(k) = input_file::read_file(b"rules.cnf", &mut rules) else {
-        return;
-    };
-    let FileRead::Bytes(w) = input_file::read_file(b"wish.txt", &mut wishes) else {
+    let FilesRead::Bytes(k, w) = input_file::read_files(
+        b"rules.cnf",
+        b"wish.txt",
+        &mut rules,
+        &mut wishes,
+    ) else {
         return;
     };
     show(&rules[..k], &wishes[..w]);
