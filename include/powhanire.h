@@ -28,7 +28,7 @@
  *     file      (write_wishes)  720 bytes            16 + 11 * wishes
  *     choice    (searches)      n bytes              at most 256 with a wish row, 640 without
  *     rewritten (rewrite)       38,914 numbers       the given list's length + 18,434
- *     file      (write_opb)     165,306 bytes        at most 556 + 8 * entries + 10 * rules
+ *     file      (write_opb)     165,306 bytes        at most 44 + 9 * entries + 8 * rules + 8 * wishes
  *   A call that refuses with 15 says in `place` how many elements it needs.
  *
  * The calls keep no state and use no heap, so several threads may call at once on separate buffers.
