@@ -43,8 +43,5 @@ module _ (row : List ℕ) (i : ℕ) (h : i < length row) where
   pub lines-split : wishLines (wishList (i + 1) (drop i row)) ≡ here ++ rest
   lines-split = rw (drop-cons row i 0 h, add-one (i + 1), add-one i) (lines-cons (suc i) (getD row i 0) (drop (suc i) row))
 
-  pub lines-length : length (wishLines (wishList (i + 1) (drop i row))) ≡ length here + length rest
-  lines-length = ap length lines-split ∙ length-append here rest
-
 pub lines-past : (row : List ℕ) (i v : ℕ) → length row ≤ i → wishLines (wishList v (drop i row)) ≡ []
 lines-past row i v h = rw (drop-of-length-le row h)

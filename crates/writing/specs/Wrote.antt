@@ -55,7 +55,7 @@ wrote-next {A} list n z h a b =
     wrote-as (sym (take-suc list n z h) ∙ ap (λ (c : ℕ). take c list) (sym (add-one n))) (wrote-more a b)
 
 -- what is still to be written follows what was
-pub wrote-before : {A : Type 0} {w l : List A} {at : ℕ} {m : List A} {i : ℕ} (rest : List A) → Wrote w l at m i → sets m i rest ≡ sets l at (w ++ rest)
+wrote-before : {A : Type 0} {w l : List A} {at : ℕ} {m : List A} {i : ℕ} (rest : List A) → Wrote w l at m i → sets m i rest ≡ sets l at (w ++ rest)
 wrote-before {A} {w} {l} {at} rest a =
     ap₂ (λ (n : List A) (h : ℕ). sets n h rest) (a .list) (a .place) ∙ sym (sets-append l at w rest)
 
@@ -66,3 +66,31 @@ wrote-whole {A} {w} {l} a h =
 
 pub wrote-front : {A : Type 0} {w l m : List A} {i : ℕ} → Wrote w l 0 m i → length w ≤ length l → take i m ≡ w
 wrote-front {A} {w} {l} {m} {i} a h = ap (take i) (wrote-whole a h) ∙ take-at w (drop (length w) l) i (omega (arith, a .place))
+
+-- Of the elements all, which are to be written over l from place from on, the rest are still to be written, over m from place at on.
+pub record Remaining {A : Type 0} (all l : List A) (from : ℕ) (rest m : List A) (at : ℕ) : Type 0 where
+  pub long : length m ≡ length l
+  pub place : at + length rest ≡ from + length all
+  pub list : sets m at rest ≡ sets l from all
+
+-- all of them at first; one part less after it was written; and in the end none, so that all were written
+pub remaining-all : {A : Type 0} (all l : List A) (from : ℕ) → Remaining all l from all l from
+remaining-all all l from = record { long = refl; place = refl; list = refl }
+
+pub remaining-next : {A : Type 0} {all l : List A} {from : ℕ} {rest m : List A} {at : ℕ} {w k : List A} {i : ℕ} (later : List A)
+    → Remaining all l from rest m at → rest ≡ w ++ later → Wrote w m at k i → Remaining all l from later k i
+remaining-next {A} {all} {l} {from} {rest} {m} {at} {w} later r e a =
+    record {
+      long = wrote-length a ∙ r .long;
+      place = omega (arith, a .place, r .place, ap length e, length-append w later);
+      list = wrote-before later a ∙ ap (sets m at) (sym e) ∙ r .list;
+    }
+
+pub remaining-none : {A : Type 0} {all l : List A} {from : ℕ} {rest m : List A} {at : ℕ} → Remaining all l from rest m at → rest ≡ [] → Wrote all l from m at
+remaining-none {A} {all} {l} {from} {rest} {m} {at} r e =
+    record { place = omega (arith, r .place, ap length e); list = sym (ap (sets m at) e) ∙ r .list }
+
+-- the next part has room, if all have
+pub remaining-room : {A : Type 0} {all l : List A} {from : ℕ} {rest m : List A} {at : ℕ} (w later : List A)
+    → Remaining all l from rest m at → rest ≡ w ++ later → from + length all ≤ length l → at + length w ≤ length m
+remaining-room w later r e h = omega (arith, r .place, r .long, ap length e, length-append w later)

@@ -1,21 +1,20 @@
--- `opb_rules::put::put_rules` meets its contract. The loop's invariant: with the rest of the lines written from here, the buffer is what it is to be.
-use mathlib.Core.Path.{_≡_, sym, ap, _∙_}
+-- `opb_rules::put::put_rules` meets its contract. The loop's invariant: the lines of the clauses from an index on are still to be put.
+use mathlib.Core.Path.{_≡_}
 use mathlib.Core.List.{List, _++_}
 use Prim.Native.Nat.{ℕ, _+_, _-_, _≤_}
 use native.Mathlib.Omega.{arith}
 use lib.IntN.{ℤ}
 use lib.ListN.{length, drop}
-use lib.Seq.{sets}
 use borrow.Author.Needs.{needs}
-use Rattle.writing.specs.Wrote.{wrote-before}
+use Rattle.writing.specs.Wrote.{Remaining, remaining-all, remaining-next, remaining-none, remaining-room}
 use Rattle.pseudo_boolean.specs.Export.{ruleConstraint}
 use Rattle.opb_format.specs.Opb.{lineText}
-use Rattle.opb_rules.specs.Lines.{ruleLines, clauseAt, lines-split, lines-step, clause-size, lines-past}
+use Rattle.opb_rules.specs.Lines.{ruleLines, clauseAt, lines-split, clause-size, lines-past}
 use Rattle.opb_rules.proofs.put.put_rules.Statement.{statement}
 use Rattle.opb_rules.proofs.put.put_rules.Tie as tie
 
 abbrev Inv-loop : tie.InvT-loop
-Inv-loop rules out₀ first at₀ from₀ out at from = (length out ≡ length out₀) × (at + length (ruleLines (drop from rules)) ≡ first + length (ruleLines rules)) × (sets out at (ruleLines (drop from rules)) ≡ sets out₀ first (ruleLines rules))
+Inv-loop rules out₀ first at₀ from₀ out at from = Remaining (ruleLines rules) out₀ first (ruleLines (drop from rules)) out at
 
 abbrev μ-loop : tie.MeasureT-loop
 μ-loop rules out₀ first at₀ from₀ out at from = length rules - from
@@ -34,17 +33,19 @@ module _ (c : tie.After-clause-end Inv-loop μ-loop) where
   abbrev line : List ℕ
   line = lineText (ruleConstraint (clauseAt l i e (c .before .loop-test .taken) (c .clause-end .ensures)))
 
+  abbrev later : List ℕ
+  later = ruleLines (drop (e + 1) l)
+
   inside : (i ≤ e) × (e ≤ length l)
   inside = let sized = clause-size l i e (c .before .loop-test .taken) (c .clause-end .ensures) in (sized .1, sized .2)
 
-  split : ruleLines (drop i l) ≡ line ++ ruleLines (drop (e + 1) l)
+  split : ruleLines (drop i l) ≡ line ++ later
   split = lines-split l i e (c .before .loop-test .taken) (c .clause-end .ensures)
 
-  step : length (ruleLines (drop i l)) ≡ length line + length (ruleLines (drop (e + 1) l))
-  step = lines-step l i e (c .before .loop-test .taken) (c .clause-end .ensures)
-
 loop-holds : tie.Need-loop-holds Inv-loop μ-loop
-loop-holds c = search needs
+loop-holds c =
+    let args = c .before .args in
+    remaining-all (ruleLines (args .rules .now)) (args .out .now) (args .first)
 
 clause-end-requires : tie.Need-clause-end-requires Inv-loop μ-loop
 clause-end-requires c κs = search needs
@@ -62,7 +63,9 @@ part-put-rule-end : tie.Need-part-put-rule-end Inv-loop μ-loop
 part-put-rule-end c = inside c .1
 
 put-rule-requires : tie.Need-put-rule-requires Inv-loop μ-loop
-put-rule-requires c κs = omega (arith, step (c .before .before))
+put-rule-requires c κs =
+    let clause = c .before .before in
+    remaining-room (line clause) (later clause) (clause .before .before .loop .inv) (split clause) (clause .before .before .before .before .pre)
 
 add-from : tie.Need-add-from Inv-loop μ-loop
 add-from c = omega (arith, inside (c .before .before .before .before .before))
@@ -72,24 +75,15 @@ loop-less c = omega (arith, inside (c .before .before .before .before .before))
 
 loop-again : tie.Need-loop-again Inv-loop μ-loop
 loop-again c =
-    let call = c .before .before .put-rule in
     let clause = c .before .before .before .before .before in
-    let loop = clause .before .before .loop in (
-      call .kept .1 .0 ∙ loop .inv .0,
-      omega (arith, call .ensures .place, step clause, loop .inv .1),
-      wrote-before (ruleLines (drop (e clause + 1) (l clause))) (call .ensures) ∙ ap (sets (loop .out) (loop .at)) (sym (split clause)) ∙ loop .inv .2,
-    )
+    remaining-next (later clause) (clause .before .before .loop .inv) (split clause) (c .before .before .put-rule .ensures)
 
 same-length : tie.Need-same-length Inv-loop μ-loop
 same-length c = search needs
 
 returns : tie.Need-returns Inv-loop μ-loop
 returns c =
-    let args = c .before .before .before .args in
-    let at = c .before .loop .at in
-    let out = c .before .loop .out in
-    let past = lines-past (args .rules .now) (c .before .loop .from) (c .loop-test .left) in
-    record { place = omega (arith, ap length past); list = sym (ap (sets out at) past) ∙ c .before .loop .inv .2 }
+    remaining-none (c .before .loop .inv) (lines-past (c .before .before .before .args .rules .now) (c .before .loop .from) (c .loop-test .left))
 
 pub put-rules-spec : {M : Type 1} → statement M
 put-rules-spec =

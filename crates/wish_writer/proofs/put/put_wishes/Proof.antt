@@ -1,26 +1,25 @@
--- `wish_writer::put::put_wishes` meets its contract. The loop's invariant: with the lines of the rest of the row written from here, the buffer is what it is to be.
-use mathlib.Core.Path.{_≡_, sym, ap, _∙_}
-use mathlib.Core.List.{List}
-use Prim.Native.Nat.{ℕ, _+_, _-_, _≤_}
+-- `wish_writer::put::put_wishes` meets its contract. The loop's invariant: the lines of the row from index i on are still to be put.
+use Prim.Native.Nat.{_+_, _-_, _≤_}
 use native.Mathlib.Omega.{arith}
 use lib.ListN.{length, drop}
 use borrow.Author.Needs.{needs}
-use lib.Seq.{sets}
-use Rattle.writing.specs.Wrote.{wrote-before}
+use Rattle.writing.specs.Wrote.{Remaining, remaining-all, remaining-next, remaining-none, remaining-room}
 use Rattle.wish_file.specs.Format.{wishLines}
 use Rattle.wish_file.specs.Wishes.{wishList}
-use Rattle.wish_writer.specs.Writing.{rest, lines-split, lines-length, lines-past}
+use Rattle.wish_writer.specs.Writing.{here, rest, lines-split, lines-past}
 use Rattle.wish_writer.proofs.put.put_wishes.Statement.{statement}
 use Rattle.wish_writer.proofs.put.put_wishes.Tie as tie
 
 abbrev Inv-loop : tie.InvT-loop
-Inv-loop row out₀ from at₀ i₀ out at i = (i ≤ length row) × (length out ≡ length out₀) × (at + length (wishLines (wishList (i + 1) (drop i row))) ≡ from + length (wishLines (wishList 1 row))) × (sets out at (wishLines (wishList (i + 1) (drop i row))) ≡ sets out₀ from (wishLines (wishList 1 row)))
+Inv-loop row out₀ from at₀ i₀ out at i = (i ≤ length row) × Remaining (wishLines (wishList 1 row)) out₀ from (wishLines (wishList (i + 1) (drop i row))) out at
 
 abbrev μ-loop : tie.MeasureT-loop
 μ-loop row out₀ from at₀ i₀ out at i = length row - i
 
 loop-holds : tie.Need-loop-holds Inv-loop μ-loop
-loop-holds c = search needs
+loop-holds c =
+    let args = c .before .before .args in
+    (omega arith, remaining-all (wishLines (wishList 1 (args .row .now))) (args .out .now) (args .from))
 
 add-t6 : tie.Need-add-t6 Inv-loop μ-loop
 add-t6 c = search needs
@@ -30,9 +29,11 @@ shared-slice-read-put-wish c = search needs
 
 put-wish-requires : tie.Need-put-wish-requires Inv-loop μ-loop
 put-wish-requires c κs =
-    let row = c .before .before .before .before .before .before .args .row .now in
+    let start = c .before .before .before .before .before .before in
     let loop = c .before .before .before .loop in
-    omega (arith, lines-length row (loop .i) (c .before .before .loop-test .taken))
+    let row = start .args .row .now in
+    let inside = c .before .before .loop-test .taken in
+    remaining-room (here row (loop .i) inside) (rest row (loop .i) inside) (loop .inv .1) (lines-split row (loop .i) inside) (start .pre)
 
 add-i : tie.Need-add-i Inv-loop μ-loop
 add-i c = search needs
@@ -45,23 +46,15 @@ loop-again c =
     let row = c .before .before .before .before .before .before .before .before .before .args .row .now in
     let loop = c .before .before .before .before .before .before .loop in
     let inside = c .before .before .before .before .before .loop-test .taken in
-    let call = c .before .before .put-wish in
-    let later : List ℕ = rest row (loop .i) inside in (
-      omega arith,
-      call .kept .1 .1 .0 ∙ loop .inv .1,
-      omega (arith, lines-length row (loop .i) inside, call .ensures .place, loop .inv .2),
-      wrote-before later (call .ensures) ∙ ap (sets (loop .out) (loop .at)) (sym (lines-split row (loop .i) inside)) ∙ loop .inv .3,
-    )
+    (omega arith, remaining-next (rest row (loop .i) inside) (loop .inv .1) (lines-split row (loop .i) inside) (c .before .before .put-wish .ensures))
 
 same-length : tie.Need-same-length Inv-loop μ-loop
 same-length c = search needs
 
 returns : tie.Need-returns Inv-loop μ-loop
 returns c =
-    let row = c .before .before .before .before .args .row .now in
     let loop = c .before .loop in
-    let past = lines-past row (loop .i) (loop .i + 1) (c .loop-test .left) in
-    record { place = omega (arith, ap length past); list = sym (ap (sets (loop .out) (loop .at)) past) ∙ loop .inv .3 }
+    remaining-none (loop .inv .1) (lines-past (c .before .before .before .before .args .row .now) (loop .i) (loop .i + 1) (c .loop-test .left))
 
 pub put-wishes-spec : {M : Type 1} → statement M
 put-wishes-spec =
