@@ -1,19 +1,17 @@
 -- The equations by which proofs count and put the parts of a line.
 use mathlib.Core.Path.{_≡_, refl, sym, ap, _∙_}
-use mathlib.Core.Bool.{Bool, true, false, cond}
 use mathlib.Core.List.{List, [], _∷_, _++_}
 use Prim.Native.Nat.{ℕ, zero, suc, _+_, _-_, _≤_, _<_}
 use native.Mathlib.Nat.{not-suc-le-zero}
 use native.Mathlib.Omega.{arith}
-use lib.Dec.{ltb}
-use lib.IntN.{ℤ, pos, negsuc, negℤ, _-ℤ_}
+use lib.IntN.{ℤ, pos, negsuc, _-ℤ_}
 use lib.ListN.{length, length-append}
 use borrow.Author.Tests.{lt-ltb, le-ltb}
 use Rattle.literal.specs.Literal.{variable, wanted}
 use Rattle.decimal.specs.Decimal.{decimal}
 use Rattle.text.specs.Text.{numeral}
 use Rattle.pseudo_boolean.specs.Export.{coefficient, term}
-use Rattle.opb_format.specs.Opb.{signed, termText, boundText, variableWord, constraintWord, headerText}
+use Rattle.opb_format.specs.Opb.{signed, termText, boundText, constraintWord, headerText}
 
 -- the sign of a literal's coefficient
 abbrev pub signOf : ℤ → ℕ

@@ -1,7 +1,7 @@
 -- What the call's replies come to in the printed text.
 use mathlib.Core.Path.{_≡_, refl, sym, ap, subst, _∙_}
 use mathlib.Core.Bool.{Bool, true, false}
-use mathlib.Core.List.{List, _++_}
+use mathlib.Core.List.{List}
 use mathlib.Core.Option.{Option, none, some}
 use Prim.Native.Nat.{ℕ, _≤_}
 use native.Mathlib.Nat.{le-refl}
@@ -11,7 +11,7 @@ use lib.IntN.{ℤ}
 use lib.ListN.{length}
 use Rattle.refusal.specs.declared.Refusal.{Refusal}
 use Rattle.refusal.specs.Laws.{room-enough}
-use Rattle.refusal.specs.Reply.{Reply, refusing, answering, unless, cause, filled, tooShort}
+use Rattle.refusal.specs.Reply.{refusing, answering, unless, cause, filled, tooShort}
 use Rattle.causes.specs.Admitted.{admitted, entered-wished, refused-lent, room-decides, lent-number}
 use Rattle.causes.specs.Lent.{Lent, exportedProblem, unadmitted, refusalOf}
 use Rattle.opb_format.specs.Opb.{opbOf}

@@ -11,14 +11,14 @@ use Rattle.formula.specs.Formula.{clauses}
 use Rattle.wish.specs.Wish.{wishCount}
 use Rattle.refusal.specs.Laws.{enough-room}
 use Rattle.refusal.specs.Reply.{refused, tooShort}
-use Rattle.writing.specs.Wrote.{Wrote, wrote-as, wrote-more, wrote-room, wrote-whole}
+use Rattle.writing.specs.Wrote.{Wrote, wrote-as, wrote-more, wrote-whole}
 use Rattle.causes.specs.Admitted.{none-applies}
 use Rattle.causes.specs.Lent.{Lent, exportedProblem}
 use Rattle.causes.specs.Texts.{refused-late, answered}
 use Rattle.admission_steps.specs.declared.Counts.{Counts}
 use Rattle.dimacs.specs.Sizes.{sound-clauses, sound-length}
 use Rattle.opb_format.specs.Opb.{headerText, opbOf}
-use Rattle.opb_writer.specs.Parts.{ruleLines, wishLines, head, file-parts, file-size}
+use Rattle.opb_writer.specs.Parts.{head, file-parts, file-size}
 use Rattle.opb_writer.proofs.write_admitted.Statement.{statement}
 use Rattle.opb_writer.proofs.write_admitted.Tie as tie
 

@@ -1,12 +1,8 @@
 -- `opb_parts::bound::put_bound` meets its contract: three texts, one after the other.
-use mathlib.Core.List.{List, [], _∷_, _++_}
-use Prim.Native.Nat.{ℕ, _+_, _≤_}
 use native.Mathlib.Omega.{arith}
 use lib.IntN.{pos, _-ℤ_}
-use lib.ListN.{length}
 use borrow.Author.Needs.{needs}
-use Rattle.text.specs.Text.{numeral}
-use Rattle.writing.specs.Wrote.{wrote-more, wrote-room}
+use Rattle.writing.specs.Wrote.{wrote-more}
 use Rattle.opb_format.specs.Laws.{bound-size}
 use Rattle.opb_parts.proofs.bound.put_bound.Statement.{statement}
 use Rattle.opb_parts.proofs.bound.put_bound.Tie as tie

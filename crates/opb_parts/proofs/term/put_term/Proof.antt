@@ -1,5 +1,5 @@
 -- `opb_parts::term::put_term` meets its contract: five texts, one after the other, each with room for the rest.
-use mathlib.Core.Path.{_≡_, sym, ap, _∙_}
+use mathlib.Core.Path.{_≡_, ap, _∙_}
 use mathlib.Core.List.{List, [], _∷_, _++_}
 use Prim.Native.Nat.{ℕ, _+_, _≤_}
 use native.Mathlib.Omega.{arith}
@@ -9,7 +9,7 @@ use mir.ValLaws.{toZ-ofZ}
 use borrow.Author.Needs.{needs}
 use Rattle.literal.specs.Literal.{variable}
 use Rattle.decimal.specs.Decimal.{decimal}
-use Rattle.writing.specs.Wrote.{Wrote, wrote-as, wrote-more, wrote-room}
+use Rattle.writing.specs.Wrote.{wrote-as, wrote-more, wrote-room}
 use Rattle.pseudo_boolean.specs.Export.{term}
 use Rattle.opb_format.specs.Laws.{signOf, term-parts}
 use Rattle.opb_format.specs.Opb.{termText}

@@ -1,5 +1,5 @@
 -- `opb_rules::count::rule_length` meets its contract: the terms, and the bound.
-use mathlib.Core.Path.{_≡_, ap, _∙_}
+use mathlib.Core.Path.{ap, _∙_}
 use Prim.Native.Nat.{ℕ}
 use native.Mathlib.Omega.{arith}
 use lib.IntN.{pos, _-ℤ_}
