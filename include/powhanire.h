@@ -140,7 +140,8 @@ powhanire_answer powhanire_rewrite(uint64_t n, const int32_t *rules, size_t rule
  * it meets the rules and breaks at most d wishes. The first line is `* #variable= N #constraint= C`, with C the number
  * of lines after it. Each rule is a line: `+1 xV` for entry V, `-1 xV` for -V, in order, then `>= K ;`, K being 1 less
  * the number of negative entries. If there are wishes, a last line has `+1 xV` for wished on and `-1 xV` for wished
- * off, by rising setting, and K is the number wished on less d. A rule without entries is refused (16).
+ * off, by rising setting, and K is the number wished on less d. K has a minus if it is below 0, single spaces divide
+ * all parts, and a line feed ends each line. A rule without entries is refused (16).
  * value: length of the file. */
 powhanire_answer powhanire_write_opb(uint64_t n, const int32_t *rules, size_t rules_len,
                                      const uint8_t *row, size_t row_len, uint64_t d,

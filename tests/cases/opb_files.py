@@ -25,7 +25,7 @@ def with_rooms(text, n, rules, row, d):
 
 
 def documented():
-    """Document 02's example, and document 01's others."""
+    """Document 01's examples, exported."""
     for d in (0, 1, 2, 64, 65):
         write('rule 1 2, both wished off, limit %d' % d, 2, [1, 2, 0], [0, 0], d)
     with_rooms('rule 1 2, both wished off, limit 1', 2, [1, 2, 0], [0, 0], 1)

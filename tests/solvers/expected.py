@@ -2,8 +2,8 @@
 """Writes what the program `routes` must write, to crates/routes/stdout, from the solvers' results alone.
 
 In its lines `found, met` says that the checking call finds all rules met, as many wishes broken as the search
-says, and no more than the limit. Beside each answer of the wish search stands the OPB file of the same limit, whose
-verdict by the solvers that answer is."""
+says, and no more than the limit. Beside each answer of the wish search stands the OPB file of the same limit; the
+answer must be what the solvers said of that file."""
 
 import books
 

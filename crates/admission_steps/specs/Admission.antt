@@ -31,7 +31,7 @@ countsOf s =
       weight = ofRow totalWeight (s .row);
     }
 
--- by all causes but that of the room (document 01, "Refusals": "Then lent values: 14, 13 (rules, wishes, choice), 11, 12."), and by all ("Last 15.")
+-- by all causes but that of the room, in their order (`causes`), and by all ("Last 15.")
 abbrev pub admission : Lent → Admission
 admission s = answer (unadmitted s) (countsOf s)
 

@@ -50,7 +50,7 @@ pub record Admitted (s : Lent) : Type 0 where
   pub longRow : InPart (s .row) (λ (row : List ℕ). length row ≡ s .n)
   pub longChoice : InPart (s .choice) (λ (choice : List ℕ). length choice ≡ s .n)
   pub small : InPart (s .row) (λ (row : List ℕ). SmallProblem (s .n) (s .rules))
-  pub entered : Asked (s .asksEntries) (emptyClause 0 (clauses (s .rules)) ≡ none)
+  pub entries : Asked (s .asksEntries) (emptyClause 0 (clauses (s .rules)) ≡ none)
 
 -- a cause of a part does not apply exactly when the part, if there is one, is as it must be
 in-part : (o : Option (List ℕ)) (f : List ℕ → Option ℕ) (F : List ℕ → Type 0) → ((part : List ℕ) → f part ≡ none → F part) → ofPart o f ≡ none → InPart o F
@@ -106,7 +106,7 @@ module _ (s : Lent) where
 
   pub admitted : unadmitted s ≡ none → Admitted s
   admitted e =
-      let (range, (rules, (row, (choice, (rowLength, (choiceLength, (size, (entries, end)))))))) = none-found (causes s) e in
+      let (range, (rules, (row, (choice, (rowLength, (choiceLength, (size, (filled, end)))))))) = none-found (causes s) e in
       let numbers = in-range (s .n) (s .d) (placeIf-none (outOfRange (s .n) (s .d)) 0 range) in
       record {
         positive = numbers .0;
@@ -118,7 +118,7 @@ module _ (s : Lent) where
         longRow = in-part (s .row) wrong Long (length-right (s .n)) rowLength;
         longChoice = in-part (s .choice) wrong Long (length-right (s .n)) choiceLength;
         small = in-part (s .row) sized (λ (part : List ℕ). SmallProblem (s .n) (s .rules)) (λ part. size-small (s .n) (length (clauses (s .rules))) (literals (clauses (s .rules)))) size;
-        entered = in-asked (s .asksEntries) (emptyClause 0 (clauses (s .rules))) entries;
+        entries = in-asked (s .asksEntries) (emptyClause 0 (clauses (s .rules))) filled;
       }
 
   pub none-applies : Admitted s → unadmitted s ≡ none
@@ -137,7 +137,7 @@ module _ (s : Lent) where
                   of-part (s .choice) wrong Long (right-length (s .n)) (a .longChoice),
                   (
                     of-part (s .row) sized (λ (part : List ℕ). SmallProblem (s .n) (s .rules)) (λ part. small-size (s .n) (length (clauses (s .rules))) (literals (clauses (s .rules)))) (a .small),
-                    (of-asked (s .asksEntries) (emptyClause 0 (clauses (s .rules))) (a .entered), tt),
+                    (of-asked (s .asksEntries) (emptyClause 0 (clauses (s .rules))) (a .entries), tt),
                   ),
                 ),
               ),
@@ -159,7 +159,7 @@ module _ (s : Lent) where
         longRow = a .longRow;
         longChoice = a .longChoice;
         small = a .small;
-        entered = a .entered;
+        entries = a .entries;
       }
 
   -- the refusal of a call whose output needs so many elements and was lent room for so many
@@ -198,7 +198,7 @@ plain-admitted n rules p h e =
       longRow = tt;
       longChoice = tt;
       small = tt;
-      entered = tt;
+      entries = tt;
     }
 
 -- and so are few enough variables with a sound row of their length and a limit, without rules
@@ -214,12 +214,12 @@ alone-admitted n row d p h k e l =
       longRow = l;
       longChoice = tt;
       small = record { variables = h; few = zero-le; short = zero-le };
-      entered = tt;
+      entries = tt;
     }
 
 -- what the export admits, the other calls with wishes admit
-pub entered-wished : (n : ℕ) (rules : List ℤ) (row : List ℕ) (d : ℕ) → Admitted (exportedProblem n rules row d) → Admitted (wishedProblem n rules row d)
-entered-wished n rules row d a =
+pub export-wished : (n : ℕ) (rules : List ℤ) (row : List ℕ) (d : ℕ) → Admitted (exportedProblem n rules row d) → Admitted (wishedProblem n rules row d)
+export-wished n rules row d a =
     record {
       positive = a .positive;
       most = a .most;
@@ -230,5 +230,5 @@ entered-wished n rules row d a =
       longRow = a .longRow;
       longChoice = a .longChoice;
       small = a .small;
-      entered = tt;
+      entries = tt;
     }

@@ -1,4 +1,4 @@
--- Decimal numbers as both files write them, in ASCII bytes (document 01, "The rule file" and "The wish file").
+-- Decimal numbers as files have them, in ASCII bytes (document 01, "The rule file" and "The wish file").
 use mathlib.Core.Bool.{Bool, true, false, cond, not, _&&_}
 use mathlib.Core.List.{List, [], _∷_, _++_}
 use mathlib.Core.Option.{Option, none, some}

@@ -12,7 +12,7 @@ use lib.ListN.{length}
 use Rattle.refusal.specs.declared.Refusal.{Refusal}
 use Rattle.refusal.specs.Laws.{room-enough}
 use Rattle.refusal.specs.Reply.{refusing, answering, unless, cause, filled, tooShort}
-use Rattle.causes.specs.Admitted.{admitted, entered-wished, refused-lent, room-decides, lent-number}
+use Rattle.causes.specs.Admitted.{admitted, export-wished, refused-lent, room-decides, lent-number}
 use Rattle.causes.specs.Lent.{Lent, exportedProblem, unadmitted, refusalOf}
 use Rattle.opb_format.specs.Opb.{opbOf}
 use Rattle.opb_format.specs.Sizes.{longest, opb-most}
@@ -38,7 +38,7 @@ module _ (n : ℕ) (rules : List ℤ) (row : List ℕ) (d : ℕ) where
       sym (ap (λ (o : Option Refusal). unlessRefused o file) (room-decides s (length file) (length file) e ∙ room-enough (length file) (length file) (le-refl (length file))))
 
   file-most : unadmitted s ≡ none → length file ≤ longest
-  file-most e = opb-most n rules row d (entered-wished n rules row d (admitted s e))
+  file-most e = opb-most n rules row d (export-wished n rules row d (admitted s e))
 
   -- the text's length was told, and it was put where it fits
   abbrev pub Said : ℕ → List ℕ → List ℕ → Type 0

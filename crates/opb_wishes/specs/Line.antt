@@ -2,26 +2,22 @@
 use mathlib.Core.Path.{_≡_, refl, sym, ap, ap₂, _∙_}
 use mathlib.Core.Bool.{Bool, true, false, cond}
 use mathlib.Core.List.{List, [], _∷_, _++_, append-nil}
-use Prim.Native.Nat.{ℕ, suc, _+_, _≤_, _<_, zero-le}
+use Prim.Native.Nat.{ℕ, suc, _+_, _≤_, _<_}
 use native.Mathlib.Numerals.{add-one}
 use native.Mathlib.Omega.{arith}
-use lib.Dec.{eqb, ltb}
+use lib.Dec.{ltb}
 use lib.IntN.{ℤ, pos, _-ℤ_}
 use lib.ListN.{length, getD, drop, length-append, drop-of-length-le}
 use lib.Seq.{drop-cons}
 use borrow.Author.Tests.{lt-ltb}
-use Rattle.wish.specs.Laws.{weight-most}
-use Rattle.wish.specs.Wish.{isWish, wishedValue, weight, maxWeight, keeping, onWeight, wishCount, wishedOn}
+use Rattle.wish.specs.Laws.{on-weight, weight-most}
+use Rattle.wish.specs.Wish.{isWish, weight, maxWeight, keeping, onWeight, wishCount, wishedOn}
 use Rattle.pseudo_boolean.specs.Export.{term, wishTerms, wishConstraint, wishConstraints}
 use Rattle.opb_format.specs.Opb.{termText, termsText, boundText, lineText, linesText}
 
 -- a byte adds at most a wish's weight to what the wishes for on weigh
 pub on-weight-most : (w : ℕ) → onWeight w ≤ maxWeight
-on-weight-most w = go (eqb (wishedValue w) 1)
-  where
-    go : (t : Bool) → cond t (weight w) 0 ≤ maxWeight
-    go true = weight-most w
-    go false = zero-le
+on-weight-most w = omega (arith, on-weight w, weight-most w)
 
 -- what the wishes for on weigh in what is left of a row: that of its first byte and of the rest; nothing past its end
 pub on-step : (row : List ℕ) (i : ℕ) → i < length row → wishedOn (drop i row) ≡ onWeight (getD row i 0) + wishedOn (drop (i + 1) row)

@@ -31,14 +31,14 @@ fn terms_length(row: &[u8]) -> usize
     let mut total = 0;
     let mut i = 0;
     while i < row.len() {
-        total += byte_length(Variable(i + 1), row[i]);
+        total += wish_length(Variable(i + 1), row[i]);
         i += 1;
     }
     total
 }
 
 // How many bytes the term of a byte of the row takes: none where the variable is free.
-fn byte_length(v: Variable, wish: u8) -> usize
+fn wish_length(v: Variable, wish: u8) -> usize
     requires { ⌜ v .0 ≤ maxVariables ⌝ }
     ensures { λ r. ⌜ (r ≡ length (termsText (wishTerms (v .0) (wish ∷ [])))) × (r ≤ 44) ⌝ }
 {

@@ -1,8 +1,6 @@
 -- The call that exports to OPB (document 02, L2).
-use mathlib.Core.Bool.{cond}
 use mathlib.Core.List.{List}
-use Prim.Native.Nat.{ℕ, _+_}
-use lib.Dec.{ltb}
+use Prim.Native.Nat.{ℕ}
 use lib.IntN.{ℤ}
 use lib.ListN.{length}
 use Rattle.refusal.specs.Reply.{Reply, refusing, answering, unless, filled}
@@ -29,7 +27,3 @@ writeOutput n rules row d file =
 abbrev pub replyOf : WrittenOpb → Reply
 replyOf (Refused r) = refusing r
 replyOf (Written length) = answering 1 length 0 0
-
--- the lines after the first, for so many clauses and wishes
-abbrev pub lineCount : ℕ → ℕ → ℕ
-lineCount clauses wishes = cond (ltb 0 wishes) (clauses + 1) clauses

@@ -9,7 +9,8 @@ ghost use lib.ListN.{length};
 ghost use Rattle.causes.specs.Admitted.{Admitted};
 ghost use Rattle.causes.specs.Lent.{exportedProblem};
 ghost use Rattle.admission_steps.specs.Admission.{countsOf};
-ghost use Rattle.opb_writer.specs.Write.{writeReply, writeOutput, replyOf, lineCount};
+ghost use Rattle.opb_writer.specs.Parts.{lineCount};
+ghost use Rattle.opb_writer.specs.Write.{writeReply, writeOutput, replyOf};
 
 // Refused, or the file's length.
 pub enum WrittenOpb {

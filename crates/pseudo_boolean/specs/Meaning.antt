@@ -99,7 +99,7 @@ lines-have-terms n rules row d ok c m =
     size b = length (b .terms)
 
     rule : (x : List ℤ) × List·Memᴰ x (clauses rules) × (ruleConstraint x ≡ c) → 0 < size c
-    rule r = omega (arith, filled-iff 0 (clauses rules) .0 (ok .entered) (r .0) (r .1), length-map (r .0) (term 1), ap size (r .2))
+    rule r = omega (arith, filled-iff 0 (clauses rules) .0 (ok .entries) (r .0) (r .1), length-map (r .0) (term 1), ap size (r .2))
 
     last : (t : Bool) → ltb 0 (wishCount row) ≡ t → List·Memᴰ c (cond t (wishConstraint row d ∷ []) []) → 0 < size c
     last true e q = omega (arith, ltb-true 0 (wishCount row) e, wishes-terms 1 row, ap size (List·Memᴰ·eq-of-singleton q))

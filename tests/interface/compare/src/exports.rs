@@ -160,18 +160,10 @@ fn digits(both: &mut Both, random: &mut Random) {
     }
 }
 
-/// 4,096 rules and 16,384 entries, each the longest there is. A K of two places takes 2 negative entries, one of three
-/// takes 11.
-fn longest_file() -> Vec<i32> {
-    let rule = |length: i32| (0..length).map(|k| -100 - k).chain([0]);
-    let lengths = [vec![11; 910], vec![3; 2], vec![2; 3_184]].concat();
-    lengths.into_iter().flat_map(rule).collect()
-}
-
 fn largest(both: &mut Both, random: &mut Random) {
     let books = [
         random.book(256, 4_096, 4, 4),
-        longest_file(),
+        reference::opb::longest_list(),
         // long rules
         (0..64).flat_map(|_| (1..=256).map(|v| -v).chain([0])).collect(),
         // an empty rule at the end, one more rule, one more entry

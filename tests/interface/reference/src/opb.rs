@@ -70,3 +70,12 @@ fn constraint(line: &str) -> Option<Constraint> {
     let read = Constraint { terms, k: k.parse().ok()? };
     (read.line() == format!("{line}\n")).then_some(read)
 }
+
+/// A list with the longest file: 4,096 rules and 16,384 entries, each the longest there is. A K of two places takes 2
+/// negative entries, one of three takes 11: as many rules as can have 11, the others 2, and the two entries that are
+/// left.
+pub fn longest_list() -> Vec<i32> {
+    let rule = |length: i32| (0..length).map(|k| -100 - k).chain([0]);
+    let lengths = [vec![11; 910], vec![3; 2], vec![2; 3_184]].concat();
+    lengths.into_iter().flat_map(rule).collect()
+}

@@ -1,20 +1,18 @@
-//! Document 01's rewriting program "reads `rules.cnf` and `wish.txt`", here of the folder that is named. "On a refusal
-//! it prints the number, a space, the place and a line feed instead; `rules.cnf` is read first. If either file is
-//! longer than 65,536 bytes it prints nothing." The program that exports to OPB does the same.
+//! Document 01's rewriting program "reads `rules.cnf` and `wish.txt`", here of the current folder. "On a refusal it
+//! prints the number, a space, the place and a line feed instead; `rules.cnf` is read first. If either file is longer
+//! than 65,536 bytes it prints nothing." The program that exports to OPB does the same.
 
 use crate::lent::Refusal;
 use crate::rule_file::{self, Book};
 use crate::wish_file::{self, Wishes};
 use std::fs;
 use std::io::{self, Write};
-use std::path::PathBuf;
 
 const LONGEST: usize = 65_536;
 
 /// Prints what is made of the two files.
 pub fn run(made: impl Fn(&Book, &Wishes) -> Result<Vec<u8>, Refusal>) -> io::Result<()> {
-    let folder = PathBuf::from(std::env::args().nth(1).unwrap_or_default());
-    let (rules, wishes) = (fs::read(folder.join("rules.cnf"))?, fs::read(folder.join("wish.txt"))?);
+    let (rules, wishes) = (fs::read("rules.cnf")?, fs::read("wish.txt")?);
     if rules.len() > LONGEST || wishes.len() > LONGEST {
         return Ok(());
     }

@@ -296,13 +296,9 @@ fn opb_by_brute_force() {
     }
 }
 
-/// 4,096 rules and 16,384 entries, each the longest there is. A K of two places takes 2 negative entries, one of three
-/// takes 11: as many rules as can have 11, the others 2, and the two entries that are left.
 #[test]
 fn longest_opb_file() {
-    let rule = |length: i32| (0..length).map(|k| -100 - k).chain([0]);
-    let lengths = [vec![11; 910], vec![3; 2], vec![2; 3_184]].concat();
-    let list: Vec<i32> = lengths.into_iter().flat_map(rule).collect();
+    let list = opb::longest_list();
     assert_eq!(list.len(), 16_384 + 4_096);
     let mut row = vec![2; 192];
     row.resize(256, 0);

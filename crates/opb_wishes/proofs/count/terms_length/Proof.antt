@@ -22,11 +22,11 @@ loop-holds c = search needs
 add-t6 : tie.Need-add-t6 Inv-loop μ-loop
 add-t6 c = search needs
 
-shared-slice-read-byte-length : tie.Need-shared-slice-read-byte-length Inv-loop μ-loop
-shared-slice-read-byte-length c = search needs
+shared-slice-read-wish-length : tie.Need-shared-slice-read-wish-length Inv-loop μ-loop
+shared-slice-read-wish-length c = search needs
 
-byte-length-requires : tie.Need-byte-length-requires Inv-loop μ-loop
-byte-length-requires c κs = search needs
+wish-length-requires : tie.Need-wish-length-requires Inv-loop μ-loop
+wish-length-requires c κs = search needs
 
 add-total : tie.Need-add-total Inv-loop μ-loop
 add-total c = search needs
@@ -55,8 +55,8 @@ terms-length-spec =
     μ-loop
     loop-holds
     add-t6
-    shared-slice-read-byte-length
-    byte-length-requires
+    shared-slice-read-wish-length
+    wish-length-requires
     add-total
     add-i
     loop-less

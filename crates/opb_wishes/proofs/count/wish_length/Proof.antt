@@ -1,4 +1,4 @@
--- `opb_wishes::count::byte_length` meets its contract: the term of a wish, or nothing.
+-- `opb_wishes::count::wish_length` meets its contract: the term of a wish, or nothing.
 use mathlib.Core.Path.{sym, ap, _∙_}
 use native.Mathlib.Omega.{arith}
 use lib.ListN.{length}
@@ -6,8 +6,8 @@ use borrow.Author.Needs.{needs}
 use Rattle.literal.specs.Laws.{as-read}
 use Rattle.wish.specs.Laws.{weight-wish}
 use Rattle.opb_wishes.specs.Line.{term-free, term-wish}
-use Rattle.opb_wishes.proofs.count.byte_length.Statement.{statement}
-use Rattle.opb_wishes.proofs.count.byte_length.Tie as tie
+use Rattle.opb_wishes.proofs.count.wish_length.Statement.{statement}
+use Rattle.opb_wishes.proofs.count.wish_length.Tie as tie
 
 is-wish-requires : tie.Need-is-wish-requires
 is-wish-requires c κs = search needs
@@ -38,8 +38,8 @@ returns-2 c =
     let args = c .before .before .args in
     omega (arith, ap length (term-free (args .v .0) (args .wish) (sym (c .before .is-wish .ensures) ∙ c .if1 .left)))
 
-pub byte-length-spec : {M : Type 1} → statement M
-byte-length-spec =
+pub wish-length-spec : {M : Type 1} → statement M
+wish-length-spec =
     tie.close
     (tie.spec
     is-wish-requires
