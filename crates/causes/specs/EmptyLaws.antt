@@ -8,16 +8,16 @@ use Prim.Native.Nat.{ℕ, suc, _+_, _-_, _≤_, _<_}
 use native.Mathlib.Omega.{arith}
 use lib.Dec.{eqb}
 use lib.IntN.{ℤ}
-use lib.ListN.{length, take, drop, drop-of-length-le, length-take, length-drop}
+use lib.ListN.{length, take, drop, drop-of-length-le}
 use borrow.Author.Tests.{eqb-false, eq-eqb, ne-eqb}
 use Rattle.formula.specs.Formula.{clauses, clauseLength}
-use Rattle.formula.specs.Laws.{clauses-step, end-inside}
+use Rattle.formula.specs.Laws.{clauses-step, clause-long}
 use Rattle.causes.specs.Empty.{emptyClause}
 
 -- from index i on: the clause there ends at e
 module _ (l : List ℤ) (i e : ℕ) (h : i < length l) (q : e ≡ i + clauseLength (drop i l)) where
   long : length (take (e - i) (drop i l)) ≡ e - i
-  long = length-take (e - i) (drop i l) ∙ omega (arith, length-drop i l, end-inside l i e (omega arith) q)
+  long = clause-long l i e (omega arith) q
 
   abbrev step : emptyClause i (clauses (drop i l)) ≡ emptyClause i (take (e - i) (drop i l) ∷ clauses (drop (e + 1) l))
   step = ap (emptyClause i) (clauses-step l i e h q)

@@ -8,7 +8,7 @@ use native.Mathlib.Omega.{arith}
 use native.Mathlib.Numerals.{add-one}
 use lib.IntN.{ℤ, pos}
 use lib.ListN.{length, getD, take, drop, length-drop, drop-of-length-le}
-use lib.Seq.{drop-cons, drop-drop}
+use lib.Seq.{drop-cons, drop-drop, length-take-le}
 use Rattle.formula.specs.Formula.{any, closes, onto, clauses, clauseLength, satisfied, models}
 
 -- a list that is not empty is its first clause, what closes it, and the rest
@@ -53,6 +53,10 @@ length-inside (x ∷ l) = shorter (closes x) (length-inside l)
 -- the clause that begins at i ends inside the list
 pub end-inside : (l : List ℤ) (i e : ℕ) → i ≤ length l → e ≡ i + clauseLength (drop i l) → e ≤ length l
 end-inside l i e h q = omega (arith, length-inside (drop i l), length-drop i l)
+
+-- and it has as many literals as there are places up to its end
+pub clause-long : (l : List ℤ) (i e : ℕ) → i ≤ length l → e ≡ i + clauseLength (drop i l) → length (take (e - i) (drop i l)) ≡ e - i
+clause-long l i e h q = length-take-le (e - i) (drop i l) (omega (arith, length-drop i l, end-inside l i e h q))
 
 -- from i on, the formula is the clause from i to its end e, and the formula from e + 1 on
 pub clauses-step : (l : List ℤ) (i e : ℕ) → i < length l → e ≡ i + clauseLength (drop i l)

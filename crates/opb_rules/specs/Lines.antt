@@ -5,11 +5,11 @@ use Prim.Native.Nat.{ℕ, suc, _+_, _-_, _≤_, _<_}
 use native.Mathlib.Numerals.{add-one}
 use native.Mathlib.Omega.{arith}
 use lib.IntN.{ℤ, pos, negsuc, _-ℤ_}
-use lib.ListN.{length, getD, take, drop, length-append, length-take, length-drop, drop-of-length-le}
+use lib.ListN.{length, getD, take, drop, length-append, drop-of-length-le}
 use lib.Seq.{drop-cons}
 use Rattle.literal.specs.Literal.{wanted}
 use Rattle.formula.specs.Formula.{clauses, clauseLength}
-use Rattle.formula.specs.Laws.{clauses-step, end-inside}
+use Rattle.formula.specs.Laws.{clauses-step, clause-long, end-inside}
 use Rattle.pseudo_boolean.specs.Export.{term, negatives, ruleConstraint}
 use Rattle.opb_format.specs.Opb.{termText, termsText, boundText, lineText, linesText}
 
@@ -68,9 +68,7 @@ module _ (l : List ℤ) (i e : ℕ) (h : i < length l) (q : e ≡ i + clauseLeng
   lines-step = ap length lines-split ∙ length-append (lineText (ruleConstraint clauseAt)) (ruleLines (drop (e + 1) l))
 
   pub clause-size : (length clauseAt ≡ e - i) × (i ≤ e) × (e ≤ length l)
-  clause-size =
-      let inside = end-inside l i e (omega arith) q in
-      (length-take (e - i) (drop i l) ∙ omega (arith, length-drop i l), omega arith, inside)
+  clause-size = (clause-long l i e (omega arith) q, omega arith, end-inside l i e (omega arith) q)
 
 pub lines-past : (l : List ℤ) (i : ℕ) → length l ≤ i → ruleLines (drop i l) ≡ []
 lines-past l i h = rw (drop-of-length-le l h)
