@@ -7,11 +7,10 @@ use lib.Dec.{ltb, leb}
 use lib.IntN.{ℤ}
 use lib.ListN.{length, getD, drop}
 use Rattle.literal.specs.Literal.{variable}
-use Rattle.formula.specs.Formula.{closes}
 use Rattle.refusal.specs.declared.Refusal.{Refusal}
 use Rattle.refusal.specs.Reply.{refusal}
 use Rattle.limits.specs.Limits.{maxLiterals}
-use Rattle.rule_list.specs.Sound.{Scan, mayJoin, after, unread, unclosed}
+use Rattle.rule_list.specs.Sound.{Scan, unread, unclosed}
 use Rattle.dimacs.specs.Format as rule-file
 use Rattle.dimacs.specs.Format.{Header}
 use Rattle.dimacs.specs.Tokens.{Token, tokensFrom}
@@ -28,19 +27,18 @@ token-numbered n c s place none = some-cause 2 place
 token-numbered n c s place (some x) =
     by-first
     (more (by-test (leb c (s .clauses)) 5 place)
-    (more (by-test (not (closes x) && leb maxLiterals (s .literals)) 6 place)
-    (more (by-test (ltb n (variable x)) 3 place)
-    (more (by-test (not (closes x) && not (mayJoin (s .clause) x)) 4 place) last))))
+    (more (by-test (rule-file.adds s x && leb maxLiterals (s .literals)) 6 place)
+    (more (by-test (ltb n (variable x)) 3 place) last)))
 
 tokens-numbered : (n c size : ℕ) (s : Scan) (ts : List Token) → Numbered (rule-file.badTokens n c size s ts)
 tokens-numbered n c size s [] = by-test (ltb (s .clauses) c || unclosed (s .clause)) 5 size
 tokens-numbered n c size s (t ∷ ts) =
-    by-first (more (token-numbered n c s (t .place) (rule-file.signed (t .bytes))) (more (tokens-numbered n c size (after s (rule-file.element t)) ts) last))
+    by-first (more (token-numbered n c s (t .place) (rule-file.signed (t .bytes))) (more (tokens-numbered n c size (rule-file.past s (rule-file.element t)) ts) last))
 
 module _ (room : ℕ) where
   told-tokens : (n c : ℕ) (ts : List Token) (o : Option Refusal) → Numbered o → Told (rules.replying (rule-file.readTokens n c ts o) room)
   told-tokens n c ts none cause =
-      let needed : ℕ = length (mathlib.Core.List.map rule-file.element ts) in
+      let needed : ℕ = length (rule-file.rulesOf ts) in
       told-unless _ 1 n c needed (by-test (ltb room needed) 14 needed)
   told-tokens n c ts (some r) cause = told-refusal r cause
 

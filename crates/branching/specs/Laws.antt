@@ -10,36 +10,22 @@ use lib.Dec.{eqb, ltb, leb, lit<}
 use lib.IntN.{ℤ}
 use lib.ListN.{length}
 use borrow.Author.Tests.{eq-eqb, ne-eqb, eqb-true, eqb-false, lt-ltb, le-ltb, le-leb, not-true}
-use Rattle.literal.specs.Literal.{variable, wanted, value}
-use Rattle.formula.specs.Formula.{any, all, clauses}
+use Rattle.literal.specs.Literal.{variable, wanted, isLiteral, value}
+use Rattle.literal.specs.Slots.{slot, isAt, wanted-bit, slot-literal}
+use Rattle.formula.specs.Formula.{any, all, contains, clauses}
+use Rattle.formula.specs.Laws.{slot-clause}
 use Rattle.rule_list.specs.Sound.{SoundList}
 use Rattle.soundness.specs.Flat.{joining}
 use Rattle.soundness.specs.Laws.{Joined, joined, all-weaken}
 use Rattle.soundness.specs.Soundness.{sound}
 use Rattle.choices.specs.Lists.{any-false}
 use Rattle.walk.specs.State.{isUnset, hasVariable}
-use Rattle.walk.specs.Branching.{fewest, offers, isCandidate, clauseWeight, isLiteral, contains, weightOf, scoreOf, score, better, best, branchingVariable}
-use Rattle.walk.specs.Extension.{wanted-bit}
-use Rattle.weighing.specs.Weights.{slot, isAt, weightAt, distinct, isClean, WeighableList, Totals}
+use Rattle.walk.specs.Branching.{fewest, offers, isCandidate, clauseWeight, weightOf, scoreOf, score, better, best, branchingVariable}
+use Rattle.weighing.specs.Weights.{weightAt, distinct, isClean, WeighableList, Totals}
 use Rattle.weighing.specs.ClauseLaws.{weight-most}
 use Rattle.branching.specs.Branch.{scoreBy, candidateBy, Scorable, UpTo}
 
--- a literal's slot says its variable and the value that it wants
-slot-literal : (v b : ℕ) → b < 2 → (x : ℤ) → isAt (2 * v + b) x ≡ isLiteral v b x
-slot-literal v b h x = go (eqb (variable x) v) refl (eqb (wanted x) b) refl
-  where
-    other : (slot x ≡ 2 * v + b → ⊥) → isAt (2 * v + b) x ≡ false
-    other e = ne-eqb (slot x) (2 * v + b) e
-
-    go : (s : Bool) → eqb (variable x) v ≡ s → (t : Bool) → eqb (wanted x) b ≡ t → isAt (2 * v + b) x ≡ s && t
-    go true p true q = eq-eqb (slot x) (2 * v + b) (omega (arith, eqb-true (variable x) v p, eqb-true (wanted x) b q))
-    go true p false q = let ne : wanted x ≡ b → ⊥ = eqb-false (wanted x) b q in other (λ e. ne (omega (arith, e, eqb-true (variable x) v p)))
-    go false p t q = let ne : variable x ≡ v → ⊥ = eqb-false (variable x) v p in other (λ e. ne (omega (arith, e, wanted-bit x)))
-
-slot-clause : (v b : ℕ) → b < 2 → (c : List ℤ) → any (isAt (2 * v + b)) c ≡ contains v b c
-slot-clause v b h [] = refl
-slot-clause v b h (x ∷ c) = ap₂ _||_ (slot-literal v b h x) (slot-clause v b h c)
-
+-- the weight at a literal's slot is that of the clauses that hold it
 slot-weight : (a : List ℕ) (v b : ℕ) → b < 2 → (f : List (List ℤ)) → weightAt a (2 * v + b) f ≡ weightOf a v b f
 slot-weight a v b h [] = refl
 slot-weight a v b h (c ∷ f) = ap₂ (λ (t : Bool) (k : ℕ). cond t (clauseWeight a c) 0 + k) (slot-clause v b h c) (slot-weight a v b h f)
@@ -109,9 +95,9 @@ apart : (n : ℕ) (x : ℤ) (read c : List ℤ) → joining n read c ≡ true �
 apart n x read [] e m = refl
 apart n x read (y ∷ c) e m =
     let j : Joined n read y c = joined n read y c e in
-    let differs : eqb (variable y) (variable x) ≡ false = any-false (λ (z : ℤ). eqb (variable y) (variable z)) (not-true (any (λ (z : ℤ). eqb (variable y) (variable z)) read) (j .apart)) m in
-    let ne : variable y ≡ variable x → ⊥ = eqb-false (variable y) (variable x) differs in
-    ap₂ _||_ (ne-eqb (slot y) (slot x) (λ q. ne (omega (arith, q, wanted-bit x, wanted-bit y)))) (apart n x (y ∷ read) c (j .rest) (List·Memᴰ·tail m))
+    let new : contains (variable y) (wanted y) read ≡ false = not-true (contains (variable y) (wanted y) read) (j .apart) in
+    let differs : isAt (slot y) x ≡ false = slot-literal (variable y) (wanted y) (wanted-bit y) x ∙ any-false (isLiteral (variable y) (wanted y)) new m in
+    ap₂ _||_ (ne-eqb (slot y) (slot x) (λ q. eqb-false (slot x) (slot y) differs (sym q))) (apart n x (y ∷ read) c (j .rest) (List·Memᴰ·tail m))
 
 clean : (n : ℕ) (read c : List ℤ) → joining n read c ≡ true → (all (hasVariable n) c ≡ true) × (distinct c ≡ true)
 clean n read [] e = (refl, refl)

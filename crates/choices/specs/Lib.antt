@@ -1,2 +1,3 @@
 pub mod Choices
 pub mod Lists
+pub mod Opposites

@@ -12,8 +12,8 @@ use Rattle.formula.specs.Formula.{closes}
 use Rattle.refusal.specs.declared.Refusal.{Refusal}
 use Rattle.refusal.specs.Reply.{refusal, first, cause}
 use Rattle.limits.specs.Limits.{maxLiterals}
-use Rattle.rule_list.specs.Sound.{Scan, unread, mayJoin, after, unclosed}
-use Rattle.dimacs.specs.Format.{Header, outside, signed, element, badToken, badTokens, refuses, gives, readTokens, readFrom}
+use Rattle.rule_list.specs.Sound.{Scan, unread, unclosed}
+use Rattle.dimacs.specs.Format.{Header, outside, signed, element, adds, past, badToken, badTokens, stored, refuses, gives, readTokens, readFrom}
 use Rattle.dimacs.specs.Tokens.{Token, tokensFrom}
 use Rattle.comments.specs.Lines.{moved, movedReading}
 
@@ -44,23 +44,22 @@ module _ (from by : ℕ) where
   token-moves : (n c : ℕ) (s : Scan) (place : ℕ) (o : Option ℤ) → badToken n c s (move place) o ≡ movedCause from by (badToken n c s place o)
   token-moves n c s place none = refl
   token-moves n c s place (some x) =
-      go (leb c (s .clauses)) (not (closes x) && leb maxLiterals (s .literals)) (ltb n (variable x)) (not (closes x) && not (mayJoin (s .clause) x))
+      go (leb c (s .clauses)) (adds s x && leb maxLiterals (s .literals)) (ltb n (variable x))
     where
-      found : Bool → Bool → Bool → Bool → ℕ → Option Refusal
-      found six seven four five at = first (cause six 6 at ∷ cause seven 7 at ∷ cause four 4 at ∷ cause five 5 at ∷ [])
+      found : Bool → Bool → Bool → ℕ → Option Refusal
+      found six seven four at = first (cause six 6 at ∷ cause seven 7 at ∷ cause four 4 at ∷ [])
 
-      go : (six seven four five : Bool) → found six seven four five (move place) ≡ movedCause from by (found six seven four five place)
-      go true seven four five = refl
-      go false true four five = refl
-      go false false true five = refl
-      go false false false true = refl
-      go false false false false = refl
+      go : (six seven four : Bool) → found six seven four (move place) ≡ movedCause from by (found six seven four place)
+      go true seven four = refl
+      go false true four = refl
+      go false false true = refl
+      go false false false = refl
 
   tokens-move : (ts : List Token) (n c size : ℕ) (s : Scan) → badTokens n c (move size) s (movedTokens from by ts) ≡ movedCause from by (badTokens n c size s ts)
   tokens-move [] n c size s = cause-moves (ltb (s .clauses) c || unclosed (s .clause)) 6 size
   tokens-move (t ∷ ts) n c size s =
-      ap₂ (λ (o q : Option Refusal). first (o ∷ q ∷ [])) (token-moves n c s (t .place) (signed (t .bytes))) (tokens-move ts n c size (after s (element t)))
-      ∙ first-moves (badToken n c s (t .place) (signed (t .bytes))) (badTokens n c size (after s (element t)) ts)
+      ap₂ (λ (o q : Option Refusal). first (o ∷ q ∷ [])) (token-moves n c s (t .place) (signed (t .bytes))) (tokens-move ts n c size (past s (element t)))
+      ∙ first-moves (badToken n c s (t .place) (signed (t .bytes))) (badTokens n c size (past s (element t)) ts)
 
   -- their numbers are the same
   numbers-stay : (ts : List Token) → map element (movedTokens from by ts) ≡ map element ts
@@ -69,7 +68,7 @@ module _ (from by : ℕ) where
 
   reading-moves : (n c : ℕ) (ts us : List Token) (o : Option Refusal) → map element us ≡ map element ts
       → readTokens n c us (movedCause from by o) ≡ movedReading from by (readTokens n c ts o)
-  reading-moves n c ts us none e = ap (gives n c) e
+  reading-moves n c ts us none e = ap (λ (l : List ℤ). gives n c (stored unread l)) e
   reading-moves n c ts us (some r) e = refl
 
   -- a file whose header, tokens and end have so moved

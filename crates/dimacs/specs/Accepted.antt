@@ -1,6 +1,6 @@
 -- What is known of a file that reading accepts, and of one in the writer's form: "a file in the writer's form, read and written, is that file" (document 01, "The rule file").
 use mathlib.Core.Path.{_≡_, refl, sym, ap, _∙_}
-use mathlib.Core.Bool.{Bool, true, false, cond, not, _&&_, _||_}
+use mathlib.Core.Bool.{Bool, true, false, cond, _&&_, _||_, true≢false}
 use mathlib.Core.List.{List, [], _∷_, map}
 use mathlib.Core.Option.{Option, none, some, Option·getD, Option·some-ne-none, Option·none-ne-some, Option·some-injective}
 use Prim.Native.Nat.{ℕ, zero, suc, _+_, _≤_, _<_}
@@ -9,7 +9,7 @@ use native.Mathlib.Omega.{arith}
 use lib.Dec.{eqb, ltb, leb}
 use lib.IntN.{ℤ, pos, negsuc}
 use lib.ListN.{length, drop}
-use borrow.Author.Tests.{lt-ltb, le-leb, leb-false, ltb-false, eqb-false, not-false}
+use borrow.Author.Tests.{lt-ltb, le-leb, leb-false, ltb-false, eqb-false}
 use Rattle.literal.specs.Literal.{variable}
 use Rattle.formula.specs.Formula.{closes, clauses}
 use Rattle.refusal.specs.declared.Refusal.{Refusal}
@@ -22,73 +22,66 @@ use Rattle.decimal.specs.Decimal.{decimal, number}
 use Rattle.decimal.specs.Laws.{decimal-digits, decimal-some, decimal-read}
 use Rattle.text.specs.Text.{numeral}
 use Rattle.dimacs.specs.Class.{classOf}
-use Rattle.dimacs.specs.Format.{pastComments, Header, header, numbered, outside, positive, negative, signed, element, badToken, badTokens, refuses, gives, reading, readTokens, readFrom}
+use Rattle.dimacs.specs.Format.{pastComments, Header, header, numbered, outside, positive, negative, signed, element, repeats, adds, past, badToken, badTokens, stored, rulesOf, refuses, gives, reading, readTokens, readFrom}
 use Rattle.dimacs.specs.Tokens.{Token, tokensFrom}
 use Rattle.dimacs.specs.RoundTrip.{unsigned, tokensOf, tokens-written, header-fields, header-joined, header-length}
 use Rattle.dimacs.specs.Written.{body, headerText, written}
 
--- a token that is not refused is a number that may come next, in a file with clauses to come
-good-next : (n c : ℕ) (s : Scan) (at : ℕ) (x : ℤ) → c ≤ maxClauses → badToken n c s at (some x) ≡ none → (s .clauses < c) × (stands n s x ≡ true)
-good-next n c s at x h e = go (closes x) refl
+-- A token that is not refused is a number over the n variables, in a file with clauses to come; unless it is a repeat, it may come next.
+pub record Next (n c : ℕ) (s : Scan) (x : ℤ) : Type 0 where
+  pub below : s .clauses < c
+  pub inside : variable x ≤ n
+  pub new : repeats s x ≡ false → stands n s x ≡ true
+
+pub good-next : (n c : ℕ) (s : Scan) (at : ℕ) (x : ℤ) → c ≤ maxClauses → badToken n c s at (some x) ≡ none → Next n c s x
+good-next n c s at x h e = record { below = less; inside = within; new = go (closes x) refl (mayJoin (s .clause) x) refl }
   where
     six : Option Refusal
     six = cause (leb c (s .clauses)) 6 at
 
     seven : Option Refusal
-    seven = cause (not (closes x) && leb maxLiterals (s .literals)) 7 at
+    seven = cause (adds s x && leb maxLiterals (s .literals)) 7 at
 
     four : Option Refusal
     four = cause (ltb n (variable x)) 4 at
 
-    five : Option Refusal
-    five = cause (not (closes x) && not (mayJoin (s .clause) x)) 5 at
+    p : (six ≡ none) × (first (seven ∷ four ∷ []) ≡ none)
+    p = no-first six (seven ∷ four ∷ []) e
 
-    p : (six ≡ none) × (first (seven ∷ four ∷ five ∷ []) ≡ none)
-    p = no-first six (seven ∷ four ∷ five ∷ []) e
+    q : (seven ≡ none) × (first (four ∷ []) ≡ none)
+    q = no-first seven (four ∷ []) (p .1)
 
-    q : (seven ≡ none) × (first (four ∷ five ∷ []) ≡ none)
-    q = no-first seven (four ∷ five ∷ []) (p .1)
+    less : s .clauses < c
+    less = leb-false c (s .clauses) (cause-none (leb c (s .clauses)) 6 at (p .0))
 
-    r : (four ≡ none) × (first (five ∷ []) ≡ none)
-    r = no-first four (five ∷ []) (q .1)
+    few : adds s x && leb maxLiterals (s .literals) ≡ false
+    few = cause-none (adds s x && leb maxLiterals (s .literals)) 7 at (q .0)
 
-    below : s .clauses < c
-    below = leb-false c (s .clauses) (cause-none (leb c (s .clauses)) 6 at (p .0))
+    within : variable x ≤ n
+    within = ltb-false n (variable x) (cause-none (ltb n (variable x)) 4 at (sym (first-last four) ∙ q .1))
 
-    few : not (closes x) && leb maxLiterals (s .literals) ≡ false
-    few = cause-none (not (closes x) && leb maxLiterals (s .literals)) 7 at (q .0)
+    go : (b : Bool) → closes x ≡ b → (j : Bool) → mayJoin (s .clause) x ≡ j → repeats s x ≡ false → stands n s x ≡ true
+    go true f j g r = rw (f, lt-ltb (s .clauses) maxClauses (omega (arith, less)))
+    go false f true g r =
+        let literal : leb maxLiterals (s .literals) ≡ false = rw (f, g) at few in
+        rw (f, g, le-leb (variable x) n within, lt-ltb (s .literals) maxLiterals (leb-false maxLiterals (s .literals) literal))
+    go false f false g r = absurd (true≢false (rw (f, g) at r))
 
-    inside : variable x ≤ n
-    inside = ltb-false n (variable x) (cause-none (ltb n (variable x)) 4 at (r .0))
+-- a list is sound after what s says was read, and has as many clauses as were announced
+abbrev SoundRest : ℕ → ℕ → Scan → ℕ → List ℤ → Type 0
+SoundRest n c s i l = (badRule n s i l ≡ none) × (c ≡ s .clauses + zeros l)
 
-    once : not (closes x) && not (mayJoin (s .clause) x) ≡ false
-    once = cause-none (not (closes x) && not (mayJoin (s .clause) x)) 5 at (sym (first-last five) ∙ r .1)
-
-    go : (b : Bool) → closes x ≡ b → (s .clauses < c) × (stands n s x ≡ true)
-    go true f = (below, rw (f, lt-ltb (s .clauses) maxClauses (omega (arith, below))))
-    go false f =
-        let literal : leb maxLiterals (s .literals) ≡ false = rw (f) at few in
-        let new : not (mayJoin (s .clause) x) ≡ false = rw (f) at once in (
-          below,
-          rw (
-            f,
-            le-leb (variable x) n inside,
-            lt-ltb (s .literals) maxLiterals (leb-false maxLiterals (s .literals) literal),
-            not-false (mayJoin (s .clause) x) new,
-          ),
-        )
-
--- good tokens give a sound list, of as many clauses as were announced
+-- so is what good tokens give
 sound-tokens : (ts : List Token) (n c size : ℕ) (s : Scan) (i : ℕ) → c ≤ maxClauses → s .clauses ≤ c → badTokens n c size s ts ≡ none
-    → (badRule n s i (map element ts) ≡ none) × (c ≡ s .clauses + zeros (map element ts))
+    → SoundRest n c s i (stored s (map element ts))
 sound-tokens [] n c size s i h k e =
     let parts = neither (ltb (s .clauses) c) (unclosed (s .clause)) (cause-none (ltb (s .clauses) c || unclosed (s .clause)) 6 size e) in
     (rw (parts .1), omega (arith, ltb-false (s .clauses) c (parts .0)))
 sound-tokens (t ∷ ts) n c size s i h k e =
-    token (signed (t .bytes)) refl (parts .0) (λ m. sound-tokens ts n c size (after s (element t)) (suc i) h m (sym (first-last later) ∙ parts .1))
+    token (signed (t .bytes)) refl (parts .0) (λ j m. sound-tokens ts n c size (past s (element t)) j h m (sym (first-last later) ∙ parts .1))
   where
     later : Option Refusal
-    later = badTokens n c size (after s (element t)) ts
+    later = badTokens n c size (past s (element t)) ts
 
     parts : (badToken n c s (t .place) (signed (t .bytes)) ≡ none) × (first (later ∷ []) ≡ none)
     parts = no-first (badToken n c s (t .place) (signed (t .bytes))) (later ∷ []) e
@@ -96,22 +89,25 @@ sound-tokens (t ∷ ts) n c size s i h k e =
     l : List ℤ
     l = map element ts
 
-    clause-count : (x : ℤ) → s .clauses < c → (after s x .clauses ≤ c) × (c ≡ after s x .clauses + zeros l → c ≡ s .clauses + zeros (x ∷ l))
+    clause-count : (x : ℤ) → s .clauses < c → (after s x .clauses ≤ c) × ((m : List ℤ) → c ≡ after s x .clauses + zeros m → c ≡ s .clauses + zeros (x ∷ m))
     clause-count x m = go (closes x) refl
       where
-        go : (b : Bool) → closes x ≡ b → (after s x .clauses ≤ c) × (c ≡ after s x .clauses + zeros l → c ≡ s .clauses + zeros (x ∷ l))
-        go true f = rw (f) (omega arith, λ t. omega arith)
-        go false f = rw (f) (omega arith, λ t. omega arith)
+        go : (b : Bool) → closes x ≡ b → (after s x .clauses ≤ c) × ((m : List ℤ) → c ≡ after s x .clauses + zeros m → c ≡ s .clauses + zeros (x ∷ m))
+        go true f = rw (f) (omega arith, λ m t. omega arith)
+        go false f = rw (f) (omega arith, λ m t. omega arith)
+
+    number : (x : ℤ) → Next n c s x → (b : Bool) → repeats s x ≡ b → ((j : ℕ) → past s x .clauses ≤ c → SoundRest n c (past s x) j (stored (past s x) l)) → SoundRest n c s i (stored s (x ∷ l))
+    number x next true f rest = rw (f) ((rw (f) at rest) i k)
+    number x next false f rest =
+        let count = clause-count x (next .below) in
+        let more : SoundRest n c (after s x) (suc i) (stored (after s x) l) = (rw (f) at rest) (suc i) (count .0) in
+        rw (f, next .new f) (more .0, count .1 (stored (after s x) l) (more .1))
 
     token : (o : Option ℤ) → signed (t .bytes) ≡ o → badToken n c s (t .place) o ≡ none
-        → (after s (Option·getD o (pos 0)) .clauses ≤ c → (badRule n (after s (Option·getD o (pos 0))) (suc i) l ≡ none) × (c ≡ after s (Option·getD o (pos 0)) .clauses + zeros l))
-        → (badRule n s i (Option·getD o (pos 0) ∷ l) ≡ none) × (c ≡ s .clauses + zeros (Option·getD o (pos 0) ∷ l))
+        → ((j : ℕ) → past s (Option·getD o (pos 0)) .clauses ≤ c → SoundRest n c (past s (Option·getD o (pos 0))) j (stored (past s (Option·getD o (pos 0))) l))
+        → SoundRest n c s i (stored s (Option·getD o (pos 0) ∷ l))
     token none f g rest = absurd (Option·some-ne-none (refusal 3 (t .place)) g)
-    token (some x) f g rest =
-        let next : (s .clauses < c) × (stands n s x ≡ true) = good-next n c s (t .place) x h g in
-        let count = clause-count x (next .0) in
-        let more = rest (count .0) in
-        (rw (next .1) (more .0), count .1 (more .1))
+    token (some x) f g rest = number x (good-next n c s (t .place) x h g) (repeats s x) refl rest
 
 -- what is known of a file that reading accepts
 pub record Accepted (n c : ℕ) (l : List ℤ) : Type 0 where
@@ -142,7 +138,7 @@ record Parts (file : List ℕ) (n c : ℕ) (l : List ℤ) : Type 0 where
   head : header (drop (pastComments false 0 file) file) ≡ some (record { variables = n; clauses = c; size = size })
   range : outside n c ≡ false
   good : badTokens n c (length file) unread (pastHeader file size) ≡ none
-  gave : l ≡ map element (pastHeader file size)
+  gave : l ≡ rulesOf (pastHeader file size)
 
 accepted-parts : (file : List ℕ) (n c : ℕ) (l : List ℤ) → reading file ≡ gives n c l → Parts file n c l
 accepted-parts file n c l e = found (header (drop at file)) refl e
@@ -166,7 +162,7 @@ accepted-parts file n c l e = found (header (drop at file)) refl e
         passed none k j i =
             let same-n : n ≡ h .variables = cc in
             let same-c : c ≡ h .clauses = cc in
-            let same-l : l ≡ map element ts = cc in
+            let same-l : l ≡ rulesOf ts = cc in
             rw (same-n, same-c, same-l) (record { size = h .size; head = f; range = j; good = k; gave = refl })
 
         ranged : (t : Bool) → outside (h .variables) (h .clauses) ≡ t
@@ -204,7 +200,7 @@ signed-back (negsuc k) y e = negative-back (number (decimal (suc k))) k y (decim
 
 tokens-back : (l : List ℤ) (n c size : ℕ) (s : Scan) (at : ℕ) → badTokens n c size s (tokensOf at l) ≡ none → map element (tokensOf at l) ≡ l
 tokens-back [] n c size s at e = refl
-tokens-back (x ∷ l) n c size s at e = token (signed (numeral x)) refl (parts .0) (tokens-back l n c size (after s y) next (sym (first-last later) ∙ parts .1))
+tokens-back (x ∷ l) n c size s at e = token (signed (numeral x)) refl (parts .0) (tokens-back l n c size (past s y) next (sym (first-last later) ∙ parts .1))
   where
     y : ℤ
     y = element (record { place = at; bytes = numeral x })
@@ -213,7 +209,7 @@ tokens-back (x ∷ l) n c size s at e = token (signed (numeral x)) refl (parts .
     next = suc (at + length (numeral x))
 
     later : Option Refusal
-    later = badTokens n c size (after s y) (tokensOf next l)
+    later = badTokens n c size (past s y) (tokensOf next l)
 
     parts : (badToken n c s at (signed (numeral x)) ≡ none) × (first (later ∷ []) ≡ none)
     parts = no-first (badToken n c s at (signed (numeral x))) (later ∷ []) e
@@ -231,8 +227,8 @@ numbered-parts (some m) (some d) size n c k e =
     let same = Option·some-injective (record { variables = m; clauses = d; size = size }) (record { variables = n; clauses = c; size = k }) e in
     (ap (λ (h : Header). some (h .variables)) same, ap (λ (h : Header). h .size) same)
 
--- What the writer's form reads as, if reading accepts it, is what it was written from, whatever that was.
-pub written-back : (n : ℕ) (l : List ℤ) (n′ c′ : ℕ) (l′ : List ℤ) → reading (written n l) ≡ gives n′ c′ l′ → (n′ ≡ n) × (l′ ≡ l)
+-- What the writer's form reads as, if reading accepts it, is what it was written from, whatever that was, without the repeats.
+pub written-back : (n : ℕ) (l : List ℤ) (n′ c′ : ℕ) (l′ : List ℤ) → reading (written n l) ≡ gives n′ c′ l′ → (n′ ≡ n) × (l′ ≡ stored unread l)
 unfolding classOf
 written-back n l n′ c′ l′ e =
     let p : Parts (written n l) n′ c′ l′ = accepted-parts (written n l) n′ c′ l′ e in
@@ -244,13 +240,13 @@ written-back n l n′ c′ l′ e =
     let place : 0 + p .size ≡ length (headerText n c) = zero-add (p .size) ∙ sym (parts .1) ∙ header-length n c in
     let same : tokensFrom (written n l) (0 + p .size) ≡ tokensOf (0 + p .size) l = tokens-written n l (0 + p .size) place in (
       decimal-read n n′ (parts .0),
-      p .gave ∙ ap (map element) same
-          ∙ tokens-back l n′ c′ (length (written n l)) unread (0 + p .size) (ap (badTokens n′ c′ (length (written n l)) unread) (sym same) ∙ p .good),
+      p .gave ∙ ap rulesOf same
+          ∙ ap (stored unread) (tokens-back l n′ c′ (length (written n l)) unread (0 + p .size) (ap (badTokens n′ c′ (length (written n l)) unread) (sym same) ∙ p .good)),
     )
 
--- a file in the writer's form, read and written, is that file
-pub written-read : (n : ℕ) (l : List ℤ) (file : List ℕ) → file ≡ written n l → (n′ c′ : ℕ) (l′ : List ℤ) → reading file ≡ gives n′ c′ l′
+-- a file in the writer's form, which has no repeats, read and written, is that file
+pub written-read : (n : ℕ) (l : List ℤ) (file : List ℕ) → file ≡ written n l → stored unread l ≡ l → (n′ c′ : ℕ) (l′ : List ℤ) → reading file ≡ gives n′ c′ l′
     → written n′ l′ ≡ file
-written-read n l file f n′ c′ l′ g =
+written-read n l file f once n′ c′ l′ g =
     let same = written-back n l n′ c′ l′ (ap reading (sym f) ∙ g) in
-    rw (same .0, same .1) (sym f)
+    rw (same .0, same .1 ∙ once) (sym f)

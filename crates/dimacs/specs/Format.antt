@@ -86,31 +86,49 @@ signed (b ∷ w) = cond (eqb (classOf b) minus) (negative (number w)) (positive 
 abbrev pub element : Token → ℤ
 element t = Option·getD (signed (t .bytes)) (pos 0)
 
--- the cause to refuse a token at a place, after what s says was read: "at one token 3, 6, 7, 4, 5"
+-- "An equal entry is stored once, at its first place." (document 02, L3): whether a number, after what s says was read, repeats a literal of the open clause, and whether it is a further literal of it
+abbrev pub repeats : Scan → ℤ → Bool
+repeats s x = not (closes x) && not (mayJoin (s .clause) x)
+
+abbrev pub adds : Scan → ℤ → Bool
+adds s x = not (closes x) && mayJoin (s .clause) x
+
+-- what was read then: a repeat counts for nothing ("Entry counts are taken after dropping repeats.")
+abbrev pub past : Scan → ℤ → Scan
+past s x = cond (repeats s x) s (after s x)
+
+-- the cause to refuse a token at a place, after what s says was read: "at one token 3, 6, 7, 4" (document 02, L3, leaves out 5)
 abbrev pub badToken : ℕ → ℕ → Scan → ℕ → Option ℤ → Option Refusal
 badToken n c s place none = some (refusal 3 place)
 badToken n c s place (some x) =
     first
     (cause (leb c (s .clauses)) 6 place
-    ∷ cause (not (closes x) && leb maxLiterals (s .literals)) 7 place
+    ∷ cause (adds s x && leb maxLiterals (s .literals)) 7 place
     ∷ cause (ltb n (variable x)) 4 place
-    ∷ cause (not (closes x) && not (mayJoin (s .clause) x)) 5 place
     ∷ [])
 
 -- the first cause from a token on, in a file of n variables, c clauses and so many bytes
 abbrev pub badTokens : ℕ → ℕ → ℕ → Scan → List Token → Option Refusal
 badTokens n c size s [] = cause (ltb (s .clauses) c || unclosed (s .clause)) 6 size
 badTokens n c size s (t ∷ ts) =
-    first (badToken n c s (t .place) (signed (t .bytes)) ∷ badTokens n c size (after s (element t)) ts ∷ [])
+    first (badToken n c s (t .place) (signed (t .bytes)) ∷ badTokens n c size (past s (element t)) ts ∷ [])
 
 -- what reading a file gives: a refusal, or N, C and the rule list
 pub data Reading : Type 0 where
   refuses : Refusal → Reading
   gives : ℕ → ℕ → List ℤ → Reading
 
--- the reading of good tokens is the list of their numbers
+-- the numbers of a file that are stored, after what s says was read: all but the repeats
+abbrev pub stored : Scan → List ℤ → List ℤ
+stored s [] = []
+stored s (x ∷ l) = cond (repeats s x) (stored s l) (x ∷ stored (after s x) l)
+
+abbrev pub rulesOf : List Token → List ℤ
+rulesOf ts = stored unread (map element ts)
+
+-- the reading of good tokens
 abbrev pub readTokens : ℕ → ℕ → List Token → Option Refusal → Reading
-readTokens n c ts none = gives n c (map element ts)
+readTokens n c ts none = gives n c (rulesOf ts)
 readTokens n c ts (some r) = refuses r
 
 -- the reading of a file whose first line that is no comment stands at a place

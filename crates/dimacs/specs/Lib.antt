@@ -4,6 +4,7 @@ pub mod Format
 pub mod Laws
 pub mod RoundTrip
 pub mod Sizes
+pub mod Stored
 pub mod TokenLaws
 pub mod Tokens
 pub mod Written

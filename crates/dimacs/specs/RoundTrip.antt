@@ -20,7 +20,7 @@ use Rattle.decimal.specs.Decimal.{decimal, number, onlyDigits, isDigit}
 use Rattle.decimal.specs.Laws.{decimal-digits, decimal-some, number-decimal}
 use Rattle.text.specs.Text.{numeral}
 use Rattle.dimacs.specs.Class.{letterC, classOf}
-use Rattle.dimacs.specs.Format.{without, header, numbered, outside, preamble, positive, signed, element, badToken, badTokens, gives, reading, readFrom}
+use Rattle.dimacs.specs.Format.{without, header, numbered, outside, preamble, positive, signed, element, repeats, badToken, badTokens, stored, gives, reading, readFrom}
 use Rattle.dimacs.specs.Laws.{digit-class, digit-in-token, all-digits, before-stop, beyond-stop, digits-without}
 use Rattle.dimacs.specs.TokenLaws.{mayBegin, letter-opens, token-begins, kept-outside, tokens-token, blank-outside}
 use Rattle.dimacs.specs.Tokens.{inToken, Token, Position, within, step, begins, tokens, positionAt, tokensFrom}
@@ -102,6 +102,16 @@ good-token n c s at x h e = go (closes x) refl
           rest .1,
         )
 
+-- nor is it a repeat
+stands-new : (n : ℕ) (s : Scan) (x : ℤ) → stands n s x ≡ true → repeats s x ≡ false
+stands-new n s x e = go (closes x) refl
+  where
+    go : (b : Bool) → closes x ≡ b → repeats s x ≡ false
+    go true f = rw f
+    go false f =
+        let parts = and-eq-true-iff (leb (variable x) n) (ltb (s .literals) maxLiterals && mayJoin (s .clause) x) .0 (rw (f) at e) in
+        rw (f, and-eq-true-iff (ltb (s .literals) maxLiterals) (mayJoin (s .clause) x) .0 (parts .1) .1)
+
 -- a variable that stands is one of the n
 stands-inside : (n : ℕ) (s : Scan) (x : ℤ) → stands n s x ≡ true → variable x ≤ n
 stands-inside n s x e = go (closes x) refl
@@ -110,15 +120,16 @@ stands-inside n s x e = go (closes x) refl
     go true f = omega (arith, eqb-true (variable x) 0 f)
     go false f = leb-true (variable x) n (and-eq-true-iff (leb (variable x) n) (ltb (s .literals) maxLiterals && mayJoin (s .clause) x) .0 (rw (f) at e) .0)
 
--- the tokens of a sound list are good, and their elements are the list
+-- the tokens of a sound list are good, their elements are the list, and all of it is stored
 record Good (n c size : ℕ) (s : Scan) (at : ℕ) (l : List ℤ) : Type 0 where
   passed : badTokens n c size s (tokensOf at l) ≡ none
   same : map element (tokensOf at l) ≡ l
+  kept : stored s l ≡ l
 
 good-tokens : (l : List ℤ) (n c size : ℕ) (s : Scan) (i at : ℕ) → n < 100000 → badRule n s i l ≡ none → c ≡ s .clauses + zeros l
     → Good n c size s at l
 good-tokens [] n c size s i at h e f =
-    record { passed = rw (le-ltb (s .clauses) c (omega arith), closed (unclosed (s .clause)) e); same = refl }
+    record { passed = rw (le-ltb (s .clauses) c (omega arith), closed (unclosed (s .clause)) e); same = refl; kept = refl }
   where
     closed : (t : Bool) → cond t (some i) none ≡ none → t ≡ false
     closed true g = absurd (Option·some-ne-none i g)
@@ -139,11 +150,15 @@ good-tokens (x ∷ l) n c size s i at h e f =
     read : signed (numeral x) ≡ some x
     read = signed-numeral x (omega (arith, stands-inside n s x (sound .0)))
 
+    new : repeats s x ≡ false
+    new = stands-new n s x (sound .0)
+
     go : Good n c size (after s x) (suc (at + length (numeral x))) l → Good n c size s at (x ∷ l)
     go g =
         record {
-          passed = rw (read, good-token n c s at x (omega (arith, zeros-some n s i x l e)) (sound .0), g .passed);
+          passed = rw (read, good-token n c s at x (omega (arith, zeros-some n s i x l e)) (sound .0), new, g .passed);
           same = rw (read) (ap (λ (r : List ℤ). x ∷ r) (g .same));
+          kept = rw (new) (ap (λ (r : List ℤ). x ∷ r) (g .kept));
         }
 
 -- a header reads as the numbers of its two fields
@@ -193,7 +208,7 @@ pub read-written : (n : ℕ) (l : List ℤ) → 1 ≤ n → n ≤ maxVariables �
 unfolding classOf
 read-written n l h k e =
     ap (readFrom (written n l) 0) (header-written n c (body l) (omega arith) (omega (arith, small)))
-    ∙ rw (inside n c h k small, tokens-written n l (0 + length (headerText n c)) (zero-add (length (headerText n c))), good .passed) (ap (gives n c) (good .same))
+    ∙ rw (inside n c h k small, tokens-written n l (0 + length (headerText n c)) (zero-add (length (headerText n c))), good .passed) (ap (gives n c) (ap (stored unread) (good .same) ∙ good .kept))
   where
     c : ℕ
     c = length (clauses l)

@@ -5,7 +5,7 @@ use mathlib.Core.List.{List, [], _∷_}
 use Prim.Native.Nat.{ℕ, suc, _+_}
 use lib.IntN.{ℤ}
 use lib.ListN.{length}
-use Rattle.literal.specs.Literal.{holds}
+use Rattle.literal.specs.Literal.{isLiteral, holds}
 pub use Rattle.literal.specs.Literal.{closes}
 
 -- some element passes the test; every element does
@@ -16,6 +16,10 @@ any p (x ∷ l) = p x || any p l
 abbrev pub all {ℓ} : {A : Type ℓ} → (A → Bool) → List A → Bool
 all p [] = true
 all p (x ∷ l) = p x && all p l
+
+-- the literal of variable v that wants the value b stands in a clause
+abbrev pub contains : ℕ → ℕ → List ℤ → Bool
+contains v b c = any (isLiteral v b) c
 
 -- a literal in front of the first clause
 abbrev pub onto : ℤ → List (List ℤ) → List (List ℤ)

@@ -1,15 +1,16 @@
 -- The equations by which proofs go through a closed list, clause by clause.
 use mathlib.Core.Path.{_≡_, refl, sym, ap, ap₂, _∙_}
-use mathlib.Core.Bool.{Bool, true, false, cond, _&&_}
+use mathlib.Core.Bool.{Bool, true, false, cond, _&&_, _||_}
 use mathlib.Core.List.{List, [], _∷_}
-use Prim.Native.Nat.{ℕ, suc, _+_, _-_, _≤_, _<_, zero-le, suc-le-suc}
+use Prim.Native.Nat.{ℕ, suc, _+_, _-_, _*_, _≤_, _<_, zero-le, suc-le-suc}
 use native.Mathlib.Nat.{not-suc-le-zero, zero-lt-suc}
 use native.Mathlib.Omega.{arith}
 use native.Mathlib.Numerals.{add-one}
 use lib.IntN.{ℤ, pos}
 use lib.ListN.{length, getD, take, drop, length-drop, drop-of-length-le}
 use lib.Seq.{drop-cons, drop-drop, length-take-le}
-use Rattle.formula.specs.Formula.{any, closes, onto, clauses, clauseLength, satisfied, models}
+use Rattle.literal.specs.Slots.{isAt, slot-literal}
+use Rattle.formula.specs.Formula.{any, contains, closes, onto, clauses, clauseLength, satisfied, models}
 
 -- a list that is not empty is its first clause, what closes it, and the rest
 split : (b : Bool) (x : ℤ) (l : List ℤ) → ((h : 0 < length l) → clauses l ≡ take (clauseLength l) l ∷ clauses (drop (suc (clauseLength l)) l))
@@ -76,3 +77,8 @@ models-step a l i e r h q s =
 
 pub models-past : (a : List ℕ) (l : List ℤ) (i : ℕ) → length l ≤ i → models a (clauses (drop i l)) ≡ true
 models-past a l i h = rw (drop-of-length-le l h)
+
+-- a clause holds the literal of a slot
+pub slot-clause : (v b : ℕ) → b < 2 → (c : List ℤ) → any (isAt (2 * v + b)) c ≡ contains v b c
+slot-clause v b h [] = refl
+slot-clause v b h (x ∷ c) = ap₂ _||_ (slot-literal v b h x) (slot-clause v b h c)

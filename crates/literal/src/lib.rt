@@ -4,6 +4,7 @@ ghost use mathlib.Core.Path.{_≡_};
 ghost use Prim.Native.Nat.{_≤_};
 ghost use lib.IntN.{negℤ};
 ghost use Rattle.literal.specs.Literal.{variable, closes, wanted, literal, value, holds};
+ghost use Rattle.literal.specs.Slots.{slot};
 
 // A variable's number, from 1 (document 01: a setting).
 pub struct Variable(pub usize);
@@ -36,6 +37,13 @@ pub fn wanted_by(x: i32) -> u8
     ensures { λ r. ⌜ r ≡ wanted x ⌝ }
 {
     if x < 0 { 0 } else { 1 }
+}
+
+// A literal's place in a table of all literals: two for each variable, off before on.
+pub fn slot_of(x: i32) -> usize
+    ensures { λ r. ⌜ r ≡ slot x ⌝ }
+{
+    2 * variable_of(x).0 + wanted_by(x) as usize
 }
 
 // The literal by which a variable is asked to be on, or off. The bound is the greatest i32.

@@ -9,9 +9,9 @@ use lib.Dec.{ltb}
 use lib.IntN.{ℤ}
 use borrow.Author.Tests.{eqb-true, lt-ltb, le-ltb}
 use Rattle.literal.specs.Literal.{variable, wanted, value}
+use Rattle.literal.specs.Slots.{wanted-bit}
 use Rattle.formula.specs.Formula.{any}
 use Rattle.distance.specs.Distance.{disagreement}
-use Rattle.walk.specs.Extension.{wanted-bit}
 use Rattle.walk.specs.Propagation.{unitLiteral, propagate}
 use Rattle.walk.specs.PropagationLaws.{unit-unassigned, unit-within, propagate-done, propagate-round}
 use Rattle.walk.specs.State.{isFalsified, fits}

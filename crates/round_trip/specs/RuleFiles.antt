@@ -12,8 +12,9 @@ use Rattle.refusal.specs.Reply.{answering, unless, tooShort, filled}
 use Rattle.refusal.specs.Laws.{room-enough}
 use Rattle.causes.specs.Lent.{plainProblem, refusalOf}
 use Rattle.causes.specs.Admitted.{plain-admitted, admitted-room}
+use Rattle.rule_list.specs.Sound.{unread}
 use Rattle.dimacs.specs.Accepted.{accepted, written-read}
-use Rattle.dimacs.specs.Format.{Reading, refuses, gives, reading}
+use Rattle.dimacs.specs.Format.{stored, Reading, refuses, gives, reading}
 use Rattle.dimacs.specs.Written.{written}
 use Rattle.rule_writer.specs.Write.{lentToWrite, writeReply, writeOutput}
 use Rattle.rule_reader.specs.Read.{readReply, readOutput}
@@ -47,8 +48,8 @@ module _ (file out : List ℕ) where
       ap (λ (s : List ℕ). s ++ drop (length s) out) form,
     )
 
--- a file in the writer's form, whatever it was written from, that the reader takes
-module _ (n₀ : ℕ) (l₀ : List ℤ) (file : List ℕ) (form : file ≡ written n₀ l₀) (list : List ℤ) (v n c size : ℕ) (taken : readReply file (length list) ≡ answering v n c size) where
+-- a file in the writer's form, whatever it was written from, if no rule repeats an entry, that the reader takes
+module _ (n₀ : ℕ) (l₀ : List ℤ) (file : List ℕ) (form : file ≡ written n₀ l₀) (once : stored unread l₀ ≡ l₀) (list : List ℤ) (v n c size : ℕ) (taken : readReply file (length list) ≡ answering v n c size) where
   -- the part of the lent list that the reader filled
   abbrev pub part : List ℤ
   part = take size (readOutput file list)
@@ -61,9 +62,9 @@ module _ (n₀ : ℕ) (l₀ : List ℤ) (file : List ℕ) (form : file ≡ writt
       go (refuses r) e = let z : _≡_ {A = ℕ} 0 1 = cc (rw (e) at taken) in absurd (omega arith)
       go (gives m k l) e =
           let same = filled-front (tooShort (length l) (length list)) l list v n c size m k (rw (e) at taken) in
-          rw (e, same .0, same .1) (writes file out room m k l e (written-read n₀ l₀ file form m k l e))
+          rw (e, same .0, same .1) (writes file out room m k l e (written-read n₀ l₀ file form once m k l e))
 
--- The rules of any file that reading accepts come back, though not always its bytes (document 02, L1): "files with remarks no longer come back byte for byte; their rules do". What the writer makes of them reads as the file does.
+-- The rules of any file that reading accepts come back, though not always its bytes (document 02, L1): "files with remarks no longer come back byte for byte; their rules do". So do those of a file with repeats (L3). What the writer makes of them reads as the file does.
 pub rules-return : (file out : List ℕ) (n c : ℕ) (l : List ℤ) → reading file ≡ gives n c l → length (written n l) ≤ length out
     → reading (take (length (written n l)) (writeOutput n l out)) ≡ reading file
 rules-return file out n c l read room =

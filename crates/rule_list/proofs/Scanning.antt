@@ -1,20 +1,22 @@
 -- The invariant of the scan of a rule list, and its laws: one for each way a turn can go.
-use mathlib.Core.Path.{_≡_, refl, sym, ap, ap₂, _∙_, subst}
+use mathlib.Core.Path.{_≡_, refl, sym, ap, ap₂, _∙_}
 use mathlib.Core.Bool.{Bool, true, false, cond}
 use mathlib.Core.List.{List, [], _∷_}
 use mathlib.Core.Option.{Option, none, some}
 use Prim.Native.Nat.{ℕ, zero, _+_, _≤_, _<_, zero-le}
 use native.Mathlib.Nat.{zero-add}
 use native.Mathlib.Omega.{arith}
+use lib.Dec.{eqb}
 use lib.IntN.{ℤ, pos}
 use lib.ListN.{length, getD, drop, set}
 use Rattle.literal.specs.Literal.{variable}
+use Rattle.literal.specs.Slots.{slot, wanted-bit}
 use Rattle.formula.specs.Formula.{clauses, literals}
 use Rattle.rule_list.specs.declared.scan.RuleScan.the-variants.{Unsound, Sound}
 use Rattle.rule_list.specs.Laws.{scan, rule-closed, rule-clauses, rule-literal, rule-outside, rule-literals, rule-twice, rule-end, zeros, nonzeros, zeros-zero, zeros-literal, zeros-end, zeros-clauses, nonzeros-literals}
 use Rattle.rule_list.specs.Scans.{ruleScan}
 use Rattle.rule_list.specs.Sound.{unread, unclosed, badRule, SoundList}
-use Rattle.rule_list.specs.Stamps.{Stamped, stamped-none, stamped-closed, stamped-joined, stamp-free, stamp-taken}
+use Rattle.rule_list.specs.Stamps.{slots, Stamped, stamped-none, stamped-closed, stamped-joined, stamp-free, stamp-taken}
 
 -- After the elements before i: k clauses, m literals, and the literals of the open clause
 pub record Scanning (n : ℕ) (list : List ℤ) (stamps : List ℕ) (k m : ℕ) (is-open : Bool) (i : ℕ) : Type 0 where
@@ -28,7 +30,7 @@ pub record Scanning (n : ℕ) (list : List ℤ) (stamps : List ℕ) (k m : ℕ) 
   pub closings : k + zeros (drop i list) ≡ zeros list
   pub entries : m + nonzeros (drop i list) ≡ nonzeros list
 
-pub start : (n : ℕ) (list : List ℤ) (stamps : List ℕ) → length stamps ≡ 641 → ((v : ℕ) → getD stamps v 0 ≡ 0) → Scanning n list stamps 0 0 false 0
+pub start : (n : ℕ) (list : List ℤ) (stamps : List ℕ) → length stamps ≡ slots → ((j : ℕ) → getD stamps j 0 ≡ 0) → Scanning n list stamps 0 0 false 0
 start n list stamps l z =
     record {
       clause = [];
@@ -86,26 +88,27 @@ module _ (n : ℕ) (list : List ℤ) (stamps : List ℕ) (k m : ℕ) (is-open : 
         below : m < 31000
         below = omega (arith, s .many)
 
-        pub twice : getD stamps v 0 ≡ k + 1 → unsound
+        -- its stamp
+        abbrev stamp : ℕ
+        stamp = getD stamps (slot (getD list i (pos 0))) 0
+
+        pub twice : eqb stamp (k + 1) ≡ true → unsound
         twice t =
             found
             (rule-twice n k m (s .clause) list i h literal (omega arith) below
-            (stamp-taken stamps (k + 1) (s .clause) (getD list i (pos 0)) (s .stamped) (ap (λ (u : ℕ). getD stamps u 0) (sym e) ∙ t)))
+            (stamp-taken stamps (k + 1) (s .clause) (getD list i (pos 0)) (s .stamped) t))
 
-        pub joined : n ≤ 640 → (getD stamps v 0 ≡ k + 1 → ⊥) → Scanning n list (set stamps v (k + 1)) k (m + 1) true (i + 1)
+        pub joined : n ≤ 640 → eqb stamp (k + 1) ≡ false → Scanning n list (set stamps (slot (getD list i (pos 0))) (k + 1)) k (m + 1) true (i + 1)
         joined small t =
             let x : ℤ = getD list i (pos 0) in
-            let free = stamp-free stamps (k + 1) (s .clause) x (s .stamped) (λ u. t (ap (λ (w : ℕ). getD stamps w 0) e ∙ u)) in
             record {
               clause = x ∷ s .clause;
               inside = omega arith;
               few = s .few;
               many = omega (arith, below);
-              so-far = s .so-far ∙ rule-literal n k m (s .clause) list i h literal (omega arith) below free;
+              so-far = s .so-far ∙ rule-literal n k m (s .clause) list i h literal (omega arith) below (stamp-free stamps (k + 1) (s .clause) x (s .stamped) t);
               opened = refl;
-              stamped =
-                  subst (λ (w : ℕ). Stamped (set stamps w (k + 1)) (k + 1) (x ∷ s .clause)) (sym e)
-                  (stamped-joined stamps (k + 1) (s .clause) x (s .stamped) (omega arith));
+              stamped = stamped-joined stamps (k + 1) (s .clause) x (s .stamped) (omega (arith, wanted-bit x));
               closings = omega (arith, s .closings, zeros-literal list i h literal .0);
               entries = omega (arith, s .entries, zeros-literal list i h literal .1);
             }

@@ -1,18 +1,18 @@
--- Sound rule lists (document 01, "Refusals", 13): "not closed, outside -n..n, setting repeated, over the file's limits (31,001st entry, 9,001st closing zero)"; the place is the "first bad index; length if not closed".
+-- Sound rule lists (document 01, "Refusals", 13): "not closed, outside -n..n, setting repeated, over the file's limits (31,001st entry, 9,001st closing zero)"; the place is the "first bad index; length if not closed". Instead of a repeated setting, document 02, L3, has a repeated entry: "Lent lists may hold opposite entries but not equal ones.".
 use mathlib.Core.Path.{_≡_}
 use mathlib.Core.Bool.{Bool, true, false, cond, not, _&&_}
 use mathlib.Core.List.{List, [], _∷_}
 use mathlib.Core.Option.{Option, none, some}
 use Prim.Native.Nat.{ℕ, suc}
-use lib.Dec.{eqb, ltb, leb}
+use lib.Dec.{ltb, leb}
 use lib.IntN.{ℤ}
-use Rattle.literal.specs.Literal.{variable}
-use Rattle.formula.specs.Formula.{any, closes}
+use Rattle.literal.specs.Literal.{variable, wanted}
+use Rattle.formula.specs.Formula.{contains, closes}
 use Rattle.limits.specs.Limits.{maxClauses, maxLiterals}
 
--- "No setting occurs twice in a rule": whether a literal may join the literals of a clause
+-- whether a literal may join the literals of a clause: none of them is equal to it, opposite ones do not matter
 abbrev pub mayJoin : List ℤ → ℤ → Bool
-mayJoin c x = not (any (λ (y : ℤ). eqb (variable x) (variable y)) c)
+mayJoin c x = not (contains (variable x) (wanted x) c)
 
 -- a rule list as far as it was read: the clauses closed, the literals, and those of the clause that is still open, the last one first
 pub record Scan : Type 0 where

@@ -4,6 +4,6 @@ mod stamps;
 
 pub use scan::RuleScan;
 pub use scan::scan_rules;
-pub use stamps::is_stamped;
+pub use stamps::is_repeat;
 pub use stamps::no_stamps;
 pub use stamps::stamp;

@@ -29,9 +29,8 @@ pub fn scan_rules(n: usize, rules: &[i32]) -> RuleScan
     let mut i = 0;
     while i < rules.len() {
         let next = i + 1;
-        // 0 closes a clause and is no variable, so the number is looked at before `v` is one.
-        let v = literal::variable_of(rules[i]);
-        let number = v.0;
+        let x = rules[i];
+        let number = literal::variable_of(x).0;
         if number == 0 {
             if clauses == MAX_CLAUSES {
                 return RuleScan::Unsound(i);
@@ -46,10 +45,10 @@ pub fn scan_rules(n: usize, rules: &[i32]) -> RuleScan
                 return RuleScan::Unsound(i);
             }
             let clause = Clause(clauses + 1);
-            if is_stamped(&stamps, v, clause) {
+            if is_stamped(&stamps, x, clause) {
                 return RuleScan::Unsound(i);
             }
-            stamp(&mut stamps, v, clause);
+            stamp(&mut stamps, x, clause);
             literals += 1;
             is_open = true;
         }

@@ -1,21 +1,21 @@
 -- What the reading of a file comes to, for each way it can go.
 use mathlib.Core.Path.{_≡_, refl, sym, ap, _∙_}
 use mathlib.Core.Bool.{Bool, true, false, cond, _||_, true≢false}
-use mathlib.Core.List.{List, _++_, map}
+use mathlib.Core.List.{List, _++_}
 use mathlib.Core.Option.{Option, none, some}
 use Prim.Native.Nat.{ℕ, _+_, _≤_}
 use native.Mathlib.Nat.{zero-add}
 use native.Mathlib.Omega.{arith}
 use lib.Dec.{eqb, ltb}
 use lib.IntN.{ℤ}
-use lib.ListN.{length, drop, length-map}
+use lib.ListN.{length, drop}
 use lib.Seq.{sets, sets-eq}
 use borrow.Author.Tests.{le-ltb, ltb-false}
 use Rattle.refusal.specs.declared.Refusal.{Refusal}
 use Rattle.refusal.specs.Reply.{Reply, refusal, refusing, answering, tooShort}
 use Rattle.limits.specs.Limits.{maxVariables, maxClauses}
 use Rattle.rule_list.specs.Sound.{unread}
-use Rattle.dimacs.specs.Format.{pastComments, Header, header, outside, element, badTokens, Reading, refuses, gives, readTokens, readFrom, reading}
+use Rattle.dimacs.specs.Format.{pastComments, Header, header, outside, badTokens, rulesOf, Reading, refuses, gives, readTokens, readFrom, reading}
 use Rattle.dimacs.specs.Tokens.{Token, tokensFrom}
 use Rattle.rule_header.specs.declared.ReadHeader as H
 use Rattle.rule_header.specs.Header.{headerAs}
@@ -47,13 +47,13 @@ module _ (n c : ℕ) (file : List ℕ) (from : ℕ) (out : List ℤ) where
   pub tokens-refused : (r : Refusal) → fault ≡ some r → Answers (refusing r) out (tokensRead n c file from) out
   tokens-refused r e = refused (tokensRead n c file from) r out (ap (readTokens n c ts) e)
 
-  -- all are good, and there are k
-  module _ (good : fault ≡ none) (k : ℕ) (size : k ≡ length ts) where
+  -- all are good, and k numbers are stored
+  module _ (good : fault ≡ none) (k : ℕ) (size : k ≡ length (rulesOf ts)) where
     abbrev list : List ℤ
-    list = map element ts
+    list = rulesOf ts
 
     long : length list ≡ k
-    long = length-map ts element ∙ sym size
+    long = sym size
 
     given : tokensRead n c file from ≡ gives n c list
     given = ap (readTokens n c ts) good

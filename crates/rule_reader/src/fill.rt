@@ -1,20 +1,22 @@
 // The second pass over a rule file: its numbers, put into a list that has room for them.
+use literal::Clause;
 use rule_tokens::NextToken;
-ghost use mathlib.Core.Bool.{true};
-ghost use mathlib.Core.List.{map};
 ghost use mathlib.Core.Path.{_≡_};
 ghost use Prim.Native.Nat.{_≤_};
 ghost use lib.ListN.{length};
 ghost use lib.Seq.{sets};
-ghost use Rattle.dimacs.specs.Format.{element};
+ghost use Rattle.dimacs.specs.Format.{rulesOf};
 ghost use Rattle.dimacs.specs.Tokens.{tokensFrom};
-ghost use Rattle.rule_reader.specs.Passes.{readable};
+ghost use Rattle.rule_reader.specs.Passes.{FoundGood};
 
-// Fills a list with the numbers of the tokens from a place on, which are all well formed.
+// Fills a list with the numbers of the tokens from a place on, which were found good. A repeat is left
+// out.
 pub fn fill_rules(file: &[u8], from: usize, rules: &mut [i32])
-    requires { ⌜ (readable (tokensFrom (now file) from) ≡ true) × (length (tokensFrom (now file) from) ≤ length (now rules)) ⌝ }
-    ensures { λ _. ⌜ now (rules .exit) ≡ sets (now (rules .entry)) 0 (map element (tokensFrom (now (file .entry)) from)) ⌝ }
+    requires { ⌜ FoundGood (tokensFrom (now file) from) × (length (rulesOf (tokensFrom (now file) from)) ≤ length (now rules)) ⌝ }
+    ensures { λ _. ⌜ now (rules .exit) ≡ sets (now (rules .entry)) 0 (rulesOf (tokensFrom (now (file .entry)) from)) ⌝ }
 {
+    let mut stamps = rule_list::no_stamps();
+    let mut clauses: usize = 0;
     let mut at = from;
     let mut i = 0;
     loop {
@@ -30,8 +32,16 @@ pub fn fill_rules(file: &[u8], from: usize, rules: &mut [i32])
                 value,
                 next,
             } => {
-                rules[i] = value;
-                i += 1;
+                let clause = Clause(clauses + 1);
+                if !rule_list::is_repeat(&stamps, value, clause) {
+                    rules[i] = value;
+                    i += 1;
+                    if literal::closes(value) {
+                        clauses += 1;
+                    } else {
+                        rule_list::stamp(&mut stamps, value, clause);
+                    }
+                }
                 at = next;
             }
         }

@@ -2,4 +2,5 @@ pub mod Answers
 pub mod Exact
 pub mod Fits
 pub mod Meaning
+pub mod Opposites
 pub mod Searches

@@ -22,6 +22,6 @@ abbrev pub joining : ℕ → List ℤ → List ℤ → Bool
 joining n read [] = true
 joining n read (x ∷ c) = (not (closes x) && (leb (variable x) n && mayJoin read x)) && joining n (x ∷ read) c
 
--- every literal's variable is one of 1 to n, and no variable occurs twice in a clause
+-- every literal's variable is one of 1 to n, and no literal occurs twice in a clause
 abbrev pub wellFormed : ℕ → List (List ℤ) → Bool
 wellFormed n f = all (joining n []) f

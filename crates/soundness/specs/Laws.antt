@@ -89,7 +89,7 @@ joins n read x c h = rw (h .literal, le-leb (variable x) n (h .range), h .apart,
 
 -- a literal joins where its variable is new
 pub mayJoin-new : (u : ℤ) (read : List ℤ) (x : ℤ) → (variable x ≡ variable u → ⊥) → mayJoin read x ≡ true → mayJoin (u ∷ read) x ≡ true
-mayJoin-new u read x h e = rw (ne-eqb (variable x) (variable u) h) e
+mayJoin-new u read x h e = rw (ne-eqb (variable u) (variable x) (λ (q : variable u ≡ variable x). h (sym q))) e
 
 -- a clause over n variables is one over more, and holds no 0
 pub joining-more : (n m : ℕ) (read c : List ℤ) → n ≤ m → joining n read c ≡ true → joining m read c ≡ true

@@ -1,4 +1,4 @@
--- The cases that document 01 marks with a star ("Examples"), in one list that one theorem covers.
+-- The cases that document 01 marks with a star ("Examples"), as document 02 has changed them since, in one list that one theorem covers.
 use mathlib.Core.Path.{_≡_, refl}
 use mathlib.Core.List.{List, [], _∷_, _++_, map}
 use Prim.Native.Nat.{ℕ}
@@ -11,7 +11,7 @@ use Rattle.wish_file.specs.Examples as example
 use Rattle.rule_reader.specs.Read as rule
 use Rattle.wish_reader.specs.Read as wish
 
--- what the definitions give, and what document 01 states
+-- what the definitions give, and what the documents state
 pub record Case : Type 0 where
   pub given : Reply
   pub stated : Reply
@@ -23,9 +23,9 @@ nearestOf n rules row = nearestReply n rules row n
 abbrev searchOf : ℕ → List ℤ → List ℕ → ℕ → Reply
 searchOf n rules row d = searchReply n rules row d n
 
--- the readers, where no room is lent: the starred files are refused for causes that come before that of the room
+-- the readers. A rule list of three numbers is lent; no row is, since the starred wish file is refused for a cause that comes before that of the room
 abbrev ruleFile : List ℕ → Reply
-ruleFile file = rule.readReply file 0
+ruleFile file = rule.readReply file 3
 
 abbrev wishFile : List ℕ → Reply
 wishFile file = wish.readReply file 0
@@ -53,11 +53,12 @@ starred =
     ∷ record { given = searchOf 1 [] (1 ∷ []) 0; stated = answering 1 0 0 0 }
     -- "empty file 1 at 0"
     ∷ record { given = ruleFile []; stated = refusing (refusal 1 0) }
-    -- "After `p cnf 1 1` and a line feed": "`-0 0` 3 at 10", "`2 0` 4 at 10", "`1 -1 0` 5 at 12", "`1` and the end 6 at 11"
+    -- "After `p cnf 1 1` and a line feed": "`-0 0` 3 at 10", "`2 0` 4 at 10", "`1` and the end 6 at 11"
     ∷ record { given = ruleFile (afterHeader (45 ∷ 48 ∷ 32 ∷ 48 ∷ [])); stated = refusing (refusal 3 10) }
     ∷ record { given = ruleFile (afterHeader (50 ∷ 32 ∷ 48 ∷ [])); stated = refusing (refusal 4 10) }
-    ∷ record { given = ruleFile (afterHeader (49 ∷ 32 ∷ 45 ∷ 49 ∷ 32 ∷ 48 ∷ [])); stated = refusing (refusal 5 12) }
     ∷ record { given = ruleFile (afterHeader (49 ∷ [])); stated = refusing (refusal 6 11) }
+    -- "`1 -1 0`", which document 01 refuses: "Case `1 -1 0` becomes accepted" (document 02, L3), with N = 1, C = 1 and a list of three numbers
+    ∷ record { given = ruleFile (afterHeader (49 ∷ 32 ∷ 45 ∷ 49 ∷ 32 ∷ 48 ∷ [])); stated = answering 1 1 1 3 }
     -- "A 15-byte wish file: 8 at 0"
     ∷ record { given = wishFile (take 15 example.bothOff); stated = refusing (refusal 8 0) }
     ∷ []

@@ -1,4 +1,4 @@
-// The first pass over a rule file: whether its tokens are good, and how many there are.
+// The first pass over a rule file: whether its tokens are good, and how many of their numbers are stored.
 use literal::Clause;
 use refusal::Refusal;
 use rule_tokens::NextToken;
@@ -10,7 +10,7 @@ ghost use lib.ListN.{length};
 ghost use Rattle.limits.specs.Limits.{maxVariables, maxClauses, maxLiterals};
 ghost use Rattle.refusal.specs.Reply.{cause};
 ghost use Rattle.rule_list.specs.Sound.{unread};
-ghost use Rattle.dimacs.specs.Format.{badTokens};
+ghost use Rattle.dimacs.specs.Format.{badTokens, rulesOf};
 ghost use Rattle.dimacs.specs.Tokens.{tokensFrom};
 ghost use Rattle.token_check.specs.Check.{checkAs};
 
@@ -23,7 +23,7 @@ pub enum Check {
 // Checks the tokens from a place on, in a file of n variables and so many clauses.
 pub fn check_tokens(file: &[u8], from: usize, n: usize, count: usize) -> Check
     requires { ⌜ (n ≤ maxVariables) × (count ≤ maxClauses) ⌝ }
-    ensures { λ r. ⌜ r ≡ checkAs (badTokens n count (length (now (file .entry))) unread (tokensFrom (now (file .entry)) from)) (length (tokensFrom (now (file .entry)) from)) ⌝ }
+    ensures { λ r. ⌜ r ≡ checkAs (badTokens n count (length (now (file .entry))) unread (tokensFrom (now (file .entry)) from)) (length (rulesOf (tokensFrom (now (file .entry)) from))) ⌝ }
 {
     let mut stamps = rule_list::no_stamps();
     let mut clauses: usize = 0;
@@ -39,22 +39,21 @@ pub fn check_tokens(file: &[u8], from: usize, n: usize, count: usize) -> Check
                 return Check::Refused(Refusal { number: 3, place });
             }
             NextToken::Element { place, value, next } => {
-                let number = token_faults::fault_of(n, count, clauses, literals, value);
+                let clause = Clause(clauses + 1);
+                let repeated = rule_list::is_repeat(&stamps, value, clause);
+                let number = token_faults::fault_of(n, count, clauses, literals, value, repeated);
                 if number != 0 {
                     return Check::Refused(Refusal { number, place });
                 }
-                if literal::closes(value) {
-                    clauses += 1;
-                    is_open = false;
-                } else {
-                    let v = literal::variable_of(value);
-                    let clause = Clause(clauses + 1);
-                    if rule_list::is_stamped(&stamps, v, clause) {
-                        return Check::Refused(Refusal { number: 5, place });
+                if !repeated {
+                    if literal::closes(value) {
+                        clauses += 1;
+                        is_open = false;
+                    } else {
+                        rule_list::stamp(&mut stamps, value, clause);
+                        literals += 1;
+                        is_open = true;
                     }
-                    rule_list::stamp(&mut stamps, v, clause);
-                    literals += 1;
-                    is_open = true;
                 }
                 at = next;
             }

@@ -12,12 +12,13 @@ use lib.ListN.{length, getD, set, length-set}
 use lib.Seq.{set-out, getD-set-same, getD-set-other}
 use borrow.Author.Tests.{eqb-true, eqb-false, ltb-true, ltb-false, ne-eqb}
 use Rattle.literal.specs.Literal.{variable, wanted, value, holds}
+use Rattle.literal.specs.Slots.{wanted-bit}
 use Rattle.wish.specs.Wish.{cost}
 use Rattle.wish.specs.Laws.{free-cost, cost-unassigned}
 use Rattle.distance.specs.Distance.{disagreement}
 use Rattle.choices.specs.Choices.{Choice, choice-value}
 use Rattle.walk.specs.State.{State, isUnset, unassigned, assign, satisfy, isUnassigned}
-use Rattle.walk.specs.Extension.{Extends, wanted-bit}
+use Rattle.walk.specs.Extension.{Extends}
 
 -- as a store into the list of bytes
 pub assign-set : (a : List ℕ) (v b : ℕ) → 0 < v → assign a v b ≡ set a (v - 1) b

@@ -6,8 +6,8 @@ use Prim.Native.Nat.{ℕ, zero, suc, _+_, _-_, _*_, _^_, min}
 use lib.Dec.{eqb, ltb}
 use lib.IntN.{ℤ}
 use lib.ListN.{length}
-use Rattle.literal.specs.Literal.{variable, wanted, value}
-use Rattle.formula.specs.Formula.{any, all}
+use Rattle.literal.specs.Literal.{variable, value}
+use Rattle.formula.specs.Formula.{any, all, contains}
 use Rattle.wish.specs.Wish.{isAgainst}
 use Rattle.walk.specs.State.{isUnset, isUnassigned, unassignedIn, isOpen}
 
@@ -57,13 +57,6 @@ isCandidate row a f v = isUnset (value a v) && any (offers row a (fewest row a f
 -- "An open rule with k unsettled entries weighs 4 to the power 10 - min(k, 10)."
 abbrev pub clauseWeight : List ℕ → List ℤ → ℕ
 clauseWeight a c = cond (isOpen a c) (4 ^ (10 - min (unassignedIn a c) 10)) 0
-
--- the literal of variable v that wants the value b (v itself at b = 1, -v at b = 0) stands in a clause
-abbrev pub isLiteral : ℕ → ℕ → ℤ → Bool
-isLiteral v b x = eqb (variable x) v && eqb (wanted x) b
-
-abbrev pub contains : ℕ → ℕ → List ℤ → Bool
-contains v b c = any (isLiteral v b) c
 
 -- "P and Q the weights of open rules holding v and -v": P is that of the value 1, Q that of 0
 abbrev pub weightOf : List ℕ → ℕ → ℕ → List (List ℤ) → ℕ

@@ -9,6 +9,7 @@ use lib.IntN.{ℤ, pos, negsuc}
 use lib.ListN.{getD}
 use borrow.Author.Tests.{not-true, eqb-true, eqb-false, ne-eqb}
 use Rattle.literal.specs.Literal.{variable, wanted, value, holds}
+use Rattle.literal.specs.Slots.{wanted-bit}
 use Rattle.formula.specs.Formula.{satisfied}
 use Rattle.wish.specs.Wish.{cost}
 use Rattle.wish.specs.Laws.{cost-unassigned}
@@ -31,11 +32,6 @@ extends-trans {c} {b} {a} h k = record { keeps = λ i q. h .keeps i (λ e. q (sy
 pub keeps-value : {b a : List ℕ} → Extends b a → (v : ℕ) → (value a v ≡ 2 → ⊥) → value b v ≡ value a v
 keeps-value h zero q = refl
 keeps-value h (suc i) q = h .keeps i q
-
--- a literal wants off or on
-pub wanted-bit : (x : ℤ) → wanted x < 2
-wanted-bit (pos k) = lit< tt
-wanted-bit (negsuc k) = lit< tt
 
 -- an assigned literal keeps its verdict
 pub holds-same : {b a : List ℕ} → Extends b a → (x : ℤ) → isUnassigned a x ≡ false → holds b x ≡ holds a x

@@ -9,11 +9,12 @@ use lib.Dec.{eqb}
 use lib.IntN.{ℤ}
 use borrow.Author.Tests.{eqb-true, not-true}
 use Rattle.literal.specs.Literal.{variable, wanted, value, holds}
+use Rattle.literal.specs.Slots.{wanted-bit}
 use Rattle.formula.specs.Formula.{satisfied, models}
 use Rattle.choices.specs.Lists.{all-at}
 use Rattle.walk.specs.State.{State, find, unassigned, satisfy, isUnassigned, unassignedIn, isOpen, isUnit, fits}
 use Rattle.walk.specs.Propagation.{unitLiteral, propagateRound, propagateBy, propagate}
-use Rattle.walk.specs.Extension.{Extends, extends-refl, extends-trans, wanted-bit, satisfied-by-unassigned}
+use Rattle.walk.specs.Extension.{Extends, extends-refl, extends-trans, satisfied-by-unassigned}
 use Rattle.walk.specs.Counting.{find-member, find-some, find-only}
 use Rattle.walk.specs.Fits.{fits-at}
 use Rattle.walk.specs.Assignment.{assign-fewer, extends-satisfy, satisfy-extends, satisfy-state}

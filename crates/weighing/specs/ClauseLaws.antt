@@ -10,6 +10,7 @@ use lib.Dec.{eqb, lit<}
 use lib.IntN.{ℤ}
 use lib.ListN.{length, getD}
 use borrow.Author.Tests.{eq-eqb, ne-eqb}
+use Rattle.literal.specs.Slots.{isAt}
 use Rattle.formula.specs.Formula.{any, all, satisfied}
 use Rattle.walk.specs.State.{unassignedIn, isOpen}
 use Rattle.walk.specs.Branching.{assignedOrAgainst, isOpposed, isSource, mentions, offers, clauseWeight}
@@ -17,7 +18,7 @@ use Rattle.clause_standing.specs.declared.Standing.{Standing}
 use Rattle.clause_standing.specs.declared.Standing.the-variants.{Satisfied, Open}
 use Rattle.clause_standing.specs.Standing.{standingOf}
 use Rattle.clause_standing.specs.Laws.{satisfied-stands, open-stands}
-use Rattle.weighing.specs.Weights.{isAt, isMarked, weightAt, Weighed}
+use Rattle.weighing.specs.Weights.{isMarked, weightAt, Weighed}
 
 -- the powers of 4 in the code's table
 abbrev pub powers : List ℕ

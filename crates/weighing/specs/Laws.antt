@@ -8,16 +8,14 @@ use native.Mathlib.Numerals.{add-one}
 use native.Mathlib.Omega.{arith}
 use lib.Dec.{eqb, ltb}
 use lib.IntN.{ℤ, pos, negsuc}
-use lib.Signed.{mag}
-use mir.Syntax.{w32}
-use mir.Val.{hbits}
 use lib.ListN.{length, getD, drop, set, length-set, drop-of-length-le, List·getD-eq-default}
 use lib.Seq.{drop-cons, getD-set-same, getD-set-other}
 use borrow.Author.Tests.{eq-eqb, ne-eqb, ltb-true, ltb-false, not-true}
 use Rattle.literal.specs.Literal.{variable}
+use Rattle.literal.specs.Slots.{slot, isAt}
 use Rattle.formula.specs.Formula.{any}
 use Rattle.walk.specs.Branching.{isOf, mentions}
-use Rattle.weighing.specs.Weights.{slot, isAt, isMarked, distinct}
+use Rattle.weighing.specs.Weights.{isMarked, distinct}
 
 -- the literals of c before index k have been added to the weights: what is there and what is still to come is what was there and all of it
 pub record Adding (c : List ℤ) (w : ℕ) (before now : List ℕ) (k : ℕ) : Type 0 where
@@ -137,11 +135,6 @@ marking-end c before now k s h v = sym (or-false (isMarked now v)) ∙ ap (λ (b
 
     past : mentions v (drop k c) ≡ false
     past = rw (drop-of-length-le c h)
-
--- the variable of an i32 is far below the largest usize
-pub variable-most : (x : ℤ) → mag x < 2 ^ hbits w32 → variable x ≤ 2 ^ 31
-variable-most (pos n) h = omega arith
-variable-most (negsuc n) h = omega arith
 
 -- the numbers before index i are 0
 pub record Clearing (before now : List ℕ) (i : ℕ) : Type 0 where

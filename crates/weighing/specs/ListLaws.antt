@@ -11,11 +11,11 @@ use lib.IntN.{ℤ, pos}
 use lib.ListN.{length, getD, take, drop, drop-of-length-le}
 use borrow.Author.Tests.{leb-true, ne-eqb}
 use Rattle.literal.specs.Literal.{variable}
+use Rattle.literal.specs.Slots.{wanted-bit}
 use Rattle.formula.specs.Formula.{any, all, clauses, clauseLength}
 use Rattle.formula.specs.Laws.{clauses-step}
 use Rattle.walk.specs.State.{hasVariable}
 use Rattle.walk.specs.Branching.{offers}
-use Rattle.walk.specs.Extension.{wanted-bit}
 use Rattle.weighing.specs.Weights.{isMarked, weightAt, distinct, isClean, Weighable, Weighed, WeighableList, Totals}
 use Rattle.weighing.specs.ClauseLaws.{weight-most}
 

@@ -1,4 +1,4 @@
--- The weights of all literals in one list of numbers, and the marks of the candidates in another.
+-- The weights of all literals, each at its slot in one list of numbers, and the marks of the candidates in another.
 use mathlib.Core.Path.{_≡_}
 use mathlib.Core.Bool.{Bool, true, cond, not, _&&_, _||_}
 use mathlib.Core.List.{List, [], _∷_}
@@ -7,17 +7,11 @@ use Prim.Native.Nat.{ℕ, _+_, _*_, _^_, _≤_, _<_}
 use lib.Dec.{eqb}
 use lib.IntN.{ℤ, pos}
 use lib.ListN.{length, getD}
-use Rattle.literal.specs.Literal.{variable, wanted}
+use Rattle.literal.specs.Literal.{variable}
+use Rattle.literal.specs.Slots.{slot, isAt}
 use Rattle.formula.specs.Formula.{any, all, clauses}
 use Rattle.walk.specs.State.{hasVariable}
 use Rattle.walk.specs.Branching.{clauseWeight, offers}
-
--- the weight of -v stands at 2v, that of v at 2v + 1
-abbrev pub slot : ℤ → ℕ
-slot x = 2 * variable x + wanted x
-
-abbrev pub isAt : ℕ → ℤ → Bool
-isAt i x = eqb (slot x) i
 
 -- the weights of the open clauses that hold the literal at i
 abbrev pub weightAt : List ℕ → ℕ → List (List ℤ) → ℕ

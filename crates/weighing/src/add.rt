@@ -1,11 +1,11 @@
 // A clause's weight.
-use crate::cells::slot_of;
 ghost use mathlib.Core.Path.{_≡_};
 ghost use mathlib.Core.Bool.{cond};
 ghost use Prim.Native.Nat.{ℕ, _+_};
 ghost use lib.ListN.{getD};
 ghost use Rattle.formula.specs.Formula.{any};
-ghost use Rattle.weighing.specs.Weights.{isAt, Addable};
+ghost use Rattle.literal.specs.Slots.{isAt};
+ghost use Rattle.weighing.specs.Weights.{Addable};
 
 // Adds a weight at each literal of a clause.
 pub fn add_weight(clause: &[i32], weight: u64, weights: &mut [u64])
@@ -14,7 +14,7 @@ pub fn add_weight(clause: &[i32], weight: u64, weights: &mut [u64])
 {
     let mut k = 0;
     while k < clause.len() {
-        let slot = slot_of(clause[k]);
+        let slot = literal::slot_of(clause[k]);
         weights[slot] = weights[slot] + weight;
         k += 1;
     }

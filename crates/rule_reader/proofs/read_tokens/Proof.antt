@@ -8,11 +8,10 @@ use lib.ListN.{length}
 use Rattle.refusal.specs.Laws.{enough-room}
 use Rattle.refusal.specs.Reply.{refused}
 use Rattle.rule_list.specs.Sound.{unread}
-use Rattle.dimacs.specs.Format.{badTokens}
+use Rattle.dimacs.specs.Format.{badTokens, rulesOf}
 use Rattle.dimacs.specs.Tokens.{Token, tokensFrom}
 use Rattle.token_check.specs.Check.{check-refused, check-good}
 use Rattle.rule_reader.specs.Answers.{tokens-refused, tokens-short, tokens-read}
-use Rattle.rule_reader.specs.Passes.{passed-readable}
 use borrow.Author.Needs.{needs}
 use Rattle.rule_reader.proofs.read_tokens.Statement.{statement}
 use Rattle.rule_reader.proofs.read_tokens.Tie as tie
@@ -29,11 +28,11 @@ enum-known-needed c = search needs
 -- all tokens are good, and counted
 good : (c : tie.After-known-told2)
     → (badTokens (c .before .before .before .before .before .args .n) (c .before .before .before .before .before .args .count) (length (c .before .before .before .before .before .args .file .now)) unread (tokensFrom (c .before .before .before .before .before .args .file .now) (c .before .before .before .before .before .args .from)) ≡ none)
-    × (c .before .needed .given .0 .0 ≡ length (tokensFrom (c .before .before .before .before .before .args .file .now) (c .before .before .before .before .before .args .from)))
+    × (c .before .needed .given .0 .0 ≡ length (rulesOf (tokensFrom (c .before .before .before .before .before .args .file .now) (c .before .before .before .before .before .args .from))))
 good c =
     let args = c .before .before .before .before .before .args in
     let ts : List Token = tokensFrom (args .file .now) (args .from) in
-    check-good (badTokens (args .n) (args .count) (length (args .file .now)) unread ts) (length ts) (c .before .before .before .check-tokens .result)
+    check-good (badTokens (args .n) (args .count) (length (args .file .now)) unread ts) (length (rulesOf ts)) (c .before .before .before .check-tokens .result)
     (c .before .before .before .check-tokens .ensures) (c .before .needed .given .0 .0) (c .before .needed .given .1)
 
 check-room-requires : tie.Need-check-room-requires
@@ -59,10 +58,12 @@ room c =
 
 fill-rules-requires : tie.Need-fill-rules-requires
 fill-rules-requires c κs =
-    let args = c .before .before .before .before .before .before .before .before .before .args in
-    let p = c .before .before .before .before in
-    let ts : List Token = tokensFrom (args .file .now) (args .from) in
-    (passed-readable ts (args .n) (args .count) (length (args .file .now)) unread (good p .0), omega (arith, good p .1, room (c .before)))
+    let start = c .before .before .before .before .before .before .before .before .before in
+    let args = start .args in
+    let p = c .before .before .before .before in (
+      record { n = args .n; c = args .count; size = length (args .file .now); variables = start .pre .0; clauses = start .pre .1; good = good p .0 },
+      omega (arith, good p .1, room (c .before)),
+    )
 
 returns-2 : tie.Need-returns-2
 returns-2 c =
@@ -70,7 +71,7 @@ returns-2 c =
     let ts : List Token = tokensFrom (args .file .now) (args .from) in
     let r = c .before .r .given .0 .0 in
     tokens-refused (args .n) (args .count) (args .file .now) (args .from) (args .rules .now) r
-    (check-refused (badTokens (args .n) (args .count) (length (args .file .now)) unread ts) (length ts) (c .before .before .before .check-tokens .result) (c .before .before .before .check-tokens .ensures) r (c .before .r .given .1))
+    (check-refused (badTokens (args .n) (args .count) (length (args .file .now)) unread ts) (length (rulesOf ts)) (c .before .before .before .check-tokens .result) (c .before .before .before .check-tokens .ensures) r (c .before .r .given .1))
 
 same-length : tie.Need-same-length
 same-length c = search needs

@@ -1,18 +1,24 @@
 -- `token_check::check_tokens` meets its contract: each turn is one of the laws of `Checking`.
 use mathlib.Core.Path.{_≡_, sym, ap, _∙_}
-use mathlib.Core.Bool.{false}
-use Prim.Native.Nat.{ℕ, _-_}
+use mathlib.Core.Bool.{Bool, false, not, _&&_}
+use mathlib.Core.List.{List}
+use Prim.Native.Nat.{ℕ, _+_, _-_}
 use borrow.Author.Needs.{needs}
+use borrow.Author.Tests.{not-true, not-false}
 use native.Mathlib.Omega.{arith}
+use lib.Dec.{eqb}
 use lib.IntN.{ℤ}
-use lib.ListN.{length}
-use Rattle.literal.specs.Literal.{variable, closes}
+use lib.ListN.{length, getD, set}
+use mir.Syntax.{w32}
+use mir.Val.{toZ, ofZ}
+use Rattle.literal.specs.Literal.{closes}
+use Rattle.literal.specs.Slots.{slot}
 use Rattle.rule_tokens.specs.declared.NextToken as T
 use Rattle.rule_tokens.specs.Laws.{number-held}
 use Rattle.rule_tokens.specs.NextToken.{nextOf}
 use Rattle.token_faults.specs.Fault.{faultOf}
 use Rattle.dimacs.specs.Tokens.{tokensFrom}
-use Rattle.token_check.proofs.Checking.{Checking, start, ended, malformed, later, faulty, closed, below, twice, joined}
+use Rattle.token_check.proofs.Checking.{Checking, start, ended, malformed, later, faulty, repeated, closed, inside, joined}
 use Rattle.token_check.proofs.check_tokens.Statement.{statement}
 use Rattle.token_check.proofs.check_tokens.Tie as tie
 
@@ -24,24 +30,18 @@ abbrev μ-loop : tie.MeasureT-loop
 μ-loop file from n count stamps₀ clauses₀ literals₀ is-open₀ at₀ stamps clauses literals is-open at =
     length file - at
 
--- The points of a turn, each told from the next: the function's start, the turn's, a number that was found, one without a fault, a literal, one with its variable, and one that no stamp has.
+-- The points of a turn, each told from the next: the function's start, the turn's, a number that was found, one of which it is known whether it is a repeat, and one without a fault.
 abbrev begun : tie.At-loop Inv-loop μ-loop → tie.Start Inv-loop μ-loop
 begun c = c .before .before .before
 
 abbrev turn : tie.After-known-told2 Inv-loop μ-loop → tie.At-loop Inv-loop μ-loop
 turn c = c .before .before .before .before
 
-abbrev number : tie.Else1 Inv-loop μ-loop → tie.After-known-told2 Inv-loop μ-loop
+abbrev number : tie.After-is-repeat Inv-loop μ-loop → tie.After-known-told2 Inv-loop μ-loop
 number c = c .before .before
 
-abbrev faultless : tie.Else2 Inv-loop μ-loop → tie.Else1 Inv-loop μ-loop
-faultless c = c .before .before
-
-abbrev literal : tie.After-variable-of Inv-loop μ-loop → tie.Else2 Inv-loop μ-loop
-literal c = c .before
-
-abbrev named : tie.Else3 Inv-loop μ-loop → tie.After-variable-of Inv-loop μ-loop
-named c = c .before .before .before
+abbrev looked : tie.Else1 Inv-loop μ-loop → tie.After-is-repeat Inv-loop μ-loop
+looked c = c .before .before
 
 no-stamps-requires : tie.Need-no-stamps-requires Inv-loop μ-loop
 no-stamps-requires c κs = search needs
@@ -78,120 +78,134 @@ returns-2 c =
 enum-known-place-2 : tie.Need-enum-known-place-2 Inv-loop μ-loop
 enum-known-place-2 c = search needs
 
-fault-of-requires : tie.Need-fault-of-requires Inv-loop μ-loop
-fault-of-requires c κs = search needs
+-- A turn with a number: its place, its value and the offset past it.
+module _ (c : tie.After-known-told2 Inv-loop μ-loop) where
+  abbrev place : ℕ
+  place = c .before .place2 .given .0 .0
 
--- the number that was found, its place and the offset past it
-abbrev place : tie.After-known-told2 Inv-loop μ-loop → ℕ
-place c = c .before .place2 .given .0 .0
+  abbrev value : ℤ
+  value = c .before .place2 .given .0 .1 .0
 
-abbrev value : tie.After-known-told2 Inv-loop μ-loop → ℤ
-value c = c .before .place2 .given .0 .1 .0
+  abbrev next : ℕ
+  next = c .before .place2 .given .0 .1 .1 .0
 
-abbrev next : tie.After-known-told2 Inv-loop μ-loop → ℕ
-next c = c .before .place2 .given .0 .1 .1 .0
+  abbrev stamps : List ℕ
+  stamps = turn c .loop .stamps
 
-found : (c : tie.After-known-told2 Inv-loop μ-loop)
-    → T.the-variants.Element (place c) (value c) (next c) ≡ nextOf (tokensFrom (begun (turn c) .args .file .now) (turn c .loop .at))
-found c = sym (c .before .place2 .given .1) ∙ c .before .before .before .next-token .ensures
+  abbrev k : ℕ
+  k = turn c .loop .clauses
 
--- its fault, whether it closes a clause, and its variable
-faults : tie.After-known-told2 Inv-loop μ-loop → ℤ → ℕ
-faults c x = faultOf (begun (turn c) .args .n) (begun (turn c) .args .count) (turn c .loop .clauses) (turn c .loop .literals) x
+  found : T.the-variants.Element place value next ≡ nextOf (tokensFrom (begun (turn c) .args .file .now) (turn c .loop .at))
+  found = sym (c .before .place2 .given .1) ∙ c .before .before .before .next-token .ensures
 
-fault : (c : tie.After-fault-of Inv-loop μ-loop) → c .fault-of .result ≡ faults (c .before) (value (c .before))
+  read : toZ w32 (ofZ w32 value) ≡ value
+  read = number-held (begun (turn c) .args .file .now) (turn c .loop .at) found
+
+  faults : ℤ → Bool → ℕ
+  faults x r = faultOf (begun (turn c) .args .n) (begun (turn c) .args .count) k (turn c .loop .literals) x r
+
+-- whether it is a repeat, its fault, and whether it closes a clause
+told : (c : tie.After-is-repeat Inv-loop μ-loop) → c .is-repeat .result ≡ not (closes (value (number c))) && eqb (getD (stamps (number c)) (slot (value (number c))) 0) (k (number c) + 1)
+told c =
+    let here = number c in
+    c .is-repeat .ensures ∙ ap (λ (x : ℤ). not (closes x) && eqb (getD (stamps here) (slot x) 0) (k here + 1)) (read here)
+
+fault : (c : tie.After-fault-of Inv-loop μ-loop) → c .fault-of .result ≡ faults (number (c .before)) (value (number (c .before))) (c .before .is-repeat .result)
 unfolding faults
-fault c = c .fault-of .ensures ∙ ap (faults (c .before)) (number-held (begun (turn (c .before)) .args .file .now) (turn (c .before) .loop .at) (found (c .before)))
+fault c =
+    let here = number (c .before) in
+    c .fault-of .ensures ∙ ap (λ (x : ℤ). faults here x (c .before .is-repeat .result)) (read here)
 
-fine : (c : tie.Else1 Inv-loop μ-loop) → faults (number c) (value (number c)) ≡ 0
+fine : (c : tie.Else1 Inv-loop μ-loop) → faults (number (looked c)) (value (number (looked c))) (looked c .is-repeat .result) ≡ 0
 fine c = sym (fault (c .before)) ∙ c .if1 .left
 
-closing : (c : tie.After-closes Inv-loop μ-loop) → c .closes .result ≡ closes (value (number (c .before)))
-closing c =
-    let here = number (c .before) in
-    c .closes .ensures ∙ ap closes (number-held (begun (turn here) .args .file .now) (turn here .loop .at) (found here))
+closing : (c : tie.After-closes Inv-loop μ-loop) → c .closes .result ≡ closes (value (number (looked (c .before .before))))
+closing c = c .closes .ensures ∙ ap closes (read (number (looked (c .before .before))))
 
-is-literal : (c : tie.Else2 Inv-loop μ-loop) → closes (value (number (faultless c))) ≡ false
-is-literal c = sym (closing (c .before)) ∙ c .if2 .left
+add-t21 : tie.Need-add-t21 Inv-loop μ-loop
+add-t21 c =
+    let here = turn c in
+    omega (arith, here .loop .inv .few, begun here .pre)
 
-same : (c : tie.After-variable-of Inv-loop μ-loop) → c .variable-of .result .0 ≡ variable (value (number (faultless (literal c))))
-same c =
-    let here = number (faultless (literal c)) in
-    c .variable-of .ensures ∙ ap variable (number-held (begun (turn here) .args .file .now) (turn here .loop .at) (found here))
+is-repeat-requires : tie.Need-is-repeat-requires Inv-loop μ-loop
+is-repeat-requires c κs = turn (c .before) .loop .inv .stamped .long
+
+fault-of-requires : tie.Need-fault-of-requires Inv-loop μ-loop
+fault-of-requires c κs = search needs
 
 returns-3 : tie.Need-returns-3 Inv-loop μ-loop
 unfolding faults
 returns-3 c =
-    let here = c .before .before in
-    faulty (turn here .loop .inv) (found here) (c .before .fault-of .result) (fault (c .before)) (c .if1 .taken)
+    let seen = c .before .before in
+    let here = number seen in
+    faulty (turn here .loop .inv) (found here) (seen .is-repeat .result) (told seen) (c .before .fault-of .result) (fault (c .before)) (c .if1 .taken)
 
 closes-requires : tie.Need-closes-requires Inv-loop μ-loop
 closes-requires c κs = search needs
 
 add-clauses : tie.Need-add-clauses Inv-loop μ-loop
 add-clauses c =
-    let here = turn (number (c .before .before)) in
+    let here = turn (number (looked (c .before .before .before))) in
     omega (arith, here .loop .inv .few, begun here .pre)
 
-variable-of-requires : tie.Need-variable-of-requires Inv-loop μ-loop
-variable-of-requires c κs = search needs
-
-add-t24 : tie.Need-add-t24 Inv-loop μ-loop
-add-t24 c =
-    let here = turn (number (faultless (literal c))) in
-    omega (arith, here .loop .inv .few, begun here .pre)
-
-is-stamped-requires : tie.Need-is-stamped-requires Inv-loop μ-loop
-unfolding faults
-is-stamped-requires c κs =
-    let known = c .before in
-    let here = number (faultless (literal known)) in
-    omega (arith, below (turn here .loop .inv) (found here) (fine (faultless (literal known))) (is-literal (literal known)) (same known), begun (turn here) .pre)
-
-returns-4 : tie.Need-returns-4 Inv-loop μ-loop
-unfolding faults
-returns-4 c =
-    let known = c .before .before .before in
-    let here = number (faultless (literal known)) in
-    twice (turn here .loop .inv) (found here) (fine (faultless (literal known))) (is-literal (literal known)) (same known) (sym (c .before .is-stamped .ensures) ∙ c .if3 .taken)
+-- a literal, which is no closing zero
+is-literal : (c : tie.Else3 Inv-loop μ-loop) → closes (value (number (looked (c .before .before .before)))) ≡ false
+is-literal c = sym (closing (c .before)) ∙ c .if3 .left
 
 stamp-requires : tie.Need-stamp-requires Inv-loop μ-loop
 unfolding faults
 stamp-requires c κs =
-    let known = named (c .before) in
-    let here = number (faultless (literal known)) in (
-      omega (arith, below (turn here .loop .inv) (found here) (fine (faultless (literal known))) (is-literal (literal known)) (same known), begun (turn here) .pre),
-      omega (arith, turn here .loop .inv .few, begun (turn here) .pre),
-    )
+    let past = c .before .before .before .before in
+    let seen = looked past in
+    let here = number seen in
+    let over = inside (turn here .loop .inv) (found here) (seen .is-repeat .result) (told seen) (fine past) (is-literal (c .before)) in
+    rw (read here) (omega (arith, over, begun (turn here) .pre), omega (arith, turn here .loop .inv .few, begun (turn here) .pre))
 
 add-literals : tie.Need-add-literals Inv-loop μ-loop
 add-literals c =
-    let here = turn (number (faultless (literal (named (c .before .before))))) in
+    let here = turn (number (looked (c .before .before .before .before .before))) in
     omega (arith, here .loop .inv .many)
 
 loop-less : tie.Need-loop-less Inv-loop μ-loop
 loop-less c =
-    let here = number (c .before .before) in
+    let here = number (looked (c .before .before .before)) in
     omega (arith, later (turn here .loop .inv) (found here))
 
 loop-again : tie.Need-loop-again Inv-loop μ-loop
 unfolding faults
 loop-again c =
-    let here = number (c .before .before) in
-    closed (turn here .loop .inv) (found here) (fine (c .before .before)) (sym (closing (c .before)) ∙ c .if2 .taken)
+    let past = c .before .before .before in
+    let seen = looked past in
+    let here = number seen in
+    closed (turn here .loop .inv) (found here) (seen .is-repeat .result) (told seen) (fine past) (sym (closing (c .before)) ∙ c .if3 .taken)
 
 loop-less-2 : tie.Need-loop-less-2 Inv-loop μ-loop
 loop-less-2 c =
-    let here = number (faultless (literal (named (c .before .before)))) in
+    let here = number (looked (c .before .before .before .before .before)) in
     omega (arith, later (turn here .loop .inv) (found here))
 
 loop-again-2 : tie.Need-loop-again-2 Inv-loop μ-loop
 unfolding faults
 loop-again-2 c =
-    let unstamped = c .before .before in
-    let known = named unstamped in
-    let here = number (faultless (literal known)) in
-    joined (turn here .loop .inv) (found here) (fine (faultless (literal known))) (is-literal (literal known)) (same known) (begun (turn here) .pre .0) (sym (unstamped .before .is-stamped .ensures) ∙ unstamped .if3 .left) _ (c .stamp .ensures)
+    let past = c .before .before .before .before .before in
+    let seen = looked past in
+    let here = number seen in
+    joined (turn here .loop .inv) (found here) (seen .is-repeat .result) (told seen) (fine past) (is-literal (c .before .before)) (begun (turn here) .pre .0)
+    (not-true (seen .is-repeat .result) (c .before .before .before .before .if2 .taken)) _
+    (c .stamp .ensures ∙ ap (λ (x : ℤ). set (stamps here) (slot x) (k here + 1)) (read here))
+
+loop-less-3 : tie.Need-loop-less-3 Inv-loop μ-loop
+loop-less-3 c =
+    let here = number (looked (c .before)) in
+    omega (arith, later (turn here .loop .inv) (found here))
+
+loop-again-3 : tie.Need-loop-again-3 Inv-loop μ-loop
+unfolding faults
+loop-again-3 c =
+    let past = c .before in
+    let seen = looked past in
+    let here = number seen in
+    repeated (turn here .loop .inv) (found here) (seen .is-repeat .result) (told seen) (fine past) (not-false (seen .is-repeat .result) (c .if2 .left))
 
 pub check-tokens-spec : {M : Type 1} → statement M
 check-tokens-spec =
@@ -208,17 +222,17 @@ check-tokens-spec =
     enum-known-place
     returns-2
     enum-known-place-2
+    add-t21
+    is-repeat-requires
     fault-of-requires
     returns-3
     closes-requires
     add-clauses
-    variable-of-requires
-    add-t24
-    is-stamped-requires
-    returns-4
     stamp-requires
     add-literals
     loop-less
     loop-again
     loop-less-2
-    loop-again-2)
+    loop-again-2
+    loop-less-3
+    loop-again-3)

@@ -1,6 +1,6 @@
 -- `token_faults::fault_of` meets its contract: each return is one of the tests, in their order.
 use mathlib.Core.Path.{_≡_, sym, ap, _∙_}
-use mathlib.Core.Bool.{false}
+use mathlib.Core.Bool.{false, not, _&&_}
 use native.Mathlib.Omega.{arith}
 use lib.Dec.{leb}
 use mir.Syntax.{w32}
@@ -40,18 +40,21 @@ same c =
     let start = c .before .before .before .before in
     c .variable-of .ensures ∙ ap variable (toZ-ofZ w32 (start .args .x) (start .fits .x))
 
+is-full-requires : tie.Need-is-full-requires
+is-full-requires c κs = search needs
+
 returns-3 : tie.Need-returns-3
 returns-3 c =
-    let known = c .before in
-    rw (more (known .before .before .before), literal (known .before), le-leb maxLiterals (known .before .before .before .before .args .literals) (c .if3 .taken))
+    let known = c .before .before in
+    rw (more (known .before .before .before), literal (known .before), sym (c .before .is-full .ensures) ∙ c .if3 .taken)
 
--- past the third: one more literal may come
-room : (c : tie.Else3) → leb maxLiterals (c .before .before .before .before .before .args .literals) ≡ false
-room c = lt-leb maxLiterals (c .before .before .before .before .before .args .literals) (c .if3 .left)
+-- past the third: one more literal may come, or it is a repeat
+room : (c : tie.Else3) → not (c .before .before .before .before .before .before .args .repeated) && leb maxLiterals (c .before .before .before .before .before .before .args .literals) ≡ false
+room c = sym (c .before .is-full .ensures) ∙ c .if3 .left
 
 returns-4 : tie.Need-returns-4
 returns-4 c =
-    let known = c .before .before in
+    let known = c .before .before .before in
     let args = known .before .before .before .before .args in
     rw (
       more (known .before .before .before),
@@ -62,7 +65,7 @@ returns-4 c =
 
 returns-5 : tie.Need-returns-5
 returns-5 c =
-    let known = c .before .before in
+    let known = c .before .before .before in
     let args = known .before .before .before .before .args in
     rw (
       more (known .before .before .before),
@@ -79,6 +82,7 @@ fault-of-spec =
     closes-requires
     returns-2
     variable-of-requires
+    is-full-requires
     returns-3
     returns-4
     returns-5)

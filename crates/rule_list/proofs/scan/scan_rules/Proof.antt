@@ -4,12 +4,15 @@ use mathlib.Core.Bool.{Bool, true}
 use mathlib.Core.List.{List}
 use Prim.Native.Nat.{ℕ, _+_, _-_, _≤_, _<_}
 use native.Mathlib.Omega.{arith}
+use lib.Dec.{eqb}
 use lib.IntN.{ℤ, pos}
-use lib.ListN.{length, getD}
+use lib.ListN.{length, getD, set}
+use mir.Syntax.{w32}
+use mir.Val.{toZ, ofZ}
 use borrow.Author.Needs.{needs}
-use borrow.Author.Tests.{eqb-true, eqb-false}
 use Rattle.literal.specs.Laws.{as-read}
 use Rattle.literal.specs.Literal.{variable}
+use Rattle.literal.specs.Slots.{slot}
 use Rattle.limits.specs.Limits.{maxVariables}
 use Rattle.rule_list.proofs.Scanning.{Scanning, start, clauses-over, closed, outside, literals-over, twice, joined, left-open, complete}
 use Rattle.rule_list.proofs.scan.scan_rules.Statement.{statement}
@@ -30,11 +33,11 @@ loop-holds c = start (c .before .args .n) (c .before .args .rules .now) (c .no-s
 add-next : tie.Need-add-next Inv-loop μ-loop
 add-next c = search needs
 
-mul-variable-of : tie.Need-mul-variable-of Inv-loop μ-loop
-mul-variable-of c = search needs
+mul-x : tie.Need-mul-x Inv-loop μ-loop
+mul-x c = search needs
 
-shared-slice-copy-out-variable-of : tie.Need-shared-slice-copy-out-variable-of Inv-loop μ-loop
-shared-slice-copy-out-variable-of c = search needs
+shared-slice-copy-out-x : tie.Need-shared-slice-copy-out-x Inv-loop μ-loop
+shared-slice-copy-out-x c = search needs
 
 variable-of-requires : tie.Need-variable-of-requires Inv-loop μ-loop
 variable-of-requires c κs = search needs
@@ -72,6 +75,9 @@ module _ (c : tie.After-variable-of Inv-loop μ-loop) where
   abbrev v : ℕ
   v = c .variable-of .result .0
 
+  abbrev x : ℤ
+  x = getD list i (pos 0)
+
   few : n ≤ maxVariables
   few = entry (head c) .pre
 
@@ -81,8 +87,11 @@ module _ (c : tie.After-variable-of Inv-loop μ-loop) where
   inside : i < length list
   inside = c .before .before .loop-test .taken
 
+  read : toZ w32 (ofZ w32 x) ≡ x
+  read = as-read x (c .before .x .given)
+
   handed : v ≡ variable (getD list i (pos 0))
-  handed = c .variable-of .ensures ∙ ap variable (as-read (getD list i (pos 0)) (c .before .variable-of-arg .given))
+  handed = c .variable-of .ensures ∙ ap variable read
 
 -- Past the limits, at a literal.
 module _ (c : tie.Else4 Inv-loop μ-loop) where
@@ -120,18 +129,24 @@ returns-3 c =
     let t = c .before .before .before in
     literals-over (n t) (list t) (stamps t) (k t) (m t) (is-open t) (i t) (at t) (inside t) (v t) (handed t) (c .before .before .if1 .left) (c .before .if3 .left) (c .if4 .taken)
 
-add-t19 : tie.Need-add-t19 Inv-loop μ-loop
-add-t19 c = search needs
+add-t20 : tie.Need-add-t20 Inv-loop μ-loop
+add-t20 c = search needs
 
 is-stamped-requires : tie.Need-is-stamped-requires Inv-loop μ-loop
-is-stamped-requires c κs = omega (arith, few (turn (c .before)))
+is-stamped-requires c κs = at (turn (c .before)) .stamped .long
+
+-- what it said is of the element's own slot
+looked : (c : tie.After-is-stamped Inv-loop μ-loop) → c .is-stamped .result ≡ eqb (getD (stamps (turn (limited c))) (slot (x (turn (limited c)))) 0) (k (turn (limited c)) + 1)
+looked c =
+    let t = turn (limited c) in
+    c .is-stamped .ensures ∙ ap (λ (y : ℤ). eqb (getD (stamps t) (slot y) 0) (k t + 1)) (read t)
 
 returns-4 : tie.Need-returns-4 Inv-loop μ-loop
 returns-4 c =
     let p = limited (c .before) in
     let t = turn p in
     twice (n t) (list t) (stamps t) (k t) (m t) (is-open t) (i t) (at t) (inside t) (v t) (handed t) (literal p) (within p) (below p)
-    (eqb-true (getD (stamps t) (v t) 0) (k t + 1) (sym (c .before .is-stamped .ensures) ∙ c .if5 .taken))
+    (sym (looked (c .before)) ∙ c .if5 .taken)
 
 stamp-requires : tie.Need-stamp-requires Inv-loop μ-loop
 stamp-requires c κs =
@@ -154,12 +169,13 @@ loop-less-2 c = search needs
 
 loop-again-2 : tie.Need-loop-again-2 Inv-loop μ-loop
 loop-again-2 c =
-    let looked = c .before .before .before in
-    let p = limited looked in
+    let seen = c .before .before .before in
+    let p = limited seen in
     let t = turn p in
-    subst (λ (l : List ℕ). Scanning (n t) (list t) l (k t) (m t + 1) true (i t + 1)) (sym (c .stamp .ensures))
+    subst (λ (l : List ℕ). Scanning (n t) (list t) l (k t) (m t + 1) true (i t + 1))
+    (sym (c .stamp .ensures ∙ ap (λ (y : ℤ). set (stamps t) (slot y) (k t + 1)) (read t)))
     (joined (n t) (list t) (stamps t) (k t) (m t) (is-open t) (i t) (at t) (inside t) (v t) (handed t) (literal p) (within p) (below p) (few t)
-    (eqb-false (getD (stamps t) (v t) 0) (k t + 1) (sym (looked .is-stamped .ensures) ∙ c .before .before .if5 .left)))
+    (sym (looked seen) ∙ c .before .before .if5 .left))
 
 -- past the loop
 returns-5 : tie.Need-returns-5 Inv-loop μ-loop
@@ -183,14 +199,14 @@ scan-rules-spec =
     no-stamps-requires
     loop-holds
     add-next
-    mul-variable-of
-    shared-slice-copy-out-variable-of
+    mul-x
+    shared-slice-copy-out-x
     variable-of-requires
     returns
     add-clauses
     returns-2
     returns-3
-    add-t19
+    add-t20
     is-stamped-requires
     returns-4
     stamp-requires

@@ -11,7 +11,7 @@ zero-at (suc k) zero = refl
 zero-at (suc k) (suc v) = zero-at k v
 
 returns : tie.Need-returns
-returns c = (refl, zero-at 641)
+returns c = (refl, zero-at 1282)
 
 pub no-stamps-spec : {M : Type 1} → statement M
 no-stamps-spec = tie.close (tie.spec returns)

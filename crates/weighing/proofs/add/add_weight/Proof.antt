@@ -5,7 +5,7 @@ use native.Mathlib.Omega.{arith}
 use lib.IntN.{ℤ, pos}
 use lib.ListN.{length, getD, set}
 use Rattle.literal.specs.Laws.{as-read}
-use Rattle.weighing.specs.Weights.{slot}
+use Rattle.literal.specs.Slots.{slot}
 use Rattle.weighing.specs.Laws.{Adding, adding-start, adding-fits, adding-next, adding-end}
 use borrow.Author.Needs.{needs}
 use Rattle.weighing.proofs.add.add_weight.Statement.{statement}

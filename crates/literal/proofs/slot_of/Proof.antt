@@ -1,15 +1,14 @@
--- `weighing::slot_of` meets its contract, by what its two callees ensure.
+-- `literal::slot_of` meets its contract, by what its two callees ensure.
 use mathlib.Core.Path.{ap, ap₂, _∙_}
 use Prim.Native.Nat.{ℕ, _+_, _*_}
 use native.Mathlib.Omega.{arith}
 use mir.Syntax.{w32}
 use mir.ValLaws.{toZ-ofZ}
 use Rattle.literal.specs.Literal.{variable, wanted}
-use Rattle.walk.specs.Extension.{wanted-bit}
-use Rattle.weighing.specs.Laws.{variable-most}
+use Rattle.literal.specs.Slots.{wanted-bit, variable-most}
 use borrow.Author.Needs.{needs}
-use Rattle.weighing.proofs.cells.slot_of.Statement.{statement}
-use Rattle.weighing.proofs.cells.slot_of.Tie as tie
+use Rattle.literal.proofs.slot_of.Statement.{statement}
+use Rattle.literal.proofs.slot_of.Tie as tie
 
 variable-of-requires : tie.Need-variable-of-requires
 variable-of-requires c κs = search needs
