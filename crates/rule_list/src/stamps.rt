@@ -52,6 +52,6 @@ pub fn stamp(stamps: &mut [u16; 1282], x: i32, clause: Clause)
     requires { ⌜ (variable x ≤ maxVariables) × (clause .0 ≤ maxClauses + 1) ⌝ }
     ensures { λ _. ⌜ now (stamps .exit) ≡ set (now (stamps .entry)) (slot x) (clause .0) ⌝ }
 {
-    let at = literal::slot_of(x);
-    stamps[at] = clause.0 as u16;
+    let slot = literal::slot_of(x);
+    stamps[slot] = clause.0 as u16;
 }

@@ -25,7 +25,8 @@ pub fn fault_of(
         return 0;
     }
     let v = literal::variable_of(x).0;
-    if is_full(literals, repeated) {
+    let full = is_full(literals, repeated);
+    if full {
         return 7;
     }
     if n < v {
