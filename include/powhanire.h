@@ -6,7 +6,8 @@
  *   A setting has a number from 1 to n.
  *   A rule list is one run of signed numbers, each rule closed by 0: entry v holds when setting v is on,
  *   entry -v when it is off, and a rule is met when one of its entries holds. {1, 2, 0, -3, 0} is two rules.
- *   No setting occurs twice in a rule. An empty list has no rules; a rule without entries is never met.
+ *   A rule holds no two equal entries (a file may: see read_rules). It may hold v and -v; such a rule is always
+ *   met. An empty list has no rules; a rule without entries is never met.
  *   A wish row has n bytes: 0 wished off, 1 wished on, 2 free; at most 64 wishes.
  *   A choice has n bytes: 0 off, 1 on. It breaks a wish where it has the other value.
  *
@@ -54,10 +55,10 @@ extern "C" {
  *    2  rule file: N or C outside range              the header's first byte
  *    3  rule file: malformed token                   the token's first byte
  *    4  rule file: entry above N                     the token's first byte
- *    5  rule file: setting twice in a rule           the token's first byte
+ *    5  never returned
  *    6  rule file: token after C rules;              the token's first byte;
  *       too few rules closed, or one left open       file length
- *    7  rule file: entry 31,001                      the token's first byte
+ *    7  rule file: entry 31,001, repeats not counted the token's first byte
  *    8  wish file: line cut, out of column or        the line's first byte;
  *       malformed; bytes after the last line         the first extra byte
  *    9  wish file: header out of range               0
@@ -70,7 +71,7 @@ extern "C" {
  *   14  n outside 1 to 640, or d above 64            0
  *   15  output buffer too short                      length needed, in elements
  *   16  rule without entries lent to write_opb       index of the first such rule's closing zero
- * A file's leftmost fault comes first; at one token the order is 3, 6, 7, 4, 5; on a wish line 8, then 9 or 10.
+ * A file's leftmost fault comes first; at one token the order is 3, 6, 7, 4; on a wish line 8, then 9 or 10.
  * Lent values are judged in the order 14, 13 (rules, row, choice), 11, 12, 16; the output's length (15) is last.
  */
 typedef struct {
@@ -85,6 +86,8 @@ typedef struct {
  * `c` is a comment and is skipped up to its line feed or the end of the file, before the header and anywhere after
  * it, inside a rule too. After the header any other `c` outside comments makes a malformed token (3). Only a line
  * feed begins a line. A carriage return in the header's line is refused (1); after the header it is blank.
+ * An entry that its rule holds already is left out of the list, and counts neither toward the 31,000 entries nor
+ * toward the length; v and -v in one rule are both kept.
  * value: settings N, rules C, length of the list. */
 powhanire_answer powhanire_read_rules(const uint8_t *file, size_t file_len,
                                       int32_t *rules, size_t rules_len);

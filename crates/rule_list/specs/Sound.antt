@@ -1,4 +1,4 @@
--- Sound rule lists (document 01, "Refusals", 13): "not closed, outside -n..n, setting repeated, over the file's limits (31,001st entry, 9,001st closing zero)"; the place is the "first bad index; length if not closed". Instead of a repeated setting, document 02, L3, has a repeated entry: "Lent lists may hold opposite entries but not equal ones.".
+-- Sound rule lists (document 01, "Refusals", 13): "not closed, outside -n..n, setting repeated, over the file's limits (31,001st entry, 9,001st closing zero)"; the place is the "first bad index; length if not closed". Instead of a repeated setting, document 02, L3, has a repeated entry: "Lent lists may hold opposite entries but not equal ones."
 use mathlib.Core.Path.{_≡_}
 use mathlib.Core.Bool.{Bool, true, false, cond, not, _&&_}
 use mathlib.Core.List.{List, [], _∷_}

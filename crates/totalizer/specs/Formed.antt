@@ -1,4 +1,4 @@
--- The clauses of a totalizer over leaves with rising variables are well-formed: no variable occurs twice in one.
+-- The clauses of a totalizer over leaves with rising variables are well-formed: no variable occurs twice in one, and so no literal.
 use mathlib.Core.Path.{_≡_, refl, sym, ap, _∙_}
 use mathlib.Core.Bool.{Bool, true, false, cond, _&&_}
 use mathlib.Core.List.{List, [], _∷_, _++_}
