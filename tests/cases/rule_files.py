@@ -141,7 +141,7 @@ def causes():
         ('640 entries', header(640, 1) + rising + b' 0'),
         ('640 entries and one above', header(640, 1) + rising + b' 641 0'),
         ('640 entries and the first again', header(640, 1) + rising + b' 1 0'),
-        ('640 entries and the last again', header(640, 1) + rising + b' -640 0'),
+        ('640 entries and the other sense of the last', header(640, 1) + rising + b' -640 0'),
         ('640 entries, not closed', header(640, 1) + rising),
         ('twice in succession', header(3, 2) + b'3 3 0 1 0'),
         ('both senses', header(3, 2) + b'3 0 -1 2 1 0'),
