@@ -38,6 +38,11 @@ def pattern(elements, length):
     return [elements[index % len(elements)] for index in range(length)]
 
 
+def check(text, n, rules, row, choice):
+    label(text)
+    lines.append('check %d %s %s %s' % (n, encode(rules), encode(row), encode(choice)))
+
+
 def read_rules(text, file, room=None):
     """The rule file's reader, by default with a buffer that has room to spare."""
     if room is None:

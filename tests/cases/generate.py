@@ -20,20 +20,16 @@ import random
 
 import forks
 import opb_files
+import repeats
 import rule_files
 import searches
 import wish_files
 from asked import all_answers
-from case_lines import encode, label, lines
+from case_lines import check, label, lines
 
 CRATE = pathlib.Path(__file__).resolve().parents[2] / 'crates' / 'cases'
 LEAST, GREATEST = -2**31, 2**31 - 1
 MALFORMED, NO_CASE = 'bad case', 'no case: '
-
-
-def check(text, n, rules, row, choice):
-    label(text)
-    lines.append('check %d %s %s %s' % (n, encode(rules), encode(row), encode(choice)))
 
 
 def documented():
@@ -82,11 +78,13 @@ def lists():
         ('an entry twice in succession', [2, 2, 0]),
         ('both senses', [2, 1, -2, 0]),
         ('both senses, off first', [-2, 2, 0]),
-        ('a setting twice in a later rule', [1, 2, 0, 3, 1, -3, 0]),
+        ('both senses in a later rule', [1, 2, 0, 3, 1, -3, 0]),
         ('the same entry in two rules', [1, 0, 1, 0]),
         ('both senses in two rules', [1, 0, -1, 0]),
-        ('a setting twice before one outside', [1, -1, 9, 0]),
-        ('outside before a setting twice', [9, 1, -1, 0]),
+        ('both senses before an entry outside', [1, -1, 9, 0]),
+        ('outside before both senses', [9, 1, -1, 0]),
+        ('an entry twice before one outside', [1, 1, 9, 0]),
+        ('outside before an entry twice', [9, 1, 1, 0]),
         ('outside twice', [9, 9, 0]),
     ):
         check(text, 3, rules, row, choice)
@@ -311,6 +309,7 @@ def main():
     searches.add(random.Random(4))
     forks.add(random.Random(5))
     opb_files.add(random.Random(6))
+    repeats.add(random.Random(7))
     malformed()
     cases = '\n'.join(lines) + '\n'
     answers = all_answers(cases)

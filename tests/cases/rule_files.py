@@ -141,7 +141,7 @@ def causes():
         ('640 entries', header(640, 1) + rising + b' 0'),
         ('640 entries and one above', header(640, 1) + rising + b' 641 0'),
         ('640 entries and the first again', header(640, 1) + rising + b' 1 0'),
-        ('640 entries and the last again', header(640, 1) + rising + b' -640 0'),
+        ('640 entries and the other sense of the last', header(640, 1) + rising + b' -640 0'),
         ('640 entries, not closed', header(640, 1) + rising),
         ('twice in succession', header(3, 2) + b'3 3 0 1 0'),
         ('both senses', header(3, 2) + b'3 0 -1 2 1 0'),
@@ -183,13 +183,13 @@ def sizes():
         ('entry 31001 in a new rule, negative', 7751, most + b'-1 0\n'),
         ('entry 31001 in the last rule', 7750, most[:-2] + b'5 0\n'),
         ('entry 31001 above N', 7751, most + b'9 0\n'),
-        ('entry 31001 twice in its rule', 7750, most[:-2] + b'1 0\n'),
+        ('a repeat after entry 31000', 7750, most[:-2] + b'1 0\n'),
         ('entry 31001 malformed', 7751, most + b'01 0\n'),
         ('entry 31001 after the last rule', 7750, most + b'1 0\n'),
         ('entry 31001 after the last rule, malformed', 7750, most + b'-0\n'),
         ('entry 31002', 7751, most + b'1 2 0\n'),
         ('entry 31000 above N', 7750, most[:-4] + b'9 0\n'),
-        ('entry 31000 twice in its rule', 7750, most[:-4] + b'1 0\n'),
+        ('a repeat after entry 30999', 7750, most[:-4] + b'1 0\n'),
         ('empty rules after entry 31000', 9000, most + b'0\n' * 1250),
         ('entry 31001 in rule 9000', 9000, most + b'0\n' * 1249 + b'1 0\n'),
         ('an empty rule too many after entry 31000', 9000, most + b'0\n' * 1251),
@@ -212,7 +212,7 @@ def rooms():
         read_rules('a list of 5, room for %d' % room, file, room)
     read_rules('an empty list, no room', header(3, 0), 0)
     read_rules('an empty list, room', header(3, 0), 3)
-    for text, body in (('3', b'1 x'), ('4', b'1 4'), ('5', b'1 1'), ('6', b'1 0'), ('6, open', b'1 0 2')):
+    for text, body in (('3', b'1 x'), ('4', b'1 4'), ('6', b'1 0'), ('6, open', b'1 0 2')):
         read_rules('cause %s, no room' % text, header(3, 2) + body, 0)
     read_rules('cause 1, no room', b'p cnf 3', 0)
     read_rules('cause 2, no room', header(641, 0), 0)

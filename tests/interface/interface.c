@@ -1,5 +1,5 @@
-/* The calls from C: document 01's examples, comment lines, the export to OPB, each call on its largest and deepest
- * input, the stack that each takes, and several threads at once. Also compiled as C++. */
+/* The calls from C: document 01's examples, comment lines, repeated entries, the export to OPB, each call on its
+ * largest and deepest input, the stack that each takes, and several threads at once. Also compiled as C++. */
 #include "powhanire.h"
 
 #include <pthread.h>
@@ -83,7 +83,7 @@ static void examples(void) {
     rule_file("", 1, 0);
     rule_file("p cnf 1 1\n-0 0", 3, 10);
     rule_file("p cnf 1 1\n2 0", 4, 10);
-    rule_file("p cnf 1 1\n1 -1 0", 5, 12);
+    rule_file("p cnf 1 1\n1 -1 0", 0, 0); /* by document 02, L3 */
     rule_file("p cnf 1 1\n1", 6, 11);
     /* document 02, L1: comment lines between the rules */
     one_rule("p cnf 1 1\nc a heading\n1 0\n");
@@ -97,6 +97,33 @@ static void examples(void) {
     is("no list", powhanire_plain(1, NULL, 0, choice, 1), 0, 0, 1, 0, 0, 0);
     is("no room", powhanire_rewrite(1, one_or_two, 0, on, 1, 0, NULL, 0), 15, 2, 0, 0, 0, 0);
     is("no row", powhanire_check(1, NULL, 0, NULL, 0, NULL, 0), 11, 0, 0, 0, 0, 0);
+}
+
+/* Document 02, L3: an equal entry of a file is stored once, opposite entries are both stored; a lent list may hold the
+ * opposite, and is refused at the second of two equal ones. */
+static void repeated_entries(void) {
+    static const char file[] = "p cnf 2 2\n2 1 2 -1 1 0\n-2 -2 0\n";
+    static const int32_t stored[] = {2, 1, -1, 0, -2, 0}, equal[] = {1, -1, 0, 2, -1, 2, 0};
+    static const uint8_t on[] = {1, 1};
+    uint8_t choice[2] = {9, 9};
+
+    one_rule("p cnf 1 1\n1 1 0\n");
+    is("no room", powhanire_read_rules((const uint8_t *)file, strlen(file), out_rules, 5), 15, 6, 0, 0, 0, 0);
+    is("repeats", powhanire_read_rules((const uint8_t *)file, strlen(file), out_rules, 6), 0, 0, 1, 2, 2, 6);
+    expect(memcmp(out_rules, stored, sizeof stored) == 0, "each entry once, at its first place");
+    rule_file("p cnf 1 1\n1 1", 6, 13);
+    rule_file("p cnf 1 1\n1 -1 2 0", 4, 15);
+
+    is("nearest 1", powhanire_nearest(2, stored, 6, on, 2, choice, 2), 0, 0, 1, 1, 0, 0);
+    expect(choice[0] == 1 && choice[1] == 0, "the rule of both senses asks nothing");
+    is("it is met", powhanire_check(2, stored, 6, on, 2, choice, 2), 0, 0, 1, 1, 0, 0);
+    is("checked", powhanire_check(2, equal, 7, on, 2, choice, 2), 13, 5, 0, 0, 0, 0);
+    is("searched", powhanire_search(2, equal, 7, on, 2, 1, choice, 2), 13, 5, 0, 0, 0, 0);
+    is("plain", powhanire_plain(2, equal, 7, choice, 2), 13, 5, 0, 0, 0, 0);
+    is("nearest", powhanire_nearest(2, equal, 7, on, 2, choice, 2), 13, 5, 0, 0, 0, 0);
+    is("written", powhanire_write_rules(2, equal, 7, out_file, RULE_FILE), 13, 5, 0, 0, 0, 0);
+    is("rewritten", powhanire_rewrite(2, equal, 7, on, 2, 1, out_rewritten, REWRITTEN), 13, 5, 0, 0, 0, 0);
+    is("exported", powhanire_write_opb(2, equal, 7, on, 2, 1, out_opb, OPB_FILE), 13, 5, 0, 0, 0, 0);
 }
 
 /* The rewriting program's example, through five calls. */
@@ -322,6 +349,7 @@ int main(void) {
     struct rlimit limit;
     expect(getrlimit(RLIMIT_STACK, &limit) == 0 && limit.rlim_cur <= STACK, "run under `ulimit -s 1024`");
     examples();
+    repeated_entries();
     rewriting_example();
     opb_example();
     build();

@@ -45,8 +45,8 @@ class Shelf:
         settings = sorted(self.draw.sample(range(1, n + 1), count))
         return {setting: self.draw.choice(marks) for setting in settings}
 
-    def turn(self, problem, most=14):
-        """A book with as many wishes and such a limit as is its turn."""
+    def turn(self, problem, most=14, changed=lambda problem, wishes: problem):
+        """A book with as many wishes and such a limit as is its turn; its rules may be changed for its wishes."""
         turn, n, draw = len(self.books), problem[0], self.draw
         most = min(n, most)
         some = draw.between((most + 1) // 2, most)
@@ -54,7 +54,8 @@ class Shelf:
         marks = ((0, 1), (1,), (0, 1), (0,), (1,))[turn % 5]
         limit = (0, count // 2, count, count // 3, count + 1, draw.between(0, 64), 64, 1)[turn % 8]
         limits = EVERY if turn % 8 == 0 else count + 2
-        self.add(problem, self.wishes(n, count, marks), limit, limits)
+        wishes = self.wishes(n, count, marks)
+        self.add(changed(problem, wishes), wishes, limit, limits)
 
 
 def document():
@@ -192,6 +193,38 @@ def many():
     return shelf
 
 
+def repeats():
+    """Books of several kinds with repeated entries: as they are, with both senses of a setting in some rules, and with
+    rules that are nothing else."""
+    shelf = Shelf('repeats')
+    draw = shelf.draw
+    again = lambda problem, wishes: kinds.with_repeats(draw, problem, wishes)
+    shelf.add((2, [[1, 2, 1]]), {1: 0, 2: 0}, 1)
+    shelf.add((1, [[1, -1]]), {1: 0}, 0)
+    shelf.add((1, [[-1, 1, -1], [1, 1]]), {1: 0}, 0)
+    shelf.add((3, [[1, 2, 2], [-3, 3], [-1, -1, -3, -1], [3, -2, 3]]), {1: 0, 2: 0, 3: 0}, 1)
+    shelf.add((4, [[v, -v] for v in (1, 2, 3, 4)]), {2: 1, 4: 0}, 0)
+    shelf.add((3, [[1, 1, -2, 1], [], [2, -2]]), {1: 1}, 1)
+    for problem in (
+        lambda: kinds.clauses(draw, 40, 300, 3),
+        lambda: kinds.clauses(draw, 20, 430, 3),
+        lambda: kinds.clauses(draw, 15, 600, 3),
+        lambda: kinds.clauses(draw, 64, 100, 2),
+        lambda: kinds.mixed(draw, 21, 50, 5),
+        lambda: kinds.horn(draw, 64, 128, 8, 40),
+        lambda: kinds.maker(draw, 6, 4, 18, 50),
+        lambda: kinds.pigeons(4, 3),
+        lambda: kinds.parity(draw, 12, 9),
+        lambda: kinds.signs(4, draw.sample(range(16), len(shelf.books) % 2)),
+    ):
+        shelf.turn(problem(), changed=again)
+        shelf.turn(kinds.with_opposites(draw, problem()), changed=again)
+        shelf.turn(kinds.with_senses(draw, problem(), 12), changed=again)
+    wide = [sense * setting for setting in range(1, 257) for sense in (1, -1)]
+    shelf.add((256, [wide, [-256, -1, -256], [1, 1, 256]]), {1: 1, 100: 0, 256: 1}, 0, 5)
+    return shelf
+
+
 def main():
     shelves = [
         document(),
@@ -210,6 +243,7 @@ def main():
         free(),
         sixty_four(),
         many(),
+        repeats(),
     ]
     text = b''.join(books.frame(book) for shelf in shelves for book in shelf.books)
     books.STDIN.write_bytes(text)

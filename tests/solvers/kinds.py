@@ -87,3 +87,40 @@ def with_empty(draw, problem):
     n, rules = problem
     at = draw.between(0, len(rules))
     return n, rules[:at] + [[]] + rules[at:]
+
+
+def with_repeats(draw, problem, wishes):
+    """The same with one or two entries of most rules again, anywhere behind their first place; those of wished settings
+    where a rule has some."""
+    n, rules = problem
+    repeated = []
+    for rule in rules:
+        repeated.append(list(rule))
+        places = [i for i, entry in enumerate(rule) if abs(entry) in wishes] or range(len(rule))
+        for entry in [rule[draw.choice(places)] for _ in range(draw.between(0, 2)) if places]:
+            first = repeated[-1].index(entry)
+            repeated[-1].insert(draw.between(first + 1, len(repeated[-1])), entry)
+    return n, repeated
+
+
+def with_opposites(draw, problem):
+    """The same with the opposite of an entry in every fifth rule, which is then always met."""
+    n, rules = problem
+    opposed = []
+    for rule in rules:
+        opposed.append(list(rule))
+        if rule and draw.below(5) == 0:
+            opposed[-1].insert(draw.between(0, len(rule)), -draw.choice(rule))
+    return n, opposed
+
+
+def with_senses(draw, problem, count):
+    """The same with so many rules between the others that are both senses of a setting, every other one with a further
+    entry: they ask nothing."""
+    n, rules = problem
+    rules = list(rules)
+    for i in range(count):
+        one, other = draw.choice(range(1, n + 1)), draw.choice(range(1, n + 1))
+        rule = draw.shuffled([one, -one] + ([other] if i % 2 and one != other else []))
+        rules.insert(draw.between(0, len(rules)), rule)
+    return n, rules

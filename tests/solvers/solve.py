@@ -7,6 +7,8 @@ cadical and minisat get the given rule file, and the rewritten one for each limi
 above that it is the same file. The reference of tests/interface rewrites. clasp and Sat4j get the very bytes that the
 program `opb` of this repository prints (`rt check opb` builds it), for the limits at which `routes` exports the book;
 the reference must print the same.
+A book's rule file may repeat entries and have both senses of a setting in a rule, and the exported lines have the
+latter too. PROBES says how the solvers must read such files, and is tried first.
 Debian's packages clasp, cadical, minisat and sat4j have the four programs."""
 
 import pathlib
@@ -33,14 +35,34 @@ COMMANDS = {
 # The exit statuses of the SAT competitions; clasp has 30 where it sees besides that the choice is the only one.
 VERDICTS = {10: SATISFIABLE, 20: UNSATISFIABLE, 30: SATISFIABLE}
 
+# A clause that has a literal twice asks what it asks without the second, and one with both senses of a variable asks
+# nothing. In a line of OPB the terms of a variable are summed: x1 - x1 is 0, and x1 + x1 can be 2.
+PROBES = {
+    ('cadical', 'minisat'): [
+        (b'p cnf 1 1\n1 -1 0\n', SATISFIABLE),
+        (b'p cnf 1 2\n1 1 0\n-1 -1 0\n', UNSATISFIABLE),
+        (b'p cnf 2 3\n1 -1 2 0\n-2 -2 0\n1 2 1 0\n', SATISFIABLE),
+        (b'p cnf 2 4\n1 -1 2 0\n-2 -2 0\n1 2 1 0\n2 -1 -1 0\n', UNSATISFIABLE),
+    ],
+    ('clasp', 'sat4j'): [
+        (b'* #variable= 1 #constraint= 1\n+1 x1 -1 x1 >= 0 ;\n', SATISFIABLE),
+        (b'* #variable= 1 #constraint= 1\n+1 x1 -1 x1 >= 1 ;\n', UNSATISFIABLE),
+        (b'* #variable= 1 #constraint= 1\n+1 x1 +1 x1 >= 2 ;\n', SATISFIABLE),
+        (b'* #variable= 1 #constraint= 1\n+1 x1 +1 ~x1 >= 1 ;\n', SATISFIABLE),
+        (b'* #variable= 1 #constraint= 1\n+1 x1 +1 ~x1 >= 2 ;\n', UNSATISFIABLE),
+        (b'* #variable= 2 #constraint= 2\n+1 x1 -1 x1 -1 x2 >= -1 ;\n+1 x2 >= 1 ;\n', SATISFIABLE),
+        (b'* #variable= 2 #constraint= 2\n+1 x1 -1 x1 -1 x2 >= 0 ;\n+1 x2 >= 1 ;\n', UNSATISFIABLE),
+    ],
+}
+
 
 def fail(book, *words):
     sys.exit('%s: %s' % (book.name, ' '.join(map(str, words))))
 
 
 def pseudo_boolean(n, rules, wishes):
-    """The problem in the format OPB: each rule a sum of at least 1, the broken wishes to be the fewest. An empty
-    rule is a sum that cannot be met."""
+    """The problem in the format OPB: each rule a sum of at least 1, the broken wishes to be the fewest. An entry that
+    stands twice in a rule stands twice in the sum. An empty rule is a sum that cannot be met."""
     entry = lambda x: '+1 %sx%d' % ('~' if x < 0 else '', abs(x))
     lines = ['* #variable= %d #constraint= %d' % (n, len(rules))]
     if wishes:
@@ -82,6 +104,16 @@ def verdicts(book, solver, folder, files):
     return ''.join(verdict(book, solver, folder, file) for file in files)
 
 
+def probe(folder):
+    """Stops where a solver does not read repeated and opposite entries as it must."""
+    for solvers, files in PROBES.items():
+        for solver in solvers:
+            for file, right in files:
+                found = verdict(books.Book('probe', 0, b'', b''), solver, folder, file)
+                if found != right:
+                    sys.exit('%s says %s of %r' % (solver, found, file))
+
+
 def by_least(least, limits):
     """The verdicts that the least number of broken wishes gives for some limits."""
     return ''.join(UNSATISFIABLE if least is None or least > d else SATISFIABLE for d in limits)
@@ -110,8 +142,9 @@ def rewritten(book, folder, n, wishes, least):
 
 
 def empty_place(rules):
-    """The place in the rule list of the first empty rule's closing zero, None where no rule is empty."""
-    lengths = [len(rule) for rule in rules]
+    """The place in the rule list of the first empty rule's closing zero, None where no rule is empty. In the list an
+    equal entry is stored once."""
+    lengths = [len(set(rule)) for rule in rules]
     return sum(length + 1 for length in lengths[: lengths.index(0)]) if 0 in lengths else None
 
 
@@ -167,6 +200,7 @@ def main():
         '# them can be satisfied; or the number and the place of their refusal.',
     ]
     with tempfile.TemporaryDirectory() as folder:
+        probe(pathlib.Path(folder))
         lines += [solved(book, pathlib.Path(folder)) for book in books.read()]
     books.RESULTS.write_text(''.join(line + '\n' for line in lines), encoding='ascii')
 

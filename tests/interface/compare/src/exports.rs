@@ -7,6 +7,7 @@ use reference::opb;
 
 pub const GROUPS: &[crate::Group] = &[
     ("OPB: tiny books, every d, every choice", 2_000, tiny),
+    ("OPB: opposite entries, every choice", 1_000, opposites),
     ("OPB: every room", 200, every_room),
     ("OPB: K around 0", 1, around_zero),
     ("OPB: every number of wishes", 1, every_count),
@@ -27,14 +28,11 @@ fn export(both: &mut Both, random: &mut Random, n: usize, rules: &[i32], row: &[
 }
 
 /// "A choice satisfies the lines exactly when it meets the rules within d", by the library's checking call.
-fn tiny(both: &mut Both, random: &mut Random) {
-    let n = 1 + random.below(5);
-    let (rules, wishes) = (random.below(2 * n), random.below(n + 1));
-    let (list, row) = (random.book(n, rules, 1, 3.min(n)), random.row(n, wishes));
+fn every_choice(both: &mut Both, n: usize, list: &[i32], row: &[u8]) {
     let choices: Vec<Vec<u8>> = (0..1 << n).map(|bits| (0..n).map(|v| (bits >> v & 1) as u8).collect()).collect();
-    let checked: Vec<_> = choices.iter().map(|choice| both.check(n as u64, &list, &row, choice)).collect();
+    let checked: Vec<_> = choices.iter().map(|choice| both.check(n as u64, list, row, choice)).collect();
     for d in (0..=n as u64 + 1).chain([64]) {
-        let (answer, file) = both.write_opb(n as u64, &list, &row, d, 1_000);
+        let (answer, file) = both.write_opb(n as u64, list, row, d, 2_000);
         let read = opb::read(&file[..answer.value[0] as usize]);
         both.hold(read.as_ref().is_some_and(|r| r.0 == n), || "the file has no such lines".to_string());
         let lines = read.map_or(vec![], |r| r.1);
@@ -44,6 +42,21 @@ fn tiny(both: &mut Both, random: &mut Random) {
             both.hold(satisfied == within, || format!("rules {list:?} row {row:?} d {d}: the lines on {choice:?}"));
         }
     }
+}
+
+fn tiny(both: &mut Both, random: &mut Random) {
+    let n = 1 + random.below(5);
+    let (rules, wishes) = (random.below(2 * n), random.below(n + 1));
+    let (list, row) = (random.book(n, rules, 1, 3.min(n)), random.row(n, wishes));
+    every_choice(both, n, &list, &row);
+}
+
+fn opposites(both: &mut Both, random: &mut Random) {
+    let n = 1 + random.below(4);
+    let (rules, wishes) = (1 + random.below(3 * n), random.below(n + 1));
+    let list = random.book(n, rules, 1, 3.min(n));
+    let (list, row) = (random.oppose(&list), random.row(n, wishes));
+    every_choice(both, n, &list, &row);
 }
 
 fn every_room(both: &mut Both, random: &mut Random) {
@@ -93,6 +106,10 @@ fn around_zero(both: &mut Both, random: &mut Random) {
     }
     let all: Vec<i32> = (1..=256).map(|v| -v).chain([0]).collect();
     export(both, random, 256, &all, &free, 0);
+    for count in [1, 2, 9, 10, 11, 99, 100, 101, 102, 256] {
+        let senses: Vec<i32> = (1..=count).flat_map(|v| [v, -v]).chain([0]).collect();
+        export(both, random, 256, &senses, &free, 0);
+    }
     for on in 0..=4 {
         for off in 0..=4 {
             for d in 0..=9 {

@@ -1,7 +1,7 @@
 //! The calls that read and write files.
 
 use crate::both::Both;
-use crate::random::Random;
+use crate::random::{without_repeats, Random};
 
 pub const GROUPS: &[crate::Group] = &[
     ("rule files: sound", 3_000, sound_rule_file),
@@ -10,6 +10,10 @@ pub const GROUPS: &[crate::Group] = &[
     ("rule files: every byte at every place", 1, every_byte),
     ("rule files: comments", 1_000, comments),
     ("rule files: megabytes of comments", 1, long_comments),
+    ("rule files: repeats and opposites", 4_000, repeats),
+    ("rule files: repeats and opposites, damaged", 10_000, damaged_repeats),
+    ("rule files: repeats at the limits", 1, repeats_at_limits),
+    ("rule files: megabytes of repeats", 1, many_repeats),
     ("rule files: random bytes", 20_000, random_bytes),
     ("rule files: limits", 1, limits),
     ("wish files: numbers", 20_000, wish_numbers),
@@ -118,6 +122,7 @@ fn bytes_everywhere(file: &[u8], mut judge: impl FnMut(&[u8])) {
 fn every_byte(both: &mut Both, random: &mut Random) {
     bytes_everywhere(b"c x\np cnf 12 3\n1 -2 0\t0\r\n-12 3 0", |file| read_and_write(both, random, file));
     bytes_everywhere(b"p cnf 3 2\nc 0\n1\ncc\r-2 0\n-2 0\r\n3 0 \nc", |file| read_and_write(both, random, file));
+    bytes_everywhere(b"p cnf 12 2\n1 -1 11 1 0\n-12 2 -12 -2 0\n", |file| read_and_write(both, random, file));
 }
 
 /// A comment put in at each place of a file. At a line's beginning it changes nothing that is read; without its line
@@ -160,6 +165,86 @@ fn long_comments(both: &mut Both, random: &mut Random) {
     both.read_rules(&[b"p cnf 2 0\n", &long[..long.len() - 1]].concat(), 0);
     let at = random.below(many.len());
     both.read_rules(&[b"p cnf 2 0\n", &many[..at]].concat(), 0);
+}
+
+/// The book of a file that may have equal and opposite entries in a rule.
+fn loose_book(random: &mut Random) -> (usize, Vec<i32>) {
+    let n = random.of(&[1, 2, 3, 9, 10, 100, 640]);
+    let (rules, longest) = (random.below(12), random.below(16));
+    (n, random.loose_book(n, rules, longest))
+}
+
+/// A file with repeats reads as one without them, whatever blanks and comments each has.
+fn repeats(both: &mut Both, random: &mut Random) {
+    let (n, list) = loose_book(random);
+    let once = without_repeats(&list);
+    let (file, twin) = (random.rule_file(n, &list), random.rule_file(n, &once));
+    let read = both.read_rules(&file, once.len());
+    both.hold(read.1 == once, || format!("of {list:?} is read {:?}", read.1));
+    let same = read == both.read_rules(&twin, once.len());
+    both.hold(same, || format!("{list:?} and the same without repeats are read otherwise"));
+    read_and_write(both, random, &file);
+}
+
+fn damaged_repeats(both: &mut Both, random: &mut Random) {
+    let (n, list) = loose_book(random);
+    let mut file = random.rule_file(n, &list);
+    random.damage_rule_file(&mut file);
+    read_and_write(both, random, &file);
+}
+
+/// A file of 31,000 entries whose last rule is then kept open: repeats, new entries and tokens that are at fault.
+fn open_at_limit(both: &mut Both, random: &mut Random, file: &[u8], last: i32) {
+    let open = file.strip_suffix(b"0\n").unwrap();
+    for more in [
+        format!("{last} 0"),
+        format!("{last} {last} 0"),
+        format!("{last}"),
+        format!("{last} {} 0", -last),
+        format!("{last} 600 0"),
+        format!("{last} 0 {last}"),
+        format!("{last} 0 0"),
+        format!("{last} 641 0"),
+        format!("{last} 0{last} 0"),
+        "641 0".to_string(),
+        "-0 0".to_string(),
+        "300 -300 0".to_string(),
+    ] {
+        read_and_write(both, random, &[open, more.as_bytes()].concat());
+    }
+}
+
+/// 31,000 entries in as many rules as there can be, and in rules of both senses of every setting; each file as it is,
+/// and with the entries of each rule once more.
+fn repeats_at_limits(both: &mut Both, random: &mut Random) {
+    let short: Vec<i32> = (0..9_000).flat_map(|r| (0..3 + (r < 4_000) as i32).map(|k| k - 640).chain([0])).collect();
+    let senses: Vec<i32> = (1..=640).flat_map(|v| [v, -v]).collect();
+    let long = [&[&senses[..], &[0]].concat().repeat(24), &senses[..280], &[0]].concat();
+    for list in [&short, &long] {
+        let twice = |rule: &[i32]| [&rule[..rule.len() - 1], rule].concat();
+        let doubled: Vec<i32> = list.split_inclusive(|&e| e == 0).flat_map(twice).collect();
+        let rules = list.iter().filter(|&&e| e == 0).count();
+        assert_eq!((list.len() - rules, without_repeats(&doubled) == *list), (31_000, true));
+        for tokens in [list, &doubled] {
+            let file = text(640, rules, tokens);
+            read_and_write(both, random, &file);
+            let read = both.read_rules(&file, list.len());
+            both.hold(read.1 == *list, || "repeats at the limit alter what is read".to_string());
+            open_at_limit(both, random, &file, list[list.len() - 2]);
+        }
+    }
+}
+
+/// Megabytes of repeats in an open rule, with and without a fault behind them.
+fn many_repeats(both: &mut Both, _: &mut Random) {
+    for (gap, stored) in [("1 ".repeat(2_000_000), 2), ("-2 1 2 -1 ".repeat(400_000), 5)] {
+        for rest in ["0\n", "0", "01 0", "3 0", "", "0 1"] {
+            let file = format!("p cnf 2 1\n1 {gap}{rest}");
+            let (answer, _) = both.read_rules(file.as_bytes(), stored);
+            both.hold((answer.refusal == 0) == ["0\n", "0"].contains(&rest), || format!("{rest:?} behind repeats"));
+            both.read_rules(file.as_bytes(), stored - 1);
+        }
+    }
 }
 
 fn random_bytes(both: &mut Both, random: &mut Random) {

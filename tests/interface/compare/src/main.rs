@@ -36,7 +36,7 @@ fn main() {
 /// The refusals and verdicts that each call can give; one that never came was never compared.
 fn every_answer_was_seen(both: &mut Both) {
     let expected: [(&str, &[u64], &[u64]); 10] = [
-        ("read_rules", &[1, 2, 3, 4, 5, 6, 7, 15], &[1]),
+        ("read_rules", &[1, 2, 3, 4, 6, 7, 15], &[1]),
         ("write_rules", &[13, 14, 15], &[1]),
         ("read_wishes", &[8, 9, 10, 15], &[1]),
         ("write_wishes", &[11, 12, 13, 14, 15], &[1]),

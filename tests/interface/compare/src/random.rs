@@ -1,5 +1,8 @@
 //! Inputs from a fixed seed: books, rows, files, and the damage done to them.
 
+use reference::walk::rules_of;
+use std::collections::BTreeSet;
+
 /// splitmix64
 pub struct Random(pub u64);
 
@@ -46,6 +49,38 @@ impl Random {
             list.push(0);
         }
         list
+    }
+
+    /// A list of `rules` rules in which few settings come often, so that entries meet their equals and opposites.
+    pub fn loose_book(&mut self, n: usize, rules: usize, longest: usize) -> Vec<i32> {
+        let few = 1 + self.below(6);
+        let few = self.rule(n, few);
+        let mut list = Vec::new();
+        for _ in 0..rules {
+            for _ in 0..self.below(longest + 1) {
+                let entry = self.of(&few);
+                list.push(if self.once_in(2) { entry } else { -entry });
+            }
+            list.push(0);
+        }
+        list
+    }
+
+    /// The list with the opposite of an entry in some of its rules, anywhere in the rule.
+    pub fn oppose(&mut self, list: &[i32]) -> Vec<i32> {
+        let mut opposed = Vec::new();
+        for rule in rules_of(list) {
+            let mut rule = rule.to_vec();
+            while !rule.is_empty() && self.once_in(3) {
+                let (opposite, at) = (-self.of(&rule), self.below(rule.len() + 1));
+                if !rule.contains(&opposite) {
+                    rule.insert(at, opposite);
+                }
+            }
+            opposed.extend(rule);
+            opposed.push(0);
+        }
+        opposed
     }
 
     /// A row with `wishes` wishes.
@@ -166,11 +201,12 @@ impl Random {
         let values =
             [0, 1, -1, n, -n, n.wrapping_add(1), -n - 1, 640, 641, -641, i32::MAX, i32::MIN, i32::MIN + 1, 1 << 30];
         let at = self.below(list.len() + 1);
-        match self.below(6) {
+        match self.below(7) {
             0 | 1 if at < list.len() => list[at] = self.of(&values),
             2 if at < list.len() => drop(list.remove(at)),
             3 if at > 0 => list.insert(at, -list[at - 1]),
-            4 => drop(list.pop()),
+            4 if at > 0 => list.insert(at, list[at - 1 - self.below(at.min(3))]),
+            5 => drop(list.pop()),
             _ => list.insert(at, self.of(&values)),
         }
     }
@@ -202,4 +238,22 @@ pub fn ladder(n: usize) -> Vec<i32> {
         }
     }
     list
+}
+
+/// The list without the entries that stand in their rule already.
+pub fn without_repeats(list: &[i32]) -> Vec<i32> {
+    let mut seen = BTreeSet::new();
+    let first = |&&e: &&i32| {
+        if e == 0 {
+            seen.clear();
+        }
+        e == 0 || seen.insert(e)
+    };
+    list.iter().filter(first).copied().collect()
+}
+
+/// The list without the rules that hold both senses of a setting.
+pub fn without_opposites(list: &[i32]) -> Vec<i32> {
+    let kept = rules_of(list).into_iter().filter(|rule| rule.iter().all(|e| !rule.contains(&-e)));
+    kept.flat_map(|rule| [rule, &[0]].concat()).collect()
 }

@@ -2,7 +2,7 @@
 
 use crate::both::Both;
 use crate::files::rooms;
-use crate::random::{ladder, Random};
+use crate::random::{ladder, without_opposites, Random};
 use reference::lent::wish_count;
 use reference::{totalizer, walk};
 
@@ -10,6 +10,9 @@ pub const GROUPS: &[crate::Group] = &[
     ("searches: tiny books, every d", 4_000, tiny),
     ("searches: small books, every d", 400, small),
     ("searches: long and short rules", 300, long_rules),
+    ("searches: opposite entries, every d", 3_000, opposites),
+    ("searches: opposite entries, more settings", 400, more_opposites),
+    ("searches: opposite entries in long rules", 300, long_opposites),
     ("searches: thousands of forks", 20, many_forks),
     ("searches: 64 wishes, d from 0 to 65", 8, many_wishes),
     ("searches: books of the file's size", 40, plain_large),
@@ -89,6 +92,46 @@ fn long_rules(both: &mut Both, random: &mut Random) {
     }
     let wishes = random.below(n + 1);
     let row: Vec<u8> = random.row(n, wishes).iter().map(|&w| if random.once_in(4) { w } else { w & 2 }).collect();
+    both.plain(n as u64, &list, n);
+    both.nearest(n as u64, &list, &row, n);
+    for d in 0..4 {
+        both.search(n as u64, &list, &row, d, n);
+    }
+}
+
+/// "Opposite entries are both stored, and such a rule is always met": without such rules a book has the same answers.
+fn same_without_opposites(both: &mut Both, n: usize, list: &[i32], row: &[u8]) {
+    let fewer = without_opposites(list);
+    let near = both.nearest(n as u64, list, row, n).0 == both.nearest(n as u64, &fewer, row, n).0;
+    let plain = both.plain(n as u64, list, n).0 == both.plain(n as u64, &fewer, n).0;
+    both.hold(near && plain, || format!("rules of both senses count in {list:?} with {row:?}"));
+}
+
+fn opposites(both: &mut Both, random: &mut Random) {
+    let n = 1 + random.below(6);
+    let (rules, wishes) = (1 + random.below(6 * n), random.below(n + 1));
+    let list = random.book(n, rules, (rules % 7 != 0) as usize, 3.min(n));
+    let (list, row) = (random.oppose(&list), random.row(n, wishes));
+    routes(both, random, n, &list, &row, &every_d(&row));
+    same_without_opposites(both, n, &list, &row);
+}
+
+fn more_opposites(both: &mut Both, random: &mut Random) {
+    let n = 7 + random.below(12);
+    let (rules, wishes) = (n * (15 + random.below(50)) / 10, random.below(n + 1));
+    let longest = 2 + random.below(5);
+    let list = random.book(n, rules, 2, longest);
+    let (list, row) = (random.oppose(&list), random.row(n, wishes));
+    routes(both, random, n, &list, &row, &every_d(&row));
+    same_without_opposites(both, n, &list, &row);
+}
+
+/// Rules of eight to thirteen entries, both senses of a setting among them, and short ones beside them.
+fn long_opposites(both: &mut Both, random: &mut Random) {
+    let n = 10 + random.below(10);
+    let (rules, wishes) = (2 + random.below(2 * n), random.below(n + 1));
+    let list = [random.book(n, rules, 7, 10), random.book(n, 2 * n, 2, 3)].concat();
+    let (list, row) = (random.oppose(&list), random.row(n, wishes));
     both.plain(n as u64, &list, n);
     both.nearest(n as u64, &list, &row, n);
     for d in 0..4 {

@@ -2,12 +2,13 @@
 
 use crate::both::Both;
 use crate::files::a_room;
-use crate::random::Random;
+use crate::random::{without_repeats, Random};
 
 pub const GROUPS: &[crate::Group] = &[
     ("values: all lists to length 5", 1, all_lists),
     ("values: all rows to length 4", 1, all_rows),
     ("values: some faults", 60_000, faults),
+    ("values: opposite and equal entries", 20_000, opposites_and_equals),
     ("values: huge n and d", 1, huge),
     ("values: limits", 1, limits),
     ("values: very long buffers", 1, very_long),
@@ -95,6 +96,28 @@ fn faults(both: &mut Both, random: &mut Random) {
     every_call(both, random, n as u64, &list, &row, d, &choice);
 }
 
+/// Lists of opposite entries, which every call takes, and the same with an entry once more in its rule, which none
+/// takes: "first bad index".
+fn opposites_and_equals(both: &mut Both, random: &mut Random) {
+    let n = random.of(&[1, 2, 3, 5, 64, 256]);
+    let (rules, longest) = (1 + random.below(5), 1 + random.below(8));
+    let mut list = without_repeats(&random.loose_book(n, rules, longest));
+    let (wishes, d, choice) = (random.below(6), random.below(6) as u64, random.choice(n));
+    let row = random.row(n, wishes);
+    let checked = both.check(n as u64, &list, &row, &choice);
+    both.hold(checked.refusal == 0, || format!("refused with opposite entries: {list:?}"));
+    every_call(both, random, n as u64, &list, &row, d, &choice);
+    let at = random.below(list.len());
+    if list[at] != 0 {
+        let rest = list[at..].iter().position(|&e| e == 0).unwrap();
+        let second = at + 1 + random.below(rest);
+        list.insert(second, list[at]);
+        let checked = both.check(n as u64, &list, &row, &choice);
+        both.hold((checked.refusal, checked.place) == (13, second as u64), || format!("equal entries: {list:?}"));
+        every_call(both, random, n as u64, &list, &row, d, &choice);
+    }
+}
+
 fn huge(both: &mut Both, random: &mut Random) {
     let ns = [0, 1, 2, 640, 641, 1 << 31, 1 << 32, (1 << 32) + 2, 1 << 63, (1 << 63) + 2, u64::MAX - 1, u64::MAX];
     let ds = [0, 1, 64, 65, 255, 256, 1 << 32, (1 << 32) + 1, 1 << 63, u64::MAX];
@@ -135,6 +158,23 @@ fn limits(both: &mut Both, random: &mut Random) {
         }
         for n in [1, 3, 4] {
             every_call(both, random, n, &list, &vec![2; n as usize], 0, &vec![1; n as usize]);
+        }
+    }
+    // the same limits with opposite entries, and equal ones around entry 31,000
+    let (senses, more, equal) = ([3, -3, 1, -1, 0], &[2, -2, 0][..], &[1, -1, 3, 1, 0][..]);
+    let last_equal = &[1, -1, 3, -3, 3, 0][..];
+    for (rules, last) in [
+        (4_096, &[][..]),
+        (4_095, more),
+        (4_096, more),
+        (7_750, &[]),
+        (7_750, more),
+        (7_749, equal),
+        (7_749, last_equal),
+    ] {
+        let list = [&senses.repeat(rules)[..], last].concat();
+        for row in [[2, 2, 2], [0, 1, 2]] {
+            every_call(both, random, 3, &list, &row, 1, &[0, 0, 1]);
         }
     }
     // empty rules, closed up to the limit and past it, with and without the last zero

@@ -24,7 +24,8 @@ pub fn n_and_d(n: u64, d: u64) -> Result<(), Refusal> {
     }
 }
 
-/// 13 for a rule list, with n already known to be at most 640.
+/// 13 for a rule list, with n already known to be at most 640. Document 02, L3: "Lent lists may hold opposite entries
+/// but not equal ones."
 pub fn rules(n: u64, list: &[i32]) -> Result<(), Refusal> {
     let (mut closed, mut entries, mut start) = (0, 0, 0);
     for (at, &e) in list.iter().enumerate() {
@@ -35,7 +36,7 @@ pub fn rules(n: u64, list: &[i32]) -> Result<(), Refusal> {
             entries += 1;
         }
         let outside = e.unsigned_abs() as u64 > n;
-        let repeated = list[start..at.max(start)].iter().any(|f| f.unsigned_abs() == e.unsigned_abs());
+        let repeated = list[start..at.max(start)].contains(&e);
         if outside || repeated || entries > MAX_ENTRIES || closed > MAX_RULES {
             return refuse(13, at);
         }

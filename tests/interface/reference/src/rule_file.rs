@@ -1,4 +1,5 @@
-//! The rule file: a narrowed DIMACS CNF, with document 02's comment lines between the rules (L1).
+//! The rule file: a narrowed DIMACS CNF, with document 02's comment lines between the rules (L1) and repeated and
+//! opposite entries in them (L3).
 
 use crate::lent::{refuse, Refusal, MAX_ENTRIES, MAX_N, MAX_RULES};
 
@@ -57,7 +58,8 @@ fn without_comments(file: &[u8], mut at: usize) -> Vec<u8> {
     blanked
 }
 
-pub fn read(file: &[u8]) -> Result<Book, Refusal> {
+/// N, C and where the header's line ends, past the comments before it.
+fn read_header(file: &[u8]) -> Result<(u64, u64, usize), Refusal> {
     let mut at = 0;
     while file.get(at) == Some(&b'c') {
         let (text, ended) = line(file, at);
@@ -71,11 +73,16 @@ pub fn read(file: &[u8]) -> Result<Book, Refusal> {
     if !(1..=MAX_N).contains(&n) || c > MAX_RULES as u64 {
         return refuse(2, at);
     }
-    at += text.len() + 1;
+    Ok((n, c, at + text.len() + 1))
+}
+
+pub fn read(file: &[u8]) -> Result<Book, Refusal> {
+    let (n, c, mut at) = read_header(file)?;
     let file = &without_comments(file, at)[..];
 
     let mut list: Vec<i32> = Vec::new();
-    let (mut closed, mut start) = (0, 0);
+    let mut open: Vec<i32> = Vec::new(); // the entries of the rule that is not closed yet
+    let (mut closed, mut entries) = (0, 0);
     loop {
         while at < file.len() && blank(file[at]) {
             at += 1;
@@ -88,23 +95,25 @@ pub fn read(file: &[u8]) -> Result<Book, Refusal> {
         if closed == c {
             return refuse(6, at);
         }
-        if entry != 0 && list.len() - closed as usize == MAX_ENTRIES {
-            return refuse(7, at);
-        }
-        if entry.unsigned_abs() as u64 > n {
-            return refuse(4, at);
-        }
-        if list[start..].iter().any(|e| e.abs() == entry.abs()) {
-            return refuse(5, at);
-        }
-        list.push(entry);
         if entry == 0 {
+            list.append(&mut open);
+            list.push(0);
             closed += 1;
-            start = list.len();
+        } else if !open.contains(&entry) {
+            // L3: "An equal entry is stored once, at its first place. .. Entry counts are taken after dropping
+            // repeats."
+            if entries == MAX_ENTRIES {
+                return refuse(7, at);
+            }
+            if entry.unsigned_abs() as u64 > n {
+                return refuse(4, at);
+            }
+            open.push(entry);
+            entries += 1;
         }
         at += length;
     }
-    if closed < c || start < list.len() {
+    if closed < c || !open.is_empty() {
         return refuse(6, file.len());
     }
     Ok(Book { n, rules: c, list })

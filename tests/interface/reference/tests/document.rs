@@ -34,7 +34,7 @@ fn examples() {
         ("", 1, 0),
         ("p cnf 1 1\n-0 0", 3, 10),
         ("p cnf 1 1\n2 0", 4, 10),
-        ("p cnf 1 1\n1 -1 0", 5, 12),
+        ("p cnf 1 1\n1 -1 0", 0, 0), // by document 02, L3
         ("p cnf 1 1\n1", 6, 11),
         ("c one\nc two", 1, 11),
         ("c one\n\np cnf 1 0\n", 1, 6),
@@ -71,6 +71,109 @@ fn comments_between_rules() {
         ("p cnf 2 1\nc\r1 0\n", 6, 16),
     ] {
         assert_eq!(refused(read(file).0), (refusal, place), "{file:?}");
+    }
+}
+
+/// Document 02, L3: "An equal entry is stored once, at its first place. Opposite entries are both stored"
+#[test]
+fn repeated_entries() {
+    for (file, n, list) in [
+        ("p cnf 1 1\n1 -1 0", 1, &[1, -1, 0][..]),
+        ("p cnf 1 1\n1 1 0", 1, &[1, 0]),
+        ("p cnf 1 2\n-1 -1 -1 0 1 0", 1, &[-1, 0, 1, 0]),
+        ("p cnf 1 1\n-1 1 1 -1 0", 1, &[-1, 1, 0]),
+        ("p cnf 3 2\n3 1 -2 1 3 0\n3 -3 3 0\n", 3, &[3, 1, -2, 0, 3, -3, 0]),
+        ("p cnf 3 2\n1 2 0\n2 1 0", 3, &[1, 2, 0, 2, 1, 0]),
+        ("p cnf 2 1\n1\nc 2\n1\t2\r\n2 0", 2, &[1, 2, 0]),
+        ("p cnf 640 1\n640 -640 -640 640 0", 640, &[640, -640, 0]),
+    ] {
+        let (a, rules) = read(file);
+        let closed = list.iter().filter(|&&e| e == 0).count() as u64;
+        assert_eq!((a.refusal, a.value), (0, [n, closed, list.len() as u64]), "{file:?}");
+        assert_eq!(rules, list, "{file:?}");
+        let mut short = vec![9; list.len() - 1];
+        assert_eq!(refused(read_rules(file.as_bytes(), &mut short)), (15, list.len() as u64), "{file:?}");
+        assert!(short.iter().all(|&e| e == 9));
+    }
+    for (file, refusal, place) in [
+        ("p cnf 2 1\n1 1 01 0", 3, 14),
+        ("p cnf 2 1\n1 1 3 0", 4, 14),
+        ("p cnf 2 1\n3 3 0", 4, 10),
+        ("p cnf 2 1\n1 1", 6, 13),
+        ("p cnf 2 2\n1 1 0 2 2", 6, 19),
+        ("p cnf 2 1\n1 1 0 1", 6, 16),
+        ("p cnf 2 1\n1 1 0 -0", 3, 16),
+    ] {
+        assert_eq!(refused(read(file).0), (refusal, place), "{file:?}");
+    }
+}
+
+/// "Entry counts are taken after dropping repeats": 7 is for the 31,001st entry that is not one.
+#[test]
+fn repeats_are_no_entries() {
+    let open = format!("p cnf 9 7750\n{}1 2 3 4", "1 2 3 4 0\n".repeat(7_749));
+    let place = open.len() as u64 + 1;
+    for (rest, refusal, place) in [
+        (" 0", 0, 0),
+        (" 1 0", 0, 0),
+        (" 4 3 2 1 1 1 0", 0, 0),
+        (" 5 0", 7, place),
+        (" -1 0", 7, place),
+        (" 10 0", 7, place),
+        (" 1 4 5 0", 7, place + 4),
+        (" 1 10 0", 7, place + 2),
+        (" 1 05 0", 3, place + 2),
+        (" 1", 6, place + 1),
+        (" 1 0 1", 6, place + 4),
+    ] {
+        let (a, rules) = read(&(open.clone() + rest));
+        assert_eq!(refused(a), (refusal, place), "{rest:?}");
+        assert_eq!(rules.len(), if refusal == 0 { 38_750 } else { 0 });
+    }
+    let (a, _) = read(&format!("p cnf 9 7751\n{}5 0", "1 1 2 2 0\n".repeat(7_750)));
+    assert_eq!((a.refusal, a.value), (0, [9, 7_751, 23_252]));
+}
+
+/// "Lent lists may hold opposite entries but not equal ones."
+#[test]
+fn lent_lists_without_equal_entries() {
+    for (list, place) in [
+        (&[1, -1, 0][..], None),
+        (&[-2, 1, 2, -1, 0, 2, -2, 0], None),
+        (&[1, 2, 0, 1, 2, 0], None),
+        (&[1, 1, 0], Some(1)),
+        (&[-2, 1, 2, -2, 0], Some(3)),
+        (&[1, -1, 0, 2, 1, 2, 1, 0], Some(5)),
+        (&[1, 1], Some(1)),
+        (&[1, -1], Some(2)),
+    ] {
+        let expected = place.map_or((0, 0), |at| (13, at));
+        let (row, choice) = (&[0, 1][..], &mut [9; 2][..]);
+        assert_eq!(refused(check(2, list, row, &[0, 1])), expected);
+        assert_eq!(refused(search(2, list, row, 1, choice)), expected);
+        assert_eq!(refused(plain(2, list, choice)), expected);
+        assert_eq!(refused(nearest(2, list, row, choice)), expected);
+        assert_eq!(refused(forks(2, list, row, 1)), expected);
+        assert_eq!(refused(write_rules(2, list, &mut [9; 200])), expected);
+        assert_eq!(refused(rewrite(2, list, row, 1, &mut [9; 200])), expected);
+        assert_eq!(refused(write_opb(2, list, row, 1, &mut [9; 200])), expected);
+    }
+}
+
+/// "such a rule is always met", and in step 4 it is among "open rules holding v and -v", for both senses: settings 1
+/// and 2 score 2 times 4 to the power 8, and setting 3 scores 7 times.
+#[test]
+fn opposite_entries_in_the_walk() {
+    let rules = [1, 2, 0, 3, -3, 0];
+    let mut c = [9; 3];
+    assert_eq!(plain(3, &rules, &mut c).verdict, 1);
+    assert_eq!(c, [1, 0, 1]);
+    assert_eq!(forks(3, &rules, &[2; 3], 0).value[0], 2);
+    // as the only rule it needs no fork, and breaks no wish
+    for row in [[0], [1]] {
+        assert_eq!(nearest(1, &[1, -1, 0], &row, &mut c[..1]), Answer { verdict: 1, ..Answer::default() });
+        assert_eq!(c[..1], row);
+        assert_eq!(forks(1, &[-1, 1, 0], &row, 0), Answer { verdict: 1, ..Answer::default() });
     }
 }
 
@@ -111,20 +214,35 @@ impl Random {
         (self.0 >> 33) % bound
     }
 
+    /// Every other book may hold opposite entries in a rule.
     fn book(&mut self, n: u64) -> Vec<i32> {
-        let mut list = Vec::new();
+        let (mut list, opposites) = (Vec::new(), self.below(2) == 0);
         for _ in 0..self.below(3 * n + 3) {
             let mut rule: Vec<i32> = Vec::new();
             for _ in 0..1 + self.below(4) {
                 let v = 1 + self.below(n) as i32;
-                if rule.iter().all(|e| e.abs() != v) {
-                    rule.push(if self.below(2) == 0 { v } else { -v });
+                let entry = if self.below(2) == 0 { v } else { -v };
+                if !rule.contains(&entry) && (opposites || !rule.contains(&-entry)) {
+                    rule.push(entry);
                 }
             }
             list.extend(rule);
             list.push(0);
         }
         list
+    }
+
+    /// The list with entries of a rule again, anywhere behind their first place in it.
+    fn repeated(&mut self, list: &[i32]) -> Vec<i32> {
+        let (mut repeated, mut start) = (Vec::new(), 0);
+        for &e in list {
+            while start < repeated.len() && self.below(2) == 0 {
+                repeated.push(repeated[start + self.below((repeated.len() - start) as u64) as usize]);
+            }
+            repeated.push(e);
+            start = if e == 0 { repeated.len() } else { start };
+        }
+        repeated
     }
 
     fn row(&mut self, n: u64) -> Vec<u8> {
@@ -159,6 +277,25 @@ fn searches_by_brute_force() {
         assert_eq!((a.verdict == 1).then_some(a.value[0]), least);
         assert_eq!(plain(n, &rules, &mut c).verdict == 1, least.is_some());
     }
+}
+
+/// "such a rule is always met": a book without its rules of both senses of a setting has the same answers.
+#[test]
+fn rules_of_both_senses_ask_nothing() {
+    let (mut random, mut left_out) = (Random(5), 0);
+    for _ in 0..2_000 {
+        let n = 1 + random.below(7);
+        let (rules, row) = (random.book(n), random.row(n));
+        let kept: Vec<&[i32]> =
+            walk::rules_of(&rules).into_iter().filter(|rule| !rule.iter().any(|e| rule.contains(&-e))).collect();
+        let fewer: Vec<i32> = kept.iter().flat_map(|rule| [rule, &[0][..]].concat()).collect();
+        left_out += walk::rules_of(&rules).len() - kept.len();
+        assert!(choices(n as usize).all(|c| met(&rules, &c) == met(&fewer, &c)));
+        let (mut c, mut other) = (vec![9; n as usize], vec![9; n as usize]);
+        assert_eq!(nearest(n, &rules, &row, &mut c), nearest(n, &fewer, &row, &mut other));
+        assert_eq!(plain(n, &rules, &mut c), plain(n, &fewer, &mut other));
+    }
+    assert!(left_out > 1_000);
 }
 
 /// Gathers each group's outputs with its leaves, in the order in which settings are numbered.
@@ -212,6 +349,7 @@ fn files_come_back() {
         let book = rule_file::read(&text).unwrap();
         assert_eq!((book.n, &book.list), (n, &rules));
         assert_eq!(rule_file::write(book.n, &book.list), text);
+        assert_eq!(rule_file::read(&rule_file::write(n, &random.repeated(&rules))).unwrap().list, rules);
         let text = wish_file::write(&row, d);
         assert_eq!(text.len() as u64, 16 + 11 * lent::wish_count(&row));
         assert_eq!(wish_file::read(&text).unwrap(), wish_file::Wishes { row, d });
@@ -249,6 +387,7 @@ fn examples_of_opb() {
         (4, &[], &[1, 0, 2, 1], 2, "+1 x1 -1 x2 +1 x4 >= 0 ;\n"),
         (4, &[], &[1, 0, 2, 1], 64, "+1 x1 -1 x2 +1 x4 >= -62 ;\n"),
         (1, &[], &[2], 64, ""),
+        (2, &[1, -1, 0, -2, 1, 2, -1, 0], &[2, 2], 0, "+1 x1 -1 x1 >= 0 ;\n-1 x2 +1 x1 +1 x2 -1 x1 >= -1 ;\n"),
     ] {
         let header = format!("* #variable= {n} #constraint= {}\n", lines.matches('\n').count());
         assert_eq!(exported(n, rules, row, d), header + lines);
