@@ -27,6 +27,20 @@ fn behind(gap: impl Fn(usize) -> u8, bytes: usize) -> Vec<u8> {
     b"p cnf 1 1\n".iter().copied().chain(gap).chain(*b"1 0\n").collect()
 }
 
+/// One rule of every entry there may be, and then the same entries over and over, so many bytes in all.
+fn repeats(bytes: usize) -> Vec<u8> {
+    let entries = (1..=640).flat_map(|v| [v, -v]).cycle();
+    let mut text = b"p cnf 640 1\n".to_vec();
+    for entry in entries {
+        if text.len() >= bytes {
+            break;
+        }
+        text.extend(format!("{entry} ").bytes());
+    }
+    text.extend(b"0\n");
+    text
+}
+
 pub fn files() -> Vec<File> {
     let list = longest();
     let plain = rule_file::write(640, &list);
@@ -39,6 +53,7 @@ pub fn files() -> Vec<File> {
         files.push((format!("comment lines of 40 bytes, {megabytes} MB"), behind(|k| if k % 40 == 0 { b'\n' } else { b'c' }, bytes)));
         files.push((format!("one comment line, {megabytes} MB"), behind(|_| b'c', bytes)));
         files.push((format!("blanks, {megabytes} MB"), behind(|_| b' ', bytes)));
+        files.push((format!("one rule of 1,280 entries and their repeats, {megabytes} MB"), repeats(bytes)));
     }
     files
 }
