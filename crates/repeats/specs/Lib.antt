@@ -1,2 +1,4 @@
 pub mod Files
+pub mod Meaning
+pub mod Members
 pub mod Once
