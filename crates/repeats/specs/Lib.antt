@@ -2,3 +2,4 @@ pub mod Files
 pub mod Meaning
 pub mod Members
 pub mod Once
+pub mod Order
