@@ -127,20 +127,20 @@ ranges n c e =
     above n z = omega arith
 
 -- the tokens past a header of so many bytes
-abbrev pastHeader : List ℕ → ℕ → List Token
+abbrev pub pastHeader : List ℕ → ℕ → List Token
 pastHeader file size =
     let next : ℕ = pastComments false 0 file + size in
     tokensFrom file next
 
 -- its header and its tokens
-record Parts (file : List ℕ) (n c : ℕ) (l : List ℤ) : Type 0 where
-  size : ℕ
-  head : header (drop (pastComments false 0 file) file) ≡ some (record { variables = n; clauses = c; size = size })
-  range : outside n c ≡ false
-  good : badTokens n c (length file) unread (pastHeader file size) ≡ none
-  gave : l ≡ rulesOf (pastHeader file size)
+pub record Parts (file : List ℕ) (n c : ℕ) (l : List ℤ) : Type 0 where
+  pub size : ℕ
+  pub head : header (drop (pastComments false 0 file) file) ≡ some (record { variables = n; clauses = c; size = size })
+  pub range : outside n c ≡ false
+  pub good : badTokens n c (length file) unread (pastHeader file size) ≡ none
+  pub gave : l ≡ rulesOf (pastHeader file size)
 
-accepted-parts : (file : List ℕ) (n c : ℕ) (l : List ℤ) → reading file ≡ gives n c l → Parts file n c l
+pub accepted-parts : (file : List ℕ) (n c : ℕ) (l : List ℤ) → reading file ≡ gives n c l → Parts file n c l
 accepted-parts file n c l e = found (header (drop at file)) refl e
   where
     at : ℕ

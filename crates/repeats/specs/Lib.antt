@@ -1,0 +1,5 @@
+pub mod Files
+pub mod Meaning
+pub mod Members
+pub mod Once
+pub mod Order
