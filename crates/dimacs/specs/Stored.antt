@@ -1,5 +1,5 @@
 -- What a number of a file adds to the list that is stored: nothing, a closing zero, or a literal.
-use mathlib.Core.Path.{_≡_, ap}
+use mathlib.Core.Path.{_≡_}
 use mathlib.Core.Bool.{true, false}
 use mathlib.Core.List.{List, [], _∷_}
 use Prim.Native.Nat.{ℕ, _+_}

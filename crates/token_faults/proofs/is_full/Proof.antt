@@ -1,5 +1,4 @@
 -- `token_faults::is_full` meets its contract: a repeat is no literal more.
-use mathlib.Core.Path.{_≡_}
 use Rattle.token_faults.proofs.is_full.Statement.{statement}
 use Rattle.token_faults.proofs.is_full.Tie as tie
 
