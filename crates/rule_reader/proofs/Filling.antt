@@ -20,13 +20,13 @@ use Rattle.refusal.specs.Reply.{refusal, first}
 use Rattle.limits.specs.Limits.{maxVariables, maxClauses}
 use Rattle.rule_list.specs.Laws.{scan}
 use Rattle.rule_list.specs.Sound.{Scan}
-use Rattle.rule_list.specs.Stamps.{slots, Stamped, stamped-none, stamped-closed, stamped-joined, stamp-tells}
+use Rattle.rule_list.specs.Stamps.{slots, Stamped, stamped-none, stamped-closed, stamped-joined}
 use Rattle.dimacs.specs.Accepted.{Next, good-next}
 use Rattle.dimacs.specs.Format.{signed, element, repeats, past, badToken, badTokens, stored, rulesOf}
-use Rattle.dimacs.specs.Stored.{repeat-dropped, zero-stored, literal-stored}
+use Rattle.dimacs.specs.Stored.{stamp-repeats, repeat-dropped, zero-stored, literal-stored}
 use Rattle.dimacs.specs.Tokens.{Token, tokensFrom}
 use Rattle.rule_tokens.specs.declared.NextToken as T
-use Rattle.rule_tokens.specs.Laws.{Good, token-end, token-bad, token-good, number-held}
+use Rattle.rule_tokens.specs.Laws.{Good, token-end, token-bad, token-good, token-numbers, number-held}
 use Rattle.rule_tokens.specs.NextToken.{nextOf}
 use Rattle.rule_reader.specs.Passes.{FoundGood}
 
@@ -102,7 +102,7 @@ module _ {file : List ℕ} {from : ℕ} {rules₀ : List ℤ} {stamps : List ℕ
 
     numbers : map element (tokensFrom file at) ≡ x ∷ left
     unfolding left
-    numbers = ap (map element) (g .split) ∙ ap (λ (o : Option ℤ). Option·getD o (pos 0) ∷ left) (g .number)
+    numbers = token-numbers file at g
 
     passed : (badToken (s .n) (s .c) read place (some x) ≡ none) × (badTokens (s .n) (s .c) (s .size) (past read x) (tokensFrom file next) ≡ none)
     passed =
@@ -126,7 +126,7 @@ module _ {file : List ℕ} {from : ℕ} {rules₀ : List ℤ} {stamps : List ℕ
     -- r says whether it is a repeat
     module _ (r : Bool) (told : r ≡ not (closes x) && eqb (getD stamps (slot x) 0) (k + 1)) where
       repeat : r ≡ repeats read x
-      repeat = told ∙ ap (λ (b : Bool). not (closes x) && b) (stamp-tells stamps (k + 1) (s .clause) x (s .stamped))
+      repeat = told ∙ stamp-repeats k (s .m) (s .clause) x left stamps (s .stamped)
 
       pub dropped : r ≡ true → Filling file from rules₀ stamps k rules next i
       unfolding left

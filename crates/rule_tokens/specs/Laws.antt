@@ -1,8 +1,8 @@
 -- The equations by which proofs read a token.
 use mathlib.Core.Path.{_≡_, refl, sym, ap, ap₂, _∙_, subst}
 use mathlib.Core.Bool.{Bool, true, false, cond}
-use mathlib.Core.List.{List, [], _∷_}
-use mathlib.Core.Option.{Option, none, some, Option·some-injective, Option·none-ne-some}
+use mathlib.Core.List.{List, [], _∷_, map}
+use mathlib.Core.Option.{Option, none, some, Option·getD, Option·some-injective, Option·none-ne-some}
 use Prim.Native.Nat.{ℕ, zero, suc, _+_, _-_, _≤_, _<_}
 use native.Mathlib.Nat.{not-suc-le-zero}
 use native.Mathlib.Omega.{arith}
@@ -18,7 +18,7 @@ use Rattle.decimal.specs.Decimal.{number}
 use Rattle.decimal.specs.Laws.{number-small}
 use Rattle.dimacs.specs.Class.{minus, classOf}
 use Rattle.dimacs.specs.Laws.{run-take, run-inside}
-use Rattle.dimacs.specs.Format.{positive, negative, signed}
+use Rattle.dimacs.specs.Format.{positive, negative, signed, element}
 use Rattle.dimacs.specs.TokenLaws.{First, Shaped, shaped}
 use Rattle.dimacs.specs.Tokens.{leading, inToken, Token, tokensFrom}
 use Rattle.rule_tokens.specs.declared.NextToken as T
@@ -190,6 +190,11 @@ module _ (s : List ℕ) (at : ℕ) where
       go : (ts : List Token) → tokensFrom s at ≡ ts → nextOf ts ≡ T.the-variants.Element place x next → Good s at place x next
       go [] f k = let z : _≡_ {A = ℕ} 0 1 = cc in absurd (omega arith)
       go (t ∷ ts) f k = one t ts (first-of s at t ts f) (signed (t .bytes)) f refl k
+
+-- the numbers from there on are the token's and those past it
+pub token-numbers : (file : List ℕ) (at : ℕ) {place next : ℕ} {x : ℤ} → Good file at place x next → map element (tokensFrom file at) ≡ x ∷ map element (tokensFrom file next)
+token-numbers file at {place} {next} {x} g =
+    ap (map element) (g .split) ∙ ap (λ (o : Option ℤ). Option·getD o (pos 0) ∷ map element (tokensFrom file next)) (g .number)
 
 -- the number that a token gives is held by an i32
 pub number-held : (file : List ℕ) (at : ℕ) {place next : ℕ} {x : ℤ} → T.the-variants.Element place x next ≡ nextOf (tokensFrom file at) → toZ w32 (ofZ w32 x) ≡ x

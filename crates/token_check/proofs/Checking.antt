@@ -2,11 +2,11 @@
 use mathlib.Core.Path.{_≡_, refl, sym, ap, ap₂, _∙_, subst}
 use mathlib.Core.Bool.{Bool, true, false, not, _&&_, _||_}
 use mathlib.Core.List.{List, [], _∷_, map}
-use mathlib.Core.Option.{Option, some, Option·getD}
+use mathlib.Core.Option.{Option, some}
 use Prim.Native.Nat.{ℕ, _+_, _≤_, _<_, zero-le}
 use native.Mathlib.Omega.{arith}
 use lib.Dec.{eqb, ltb}
-use lib.IntN.{ℤ, pos}
+use lib.IntN.{ℤ}
 use lib.ListN.{length, getD, set}
 use Rattle.literal.specs.Literal.{variable, closes}
 use Rattle.literal.specs.Slots.{slot, wanted-bit}
@@ -14,12 +14,12 @@ use Rattle.refusal.specs.declared.Refusal.{Refusal}
 use Rattle.refusal.specs.Reply.{refusal, cause}
 use Rattle.rule_list.specs.Laws.{scan}
 use Rattle.rule_list.specs.Sound.{Scan, unread, unclosed}
-use Rattle.rule_list.specs.Stamps.{slots, Stamped, stamped-none, stamped-closed, stamped-joined, stamp-tells}
+use Rattle.rule_list.specs.Stamps.{slots, Stamped, stamped-none, stamped-closed, stamped-joined}
 use Rattle.dimacs.specs.Format.{element, repeats, past, badTokens, stored, rulesOf}
-use Rattle.dimacs.specs.Stored.{repeat-dropped, zero-stored, literal-stored}
+use Rattle.dimacs.specs.Stored.{stamp-repeats, repeat-dropped, zero-stored, literal-stored}
 use Rattle.dimacs.specs.Tokens.{Token, tokensFrom}
 use Rattle.rule_tokens.specs.declared.NextToken as T
-use Rattle.rule_tokens.specs.Laws.{Good, token-end, token-bad, token-good}
+use Rattle.rule_tokens.specs.Laws.{Good, token-end, token-bad, token-good, token-numbers}
 use Rattle.rule_tokens.specs.NextToken.{nextOf}
 use Rattle.token_faults.specs.Fault.{faultOf}
 use Rattle.token_faults.specs.Laws.{open-clause, literal-inside, literal-fits}
@@ -99,7 +99,7 @@ module _ {n c : ℕ} {file : List ℕ} {from : ℕ} {stamps : List ℕ} {k m : �
 
     numbers : map element (tokensFrom file at) ≡ x ∷ left
     unfolding left
-    numbers = ap (map element) (g .split) ∙ ap (λ (o : Option ℤ). Option·getD o (pos 0) ∷ left) (g .number)
+    numbers = token-numbers file at g
 
     counting : length (rulesOf (tokensFrom file from)) ≡ k + m + length (stored read (x ∷ left))
     counting = s .counted ∙ ap (λ (l : List ℤ). k + m + length (stored read l)) numbers
@@ -107,7 +107,7 @@ module _ {n c : ℕ} {file : List ℕ} {from : ℕ} {stamps : List ℕ} {k m : �
     -- r says whether it is a repeat
     module _ (r : Bool) (told : r ≡ not (closes x) && eqb (getD stamps (slot x) 0) (k + 1)) where
       repeat : r ≡ repeats read x
-      repeat = told ∙ ap (λ (b : Bool). not (closes x) && b) (stamp-tells stamps (k + 1) (s .clause) x (s .stamped))
+      repeat = told ∙ stamp-repeats k m (s .clause) x left stamps (s .stamped)
 
       faults : faultOf n c k m x r ≡ faultOf n c k m x (repeats read x)
       faults = ap (faultOf n c k m x) repeat
