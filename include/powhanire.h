@@ -58,7 +58,8 @@ extern "C" {
  *    5  never returned
  *    6  rule file: token after C rules;              the token's first byte;
  *       too few rules closed, or one left open       file length
- *    7  rule file: entry 31,001, repeats not counted the token's first byte
+ *    7  rule file: entry 31,001                      the token's first byte
+ *       (a repeat is none)
  *    8  wish file: line cut, out of column or        the line's first byte;
  *       malformed; bytes after the last line         the first extra byte
  *    9  wish file: header out of range               0

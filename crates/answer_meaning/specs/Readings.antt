@@ -1,4 +1,5 @@
--- An answer's refusal is 0 only where the call gave an answer: for the two calls that read a file.
+-- An answer's refusal is 0 only where the call gave an answer, and never 5: for the two calls that read a file.
+use mathlib.Core.Path.{refl}
 use mathlib.Core.Bool.{Bool, true, false, cond, _&&_, _||_}
 use mathlib.Core.List.{List, [], _∷_}
 use mathlib.Core.Option.{Option, none, some}
@@ -23,15 +24,15 @@ use Rattle.answer_meaning.specs.Replies.{Told, told-refusal, told-unless
 
 -- the rule file
 token-numbered : (n c : ℕ) (s : Scan) (place : ℕ) (o : Option ℤ) → Numbered (rule-file.badToken n c s place o)
-token-numbered n c s place none = some-cause 2 place
+token-numbered n c s place none = some-cause 2 refl place
 token-numbered n c s place (some x) =
     by-first
-    (more (by-test (leb c (s .clauses)) 5 place)
-    (more (by-test (rule-file.adds s x && leb maxLiterals (s .literals)) 6 place)
-    (more (by-test (ltb n (variable x)) 3 place) last)))
+    (more (by-test (leb c (s .clauses)) 5 refl place)
+    (more (by-test (rule-file.adds s x && leb maxLiterals (s .literals)) 6 refl place)
+    (more (by-test (ltb n (variable x)) 3 refl place) last)))
 
 tokens-numbered : (n c size : ℕ) (s : Scan) (ts : List Token) → Numbered (rule-file.badTokens n c size s ts)
-tokens-numbered n c size s [] = by-test (ltb (s .clauses) c || unclosed (s .clause)) 5 size
+tokens-numbered n c size s [] = by-test (ltb (s .clauses) c || unclosed (s .clause)) 5 refl size
 tokens-numbered n c size s (t ∷ ts) =
     by-first (more (token-numbered n c s (t .place) (rule-file.signed (t .bytes))) (more (tokens-numbered n c size (rule-file.past s (rule-file.element t)) ts) last))
 
@@ -39,16 +40,16 @@ module _ (room : ℕ) where
   told-tokens : (n c : ℕ) (ts : List Token) (o : Option Refusal) → Numbered o → Told (rules.replying (rule-file.readTokens n c ts o) room)
   told-tokens n c ts none cause =
       let needed : ℕ = length (rule-file.rulesOf ts) in
-      told-unless _ 1 n c needed (by-test (ltb room needed) 14 needed)
+      told-unless _ 1 n c needed (by-test (ltb room needed) 14 refl needed)
   told-tokens n c ts (some r) cause = told-refusal r cause
 
   told-range : (b : Bool) (at : ℕ) (reading : rule-file.Reading) → Told (rules.replying reading room)
       → Told (rules.replying (cond b (rule-file.refuses (refusal 2 at)) reading) room)
-  told-range true at reading told = told-refusal (refusal 2 at) (some-cause 1 at)
+  told-range true at reading told = told-refusal (refusal 2 at) (some-cause 1 refl at)
   told-range false at reading told = told
 
   told-from : (file : List ℕ) (at : ℕ) (o : Option Header) → Told (rules.replying (rule-file.readFrom file at o) room)
-  told-from file at none = told-refusal (refusal 1 at) (some-cause 0 at)
+  told-from file at none = told-refusal (refusal 1 at) (some-cause 0 refl at)
   told-from file at (some h) =
       let next : ℕ = at + h .size in
       let ts : List Token = tokensFrom file next in
@@ -62,12 +63,12 @@ module _ (room : ℕ) where
 
 -- the wish file
 line-numbered : (n before at : ℕ) (o : Option (List ℕ)) → Numbered (wish-file.badLine n before at o)
-line-numbered n before at none = some-cause 7 at
-line-numbered n before at (some vs) = by-test (wish-file.misfit n before (wish-file.wishOf vs)) 9 at
+line-numbered n before at none = some-cause 7 refl at
+line-numbered n before at (some vs) = by-test (wish-file.misfit n before (wish-file.wishOf vs)) 9 refl at
 
 lines-numbered : (n m before at : ℕ) (s : List ℕ) → Numbered (wish-file.badLines n m before at s)
 lines-numbered n zero before at [] = no-cause
-lines-numbered n zero before at (b ∷ s) = some-cause 7 at
+lines-numbered n zero before at (b ∷ s) = some-cause 7 refl at
 lines-numbered n (suc m) before at s =
     by-first
     (more (line-numbered n before at (lineNumbers wish-file.wishColumns s))
@@ -75,16 +76,16 @@ lines-numbered n (suc m) before at s =
 
 module _ (room : ℕ) where
   told-lines : (n m d : ℕ) (s : List ℕ) (o : Option Refusal) → Numbered o → Told (wishes.replying (wish-file.readLines n m d s o) room)
-  told-lines n m d s none cause = told-unless _ 1 n m d (by-test (ltb room n) 14 n)
+  told-lines n m d s none cause = told-unless _ 1 n m d (by-test (ltb room n) 14 refl n)
   told-lines n m d s (some r) cause = told-refusal r cause
 
   told-outside : (b : Bool) (reading : wish-file.Reading) → Told (wishes.replying reading room)
       → Told (wishes.replying (cond b (wish-file.refuses (refusal 9 0)) reading) room)
-  told-outside true reading told = told-refusal (refusal 9 0) (some-cause 8 0)
+  told-outside true reading told = told-refusal (refusal 9 0) (some-cause 8 refl 0)
   told-outside false reading told = told
 
   told-header : (s : List ℕ) (o : Option (List ℕ)) → Told (wishes.replying (wish-file.readHeader s o) room)
-  told-header s none = told-refusal (refusal 8 0) (some-cause 7 0)
+  told-header s none = told-refusal (refusal 8 0) (some-cause 7 refl 0)
   told-header s (some vs) =
       let n : ℕ = getD vs 0 0 in
       let m : ℕ = getD vs 1 0 in

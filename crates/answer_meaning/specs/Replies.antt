@@ -1,9 +1,10 @@
--- An answer's refusal is 0 only where the call gave an answer: for each of the calls that are lent values.
+-- An answer's refusal is 0 only where the call gave an answer, and never 5: for each of the calls that are lent values.
 use mathlib.Core.Path.{_≡_, refl}
 use mathlib.Core.Bool.{Bool, true, false, cond}
 use mathlib.Core.List.{List}
 use mathlib.Core.Option.{Option, none, some}
 use Prim.Native.Nat.{ℕ}
+use native.Mathlib.Omega.{arith}
 use lib.IntN.{ℤ}
 use lib.ListN.{length}
 use Rattle.formula.specs.Formula.{clauses, models}
@@ -30,15 +31,16 @@ abbrev pub isAnswer : Reply → Bool
 isAnswer (refusing r) = false
 isAnswer (answering verdict a b c) = true
 
--- the number 0 tells that a reply is an answer
+-- the number 0 tells that a reply is an answer, and no reply has the number 5
 pub record Told (reply : Reply) : Type 0 where
   pub answered : answerOf reply .refusal ≡ 0 → isAnswer reply ≡ true
+  pub never5 : answerOf reply .refusal ≡ 5 → ⊥
 
 pub told-refusal : (r : Refusal) → Numbered (some r) → Told (refusing r)
-told-refusal r cause = record { answered = λ e. absurd (cause .above r refl e) }
+told-refusal r cause = record { answered = λ e. absurd (cause .above r refl e); never5 = cause .used r refl }
 
 pub told-unless : (o : Option Refusal) (verdict a b c : ℕ) → Numbered o → Told (unless o (answering verdict a b c))
-told-unless none verdict a b c cause = record { answered = λ e. refl }
+told-unless none verdict a b c cause = record { answered = λ e. refl; never5 = λ e. omega arith }
 told-unless (some r) verdict a b c cause = told-refusal r cause
 
 told-search : (s : Lent) (o : Option ℕ) → Told (unless (refusalOf s) (found o))

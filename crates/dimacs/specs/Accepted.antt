@@ -71,7 +71,7 @@ good-next n c s at x h e = record { below = less; inside = within; new = go (clo
 abbrev SoundRest : ℕ → ℕ → Scan → ℕ → List ℤ → Type 0
 SoundRest n c s i l = (badRule n s i l ≡ none) × (c ≡ s .clauses + zeros l)
 
--- so is what good tokens give
+-- so is what is stored of good tokens
 sound-tokens : (ts : List Token) (n c size : ℕ) (s : Scan) (i : ℕ) → c ≤ maxClauses → s .clauses ≤ c → badTokens n c size s ts ≡ none
     → SoundRest n c s i (stored s (map element ts))
 sound-tokens [] n c size s i h k e =

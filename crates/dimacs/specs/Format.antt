@@ -1,4 +1,4 @@
--- The rule file (document 01, "The rule file"), a narrowed DIMACS CNF, and the causes to refuse one ("Refusals", 1 to 7).
+-- The rule file (document 01, "The rule file"), a narrowed DIMACS CNF, and the causes to refuse one ("Refusals", 1 to 4, 6 and 7).
 use mathlib.Core.Bool.{Bool, true, false, cond, not, _&&_, _||_}
 use mathlib.Core.List.{List, [], _∷_, map}
 use mathlib.Core.Option.{Option, none, some, Option·getD}

@@ -112,6 +112,16 @@ stands-new n s x e = go (closes x) refl
         let parts = and-eq-true-iff (leb (variable x) n) (ltb (s .literals) maxLiterals && mayJoin (s .clause) x) .0 (rw (f) at e) in
         rw (f, and-eq-true-iff (ltb (s .literals) maxLiterals) (mayJoin (s .clause) x) .0 (parts .1) .1)
 
+-- so all of a sound list is stored: it has no repeats
+all-stored : (l : List ℤ) (n : ℕ) (s : Scan) (i : ℕ) → badRule n s i l ≡ none → stored s l ≡ l
+all-stored [] n s i e = refl
+all-stored (x ∷ l) n s i e =
+    let sound = sound-step n s i x l e in
+    rw (stands-new n s x (sound .0)) (ap (λ (r : List ℤ). x ∷ r) (all-stored l n (after s x) (suc i) (sound .1)))
+
+pub sound-stored : (n : ℕ) (l : List ℤ) → SoundList n l → stored unread l ≡ l
+sound-stored n l e = all-stored l n unread 0 e
+
 -- a variable that stands is one of the n
 stands-inside : (n : ℕ) (s : Scan) (x : ℤ) → stands n s x ≡ true → variable x ≤ n
 stands-inside n s x e = go (closes x) refl
@@ -120,16 +130,15 @@ stands-inside n s x e = go (closes x) refl
     go true f = omega (arith, eqb-true (variable x) 0 f)
     go false f = leb-true (variable x) n (and-eq-true-iff (leb (variable x) n) (ltb (s .literals) maxLiterals && mayJoin (s .clause) x) .0 (rw (f) at e) .0)
 
--- the tokens of a sound list are good, their elements are the list, and all of it is stored
+-- the tokens of a sound list are good, and their elements are the list
 record Good (n c size : ℕ) (s : Scan) (at : ℕ) (l : List ℤ) : Type 0 where
   passed : badTokens n c size s (tokensOf at l) ≡ none
   same : map element (tokensOf at l) ≡ l
-  kept : stored s l ≡ l
 
 good-tokens : (l : List ℤ) (n c size : ℕ) (s : Scan) (i at : ℕ) → n < 100000 → badRule n s i l ≡ none → c ≡ s .clauses + zeros l
     → Good n c size s at l
 good-tokens [] n c size s i at h e f =
-    record { passed = rw (le-ltb (s .clauses) c (omega arith), closed (unclosed (s .clause)) e); same = refl; kept = refl }
+    record { passed = rw (le-ltb (s .clauses) c (omega arith), closed (unclosed (s .clause)) e); same = refl }
   where
     closed : (t : Bool) → cond t (some i) none ≡ none → t ≡ false
     closed true g = absurd (Option·some-ne-none i g)
@@ -158,7 +167,6 @@ good-tokens (x ∷ l) n c size s i at h e f =
         record {
           passed = rw (read, good-token n c s at x (omega (arith, zeros-some n s i x l e)) (sound .0), new, g .passed);
           same = rw (read) (ap (λ (r : List ℤ). x ∷ r) (g .same));
-          kept = rw (new) (ap (λ (r : List ℤ). x ∷ r) (g .kept));
         }
 
 -- a header reads as the numbers of its two fields
@@ -208,7 +216,7 @@ pub read-written : (n : ℕ) (l : List ℤ) → 1 ≤ n → n ≤ maxVariables �
 unfolding classOf
 read-written n l h k e =
     ap (readFrom (written n l) 0) (header-written n c (body l) (omega arith) (omega (arith, small)))
-    ∙ rw (inside n c h k small, tokens-written n l (0 + length (headerText n c)) (zero-add (length (headerText n c))), good .passed) (ap (gives n c) (ap (stored unread) (good .same) ∙ good .kept))
+    ∙ rw (inside n c h k small, tokens-written n l (0 + length (headerText n c)) (zero-add (length (headerText n c))), good .passed) (ap (gives n c) (ap (stored unread) (good .same) ∙ sound-stored n l e))
   where
     c : ℕ
     c = length (clauses l)

@@ -23,7 +23,7 @@ pub wanted-bit : (x : ℤ) → wanted x < 2
 wanted-bit (pos k) = lit< tt
 wanted-bit (negsuc k) = lit< tt
 
--- the variable of an i32 is far below the largest usize, and so is its slot
+-- the variable of an i32 is far below the largest usize
 pub variable-most : (x : ℤ) → mag x < 2 ^ hbits w32 → variable x ≤ 2 ^ 31
 variable-most (pos n) h = omega arith
 variable-most (negsuc n) h = omega arith

@@ -3,3 +3,4 @@ pub mod Meaning
 pub mod Members
 pub mod Once
 pub mod Order
+pub mod Skipped

@@ -6,7 +6,7 @@ use limits::MAX_CLAUSES;
 use limits::MAX_LITERALS;
 use literal::Clause;
 ghost use mathlib.Core.Path.{_≡_};
-ghost use Prim.Native.Nat.{_+_, _≤_};
+ghost use Prim.Native.Nat.{_≤_};
 ghost use Rattle.limits.specs.Limits.{maxVariables};
 ghost use Rattle.rule_list.specs.Sound.{unread, badRule};
 ghost use Rattle.rule_list.specs.Scans.{ruleScan};

@@ -17,7 +17,8 @@ pub fn no_stamps() -> [u16; 1282]
     [0; 1282]
 }
 
-// Whether a literal was last seen in a clause. One above the 640 variables has no stamp.
+// Whether a literal was last seen in a clause. One above the 640 variables has no stamp, which is as
+// good as 0: no clause has that number.
 pub fn is_stamped(stamps: &[u16; 1282], x: i32, clause: Clause) -> bool
     requires { ⌜ length (now stamps) ≡ 1282 ⌝ }
     ensures { λ r. ⌜ r ≡ eqb (getD (now (stamps .entry)) (slot x) 0) (clause .0) ⌝ }

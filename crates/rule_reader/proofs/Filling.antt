@@ -16,7 +16,7 @@ use Rattle.literal.specs.Literal.{variable, closes}
 use Rattle.literal.specs.Slots.{slot, wanted-bit}
 use Rattle.refusal.specs.declared.Refusal.{Refusal}
 use Rattle.refusal.specs.Laws.{first-last, no-first}
-use Rattle.refusal.specs.Reply.{refusal, first}
+use Rattle.refusal.specs.Reply.{refusal}
 use Rattle.limits.specs.Limits.{maxVariables, maxClauses}
 use Rattle.rule_list.specs.Laws.{scan}
 use Rattle.rule_list.specs.Sound.{Scan}

@@ -23,9 +23,9 @@ nearestOf n rules row = nearestReply n rules row n
 abbrev searchOf : ℕ → List ℤ → List ℕ → ℕ → Reply
 searchOf n rules row d = searchReply n rules row d n
 
--- the readers. A rule list of three numbers is lent; no row is, since the starred wish file is refused for a cause that comes before that of the room
+-- the readers, where no room is lent: the starred files but one are refused for causes that come before that of the room
 abbrev ruleFile : List ℕ → Reply
-ruleFile file = rule.readReply file 3
+ruleFile file = rule.readReply file 0
 
 abbrev wishFile : List ℕ → Reply
 wishFile file = wish.readReply file 0
@@ -57,8 +57,8 @@ starred =
     ∷ record { given = ruleFile (afterHeader (45 ∷ 48 ∷ 32 ∷ 48 ∷ [])); stated = refusing (refusal 3 10) }
     ∷ record { given = ruleFile (afterHeader (50 ∷ 32 ∷ 48 ∷ [])); stated = refusing (refusal 4 10) }
     ∷ record { given = ruleFile (afterHeader (49 ∷ [])); stated = refusing (refusal 6 11) }
-    -- "`1 -1 0`", which document 01 refuses: "Case `1 -1 0` becomes accepted" (document 02, L3), with N = 1, C = 1 and a list of three numbers
-    ∷ record { given = ruleFile (afterHeader (49 ∷ 32 ∷ 45 ∷ 49 ∷ 32 ∷ 48 ∷ [])); stated = answering 1 1 1 3 }
+    -- "`1 -1 0`", which document 01 refuses: "Case `1 -1 0` becomes accepted" (document 02, L3), with N = 1, C = 1 and a list of three numbers, for which room is lent
+    ∷ record { given = rule.readReply (afterHeader (49 ∷ 32 ∷ 45 ∷ 49 ∷ 32 ∷ 48 ∷ [])) 3; stated = answering 1 1 1 3 }
     -- "A 15-byte wish file: 8 at 0"
     ∷ record { given = wishFile (take 15 example.bothOff); stated = refusing (refusal 8 0) }
     ∷ []

@@ -2,7 +2,7 @@
 use literal::Clause;
 use refusal::Refusal;
 use rule_tokens::NextToken;
-ghost use mathlib.Core.Bool.{false, _||_};
+ghost use mathlib.Core.Bool.{_||_};
 ghost use mathlib.Core.Path.{_≡_};
 ghost use Prim.Native.Nat.{_+_, _≤_};
 ghost use lib.Dec.{ltb};
