@@ -1,6 +1,6 @@
 -- A repeat changes nothing that is read (document 02, L3): put in among the tokens of any file, it alters neither the refusal nor the list. So it is no entry, also where 31,000 are stored already.
 use mathlib.Core.Path.{_≡_, refl, sym, ap, _∙_}
-use mathlib.Core.Bool.{Bool, true, false, cond, not, _&&_, _||_, and-false, true≢false}
+use mathlib.Core.Bool.{Bool, true, false, not, _&&_, _||_, and-false, true≢false}
 use mathlib.Core.List.{List, [], _∷_, _++_, map}
 use mathlib.Core.Option.{Option, none, some, Option·getD, Option·some-ne-none}
 use Prim.Native.Nat.{ℕ, suc, _≤_, _<_}
@@ -8,7 +8,7 @@ use native.Mathlib.Omega.{arith}
 use lib.Dec.{eqb}
 use lib.IntN.{ℤ, pos}
 use borrow.Author.Tests.{eqb-true}
-use Rattle.literal.specs.Literal.{variable, wanted, isLiteral}
+use Rattle.literal.specs.Literal.{variable, wanted}
 use Rattle.formula.specs.Formula.{closes, contains}
 use Rattle.refusal.specs.declared.Refusal.{Refusal}
 use Rattle.refusal.specs.Laws.{first-last}
