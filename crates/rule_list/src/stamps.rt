@@ -31,7 +31,7 @@ pub fn is_stamped(stamps: &[u16; 1282], x: i32, clause: Clause) -> bool
     }
 }
 
-// Whether a number of a list repeats a literal that the open clause, which has this number, holds.
+// Whether a number of a list repeats a literal of the open clause. A closing zero repeats nothing.
 pub fn is_repeat(stamps: &[u16; 1282], x: i32, clause: Clause) -> bool
     requires { ⌜ length (now stamps) ≡ 1282 ⌝ }
     ensures { λ r. ⌜ r ≡ not (closes x) && eqb (getD (now (stamps .entry)) (slot x) 0) (clause .0) ⌝ }
