@@ -16,19 +16,19 @@ use Rattle.causes.specs.Lent.{Lent, causes, refusalOf}
 -- a cause whose number, if it applies, is neither 0 nor 5
 pub record Numbered (o : Option Refusal) : Type 0 where
   pub above : (r : Refusal) → o ≡ some r → r .number ≡ 0 → ⊥
-  pub used : (r : Refusal) → o ≡ some r → r .number ≡ 5 → ⊥
+  pub never5 : (r : Refusal) → o ≡ some r → r .number ≡ 5 → ⊥
 
 pub data AllNumbered : List (Option Refusal) → Type 0 where
   last : AllNumbered []
   more : {o : Option Refusal} {causes : List (Option Refusal)} → Numbered o → AllNumbered causes → AllNumbered (o ∷ causes)
 
 pub no-cause : Numbered none
-no-cause = record { above = λ r e z. absurd (Option·some-ne-none r (sym e)); used = λ r e z. absurd (Option·some-ne-none r (sym e)) }
+no-cause = record { above = λ r e z. absurd (Option·some-ne-none r (sym e)); never5 = λ r e z. absurd (Option·some-ne-none r (sym e)) }
 
 pub some-cause : (k : ℕ) → eqb (suc k) 5 ≡ false → (place : ℕ) → Numbered (some (refusal (suc k) place))
 some-cause k h place = record {
   above = λ r e z. (let same : suc k ≡ r .number = cc in omega arith);
-  used = λ r e z. (let same : suc k ≡ r .number = cc in eqb-false (suc k) 5 h (same ∙ z));
+  never5 = λ r e z. (let same : suc k ≡ r .number = cc in eqb-false (suc k) 5 h (same ∙ z));
 }
 
 pub by-test : (b : Bool) (k : ℕ) → eqb (suc k) 5 ≡ false → (place : ℕ) → Numbered (cause b (suc k) place)
@@ -49,6 +49,6 @@ lent-numbered s =
     by-first
     (more (record {
       above = λ r e z. (let above = lent-number s r e .0 in omega arith);
-      used = λ r e. eqb-false (r .number) 5 (not-true (eqb (r .number) 5) (first-number (λ (k : ℕ). not (eqb k 5)) (causes s) refl r e));
+      never5 = λ r e. eqb-false (r .number) 5 (not-true (eqb (r .number) 5) (first-number (λ (k : ℕ). not (eqb k 5)) (causes s) refl r e));
     })
     (more (by-test (ltb (s .room) (s .needed)) 14 refl (s .needed)) last))

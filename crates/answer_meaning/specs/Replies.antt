@@ -37,7 +37,7 @@ pub record Told (reply : Reply) : Type 0 where
   pub never5 : answerOf reply .refusal ≡ 5 → ⊥
 
 pub told-refusal : (r : Refusal) → Numbered (some r) → Told (refusing r)
-told-refusal r cause = record { answered = λ e. absurd (cause .above r refl e); never5 = cause .used r refl }
+told-refusal r cause = record { answered = λ e. absurd (cause .above r refl e); never5 = cause .never5 r refl }
 
 pub told-unless : (o : Option Refusal) (verdict a b c : ℕ) → Numbered o → Told (unless o (answering verdict a b c))
 told-unless none verdict a b c cause = record { answered = λ e. refl; never5 = λ e. omega arith }

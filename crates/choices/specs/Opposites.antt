@@ -1,41 +1,32 @@
--- A clause with both senses of a variable (document 02, L3): "such a rule is always met".
-use mathlib.Core.Path.{_≡_}
-use mathlib.Core.Bool.{true}
+-- Opposite literals in a choice, and a clause with both senses of a variable (document 02, L3): "such a rule is always met".
+use mathlib.Core.Path.{_≡_, refl, ap, _∙_}
+use mathlib.Core.Bool.{Bool, true, false, not}
 use mathlib.Core.List.{List, List·Memᴰ}
-use mathlib.Core.Logic.{_⊎_, inl, inr}
 use Prim.Native.Nat.{ℕ, zero, suc, _≤_, _<_}
-use native.Mathlib.Nat.{not-suc-le-zero, le-of-suc-le-suc}
+use native.Mathlib.Nat.{not-suc-le-zero}
 use native.Mathlib.Omega.{arith}
+use lib.Dec.{eqb}
 use lib.IntN.{ℤ, pos, negsuc, negℤ}
-use borrow.Author.Tests.{eq-eqb}
 use Rattle.literal.specs.Literal.{variable, value, holds}
 use Rattle.formula.specs.Formula.{satisfied}
 use Rattle.choices.specs.Choices.{Choice, choice-value}
 use Rattle.choices.specs.Lists.{any-at}
 
--- of two opposite literals of an assigned variable one holds
-bit : (b : ℕ) → b < 2 → (b ≡ 0) ⊎ (b ≡ 1)
-bit zero h = inl (omega arith)
-bit (suc zero) h = inr (omega arith)
-bit (suc (suc b)) h = absurd (not-suc-le-zero (le-of-suc-le-suc (le-of-suc-le-suc h)))
+bit : (w : ℕ) → w < 2 → (eqb w 0 ≡ not (eqb w 1)) × (eqb w 1 ≡ not (eqb w 0))
+bit zero h = (refl, refl)
+bit (suc zero) h = (refl, refl)
+bit (suc (suc w)) h = absurd (omega arith)
 
-one-holds : (a : List ℕ) (x : ℤ) → 0 < variable x → value a (variable x) < 2 → (holds a x ≡ true) ⊎ (holds a (negℤ x) ≡ true)
-one-holds a (pos zero) z h = absurd (not-suc-le-zero z)
-one-holds a (pos (suc k)) z h = go (bit (value a (suc k)) h)
-  where
-    go : (value a (suc k) ≡ 0) ⊎ (value a (suc k) ≡ 1) → (holds a (pos (suc k)) ≡ true) ⊎ (holds a (negsuc k) ≡ true)
-    go (inl e) = inr (eq-eqb (value a (suc k)) 0 e)
-    go (inr e) = inl (eq-eqb (value a (suc k)) 1 e)
-one-holds a (negsuc k) z h = go (bit (value a (suc k)) h)
-  where
-    go : (value a (suc k) ≡ 0) ⊎ (value a (suc k) ≡ 1) → (holds a (negsuc k) ≡ true) ⊎ (holds a (pos (suc k)) ≡ true)
-    go (inl e) = inl (eq-eqb (value a (suc k)) 0 e)
-    go (inr e) = inr (eq-eqb (value a (suc k)) 1 e)
+-- opposite literals have opposite truth
+pub choice-opposite : (n : ℕ) (a : List ℕ) → Choice n a → (x : ℤ) → 0 < variable x → variable x ≤ n → holds a (negℤ x) ≡ not (holds a x)
+choice-opposite n a c (pos zero) z h = absurd (not-suc-le-zero z)
+choice-opposite n a c (pos (suc k)) z h = bit (value a (suc k)) (choice-value n a c (suc k) z h) .0
+choice-opposite n a c (negsuc k) z h = bit (value a (suc k)) (choice-value n a c (suc k) z h) .1
 
--- Every choice of n variables meets a clause that holds one of them in both senses.
+-- So every choice of n variables meets a clause that holds one of them in both senses.
 pub opposites-met : (n : ℕ) (a : List ℕ) (c : List ℤ) (x : ℤ) → Choice n a → 0 < variable x → variable x ≤ n → List·Memᴰ x c → List·Memᴰ (negℤ x) c → satisfied a c ≡ true
-opposites-met n a c x h z l m o = go (one-holds a x z (choice-value n a h (variable x) z l))
+opposites-met n a c x h z l m o = go (holds a x) refl
   where
-    go : (holds a x ≡ true) ⊎ (holds a (negℤ x) ≡ true) → satisfied a c ≡ true
-    go (inl e) = any-at (holds a) m e
-    go (inr e) = any-at (holds a) o e
+    go : (b : Bool) → holds a x ≡ b → satisfied a c ≡ true
+    go true e = any-at (holds a) m e
+    go false e = any-at (holds a) o (choice-opposite n a h x z l ∙ ap not e)

@@ -67,6 +67,14 @@ good-next n c s at x h e = record { below = less; inside = within; new = go (clo
         rw (f, g, le-leb (variable x) n within, lt-ltb (s .literals) maxLiterals (leb-false maxLiterals (s .literals) literal))
     go false f false g r = absurd (true≢false (rw (f, g) at r))
 
+-- where nothing is refused, the first token is not, nor any after it
+pub first-good : (n c size : ℕ) (s : Scan) (t : Token) (ts : List Token) → badTokens n c size s (t ∷ ts) ≡ none
+    → (badToken n c s (t .place) (signed (t .bytes)) ≡ none) × (badTokens n c size (past s (element t)) ts ≡ none)
+first-good n c size s t ts e =
+    let later : Option Refusal = badTokens n c size (past s (element t)) ts in
+    let parts = no-first (badToken n c s (t .place) (signed (t .bytes))) (later ∷ []) e in
+    (parts .0, sym (first-last later) ∙ parts .1)
+
 -- a list is sound after what s says was read, and has as many clauses as were announced
 abbrev SoundRest : ℕ → ℕ → Scan → ℕ → List ℤ → Type 0
 SoundRest n c s i l = (badRule n s i l ≡ none) × (c ≡ s .clauses + zeros l)
@@ -78,13 +86,10 @@ sound-tokens [] n c size s i h k e =
     let parts = neither (ltb (s .clauses) c) (unclosed (s .clause)) (cause-none (ltb (s .clauses) c || unclosed (s .clause)) 6 size e) in
     (rw (parts .1), omega (arith, ltb-false (s .clauses) c (parts .0)))
 sound-tokens (t ∷ ts) n c size s i h k e =
-    token (signed (t .bytes)) refl (parts .0) (λ j m. sound-tokens ts n c size (past s (element t)) j h m (sym (first-last later) ∙ parts .1))
+    token (signed (t .bytes)) refl (parts .0) (λ j m. sound-tokens ts n c size (past s (element t)) j h m (parts .1))
   where
-    later : Option Refusal
-    later = badTokens n c size (past s (element t)) ts
-
-    parts : (badToken n c s (t .place) (signed (t .bytes)) ≡ none) × (first (later ∷ []) ≡ none)
-    parts = no-first (badToken n c s (t .place) (signed (t .bytes))) (later ∷ []) e
+    parts : (badToken n c s (t .place) (signed (t .bytes)) ≡ none) × (badTokens n c size (past s (element t)) ts ≡ none)
+    parts = first-good n c size s t ts e
 
     l : List ℤ
     l = map element ts
@@ -200,19 +205,16 @@ signed-back (negsuc k) y e = negative-back (number (decimal (suc k))) k y (decim
 
 tokens-back : (l : List ℤ) (n c size : ℕ) (s : Scan) (at : ℕ) → badTokens n c size s (tokensOf at l) ≡ none → map element (tokensOf at l) ≡ l
 tokens-back [] n c size s at e = refl
-tokens-back (x ∷ l) n c size s at e = token (signed (numeral x)) refl (parts .0) (tokens-back l n c size (past s y) next (sym (first-last later) ∙ parts .1))
+tokens-back (x ∷ l) n c size s at e = token (signed (numeral x)) refl (parts .0) (tokens-back l n c size (past s (element t)) next (parts .1))
   where
-    y : ℤ
-    y = element (record { place = at; bytes = numeral x })
+    t : Token
+    t = record { place = at; bytes = numeral x }
 
     next : ℕ
     next = suc (at + length (numeral x))
 
-    later : Option Refusal
-    later = badTokens n c size (past s y) (tokensOf next l)
-
-    parts : (badToken n c s at (signed (numeral x)) ≡ none) × (first (later ∷ []) ≡ none)
-    parts = no-first (badToken n c s at (signed (numeral x))) (later ∷ []) e
+    parts : (badToken n c s at (signed (numeral x)) ≡ none) × (badTokens n c size (past s (element t)) (tokensOf next l) ≡ none)
+    parts = first-good n c size s t (tokensOf next l) e
 
     token : (o : Option ℤ) → signed (numeral x) ≡ o → badToken n c s at o ≡ none → map element (tokensOf next l) ≡ l
         → Option·getD o (pos 0) ∷ map element (tokensOf next l) ≡ x ∷ l

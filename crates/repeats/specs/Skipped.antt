@@ -1,4 +1,4 @@
--- A repeat changes nothing that is read (document 02, L3): put in among the tokens of any file, it alters neither the refusal nor the list. So it is no entry, also where 31,000 are stored already.
+-- A repeat changes nothing that is read (document 02, L3): put in among the tokens of any file, it alters neither the list nor which token is refused, and for what. So it is no entry, also where 31,000 are stored already.
 use mathlib.Core.Path.{_≡_, refl, sym, ap, _∙_}
 use mathlib.Core.Bool.{Bool, true, false, not, _&&_, _||_, and-false, true≢false}
 use mathlib.Core.List.{List, [], _∷_, _++_, map}
@@ -63,7 +63,7 @@ module _ (n c : ℕ) where
       go false e true f = rw (e, f) (nothing-open (suc (s .clauses)) (s .literals))
       go false e false f = rw (e) (literal-within s y w next f)
 
-  -- a token in front of others: one of which nothing is refused gives a number
+  -- a token that is not refused gives a number, and then it is so past the token
   token-within : (s : Scan) (t : Token) → c ≤ maxClauses → Within n c s → badToken n c s (t .place) (signed (t .bytes)) ≡ none → Within n c (past s (element t))
   token-within s t h w e = go (signed (t .bytes)) e
     where
@@ -106,7 +106,7 @@ list-stays (d ∷ ts) us t x s g e = go (repeats s (element d)) refl (list-stays
     go true f same = rw (f) (rw (f) at same)
     go false f same = rw (f) (ap (λ (l : List ℤ). element d ∷ l) (rw (f) at same))
 
--- Whatever the tokens before and behind it: refused for the same cause at the same token, or for none, and the same list.
+-- Whatever the tokens before and behind it: refused for the same cause at the same token, or not refused, and the same list.
 pub repeat-skipped : (n c size : ℕ) (ts us : List Token) (t : Token) → c ≤ maxClauses → Repeat ts t
     → (badTokens n c size unread (ts ++ t ∷ us) ≡ badTokens n c size unread (ts ++ us)) × (rulesOf (ts ++ t ∷ us) ≡ rulesOf (ts ++ us))
 repeat-skipped n c size ts us t h r = (

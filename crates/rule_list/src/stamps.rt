@@ -9,10 +9,11 @@ ghost use lib.ListN.{length, getD, set};
 ghost use Rattle.literal.specs.Literal.{variable, closes};
 ghost use Rattle.literal.specs.Slots.{slot};
 ghost use Rattle.limits.specs.Limits.{maxVariables, maxClauses};
+ghost use Rattle.rule_list.specs.Stamps.{slots};
 
 // No literal seen yet. There are two slots for each number from 0 to 640.
 pub fn no_stamps() -> [u16; 1282]
-    ensures { λ r. ⌜ (length r ≡ 1282) × ((j : ℕ) → getD r j 0 ≡ 0) ⌝ }
+    ensures { λ r. ⌜ (length r ≡ slots) × ((j : ℕ) → getD r j 0 ≡ 0) ⌝ }
 {
     [0; 1282]
 }
@@ -20,7 +21,7 @@ pub fn no_stamps() -> [u16; 1282]
 // Whether a literal was last seen in a clause. One above the 640 variables has no stamp, which is as
 // good as 0: no clause has that number.
 pub fn is_stamped(stamps: &[u16; 1282], x: i32, clause: Clause) -> bool
-    requires { ⌜ length (now stamps) ≡ 1282 ⌝ }
+    requires { ⌜ length (now stamps) ≡ slots ⌝ }
     ensures { λ r. ⌜ r ≡ eqb (getD (now (stamps .entry)) (slot x) 0) (clause .0) ⌝ }
 {
     let at = literal::slot_of(x);
@@ -33,7 +34,7 @@ pub fn is_stamped(stamps: &[u16; 1282], x: i32, clause: Clause) -> bool
 
 // Whether a number of a list repeats a literal of the open clause. A closing zero repeats nothing.
 pub fn is_repeat(stamps: &[u16; 1282], x: i32, clause: Clause) -> bool
-    requires { ⌜ length (now stamps) ≡ 1282 ⌝ }
+    requires { ⌜ length (now stamps) ≡ slots ⌝ }
     ensures { λ r. ⌜ r ≡ not (closes x) && eqb (getD (now (stamps .entry)) (slot x) 0) (clause .0) ⌝ }
 {
     if literal::closes(x) {

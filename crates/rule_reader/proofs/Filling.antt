@@ -14,14 +14,12 @@ use mir.Syntax.{w32}
 use mir.Val.{toZ, ofZ}
 use Rattle.literal.specs.Literal.{variable, closes}
 use Rattle.literal.specs.Slots.{slot, wanted-bit}
-use Rattle.refusal.specs.declared.Refusal.{Refusal}
-use Rattle.refusal.specs.Laws.{first-last, no-first}
 use Rattle.refusal.specs.Reply.{refusal}
 use Rattle.limits.specs.Limits.{maxVariables, maxClauses}
 use Rattle.rule_list.specs.Laws.{scan}
 use Rattle.rule_list.specs.Sound.{Scan}
 use Rattle.rule_list.specs.Stamps.{slots, Stamped, stamped-none, stamped-closed, stamped-joined}
-use Rattle.dimacs.specs.Accepted.{Next, good-next}
+use Rattle.dimacs.specs.Accepted.{Next, good-next, first-good}
 use Rattle.dimacs.specs.Format.{signed, element, repeats, past, badToken, badTokens, stored, rulesOf}
 use Rattle.dimacs.specs.Stored.{stamp-repeats, repeat-dropped, zero-stored, literal-stored}
 use Rattle.dimacs.specs.Tokens.{Token, tokensFrom}
@@ -74,18 +72,15 @@ module _ {file : List ℕ} {from : ℕ} {rules₀ : List ℤ} {stamps : List ℕ
   filled e = sym (ap (λ (ts : List Token). sets rules i (stored read (map element ts))) (token-end file at (sym e))) ∙ s .so-far
 
   -- the first token is not refused, nor any after it
-  first-good : (t : Token) (ts : List Token) → tokensFrom file at ≡ t ∷ ts
+  next-good : (t : Token) (ts : List Token) → tokensFrom file at ≡ t ∷ ts
       → (badToken (s .n) (s .c) read (t .place) (signed (t .bytes)) ≡ none) × (badTokens (s .n) (s .c) (s .size) (past read (element t)) ts ≡ none)
-  first-good t ts e =
-      let rest : Option Refusal = badTokens (s .n) (s .c) (s .size) (past read (element t)) ts in
-      let parts = no-first (badToken (s .n) (s .c) read (t .place) (signed (t .bytes))) (rest ∷ []) (sym (ap (badTokens (s .n) (s .c) (s .size) read) e) ∙ s .good) in
-      (parts .0, sym (first-last rest) ∙ parts .1)
+  next-good t ts e = first-good (s .n) (s .c) (s .size) read t ts (sym (ap (badTokens (s .n) (s .c) (s .size) read) e) ∙ s .good)
 
   -- none is malformed
   pub never : (place : ℕ) → T.the-variants.Malformed place ≡ nextOf (tokensFrom file at) → ⊥
   never place e =
       let b = token-bad file at place (sym e) in
-      let good = first-good (record { place = place; bytes = b .bytes }) (b .rest) (b .split) .0 in
+      let good = next-good (record { place = place; bytes = b .bytes }) (b .rest) (b .split) .0 in
       Option·some-ne-none (refusal 3 place) (sym (ap (badToken (s .n) (s .c) read place) (b .malformed)) ∙ good)
 
   -- the next one gives x
@@ -106,7 +101,7 @@ module _ {file : List ℕ} {from : ℕ} {rules₀ : List ℤ} {stamps : List ℕ
 
     passed : (badToken (s .n) (s .c) read place (some x) ≡ none) × (badTokens (s .n) (s .c) (s .size) (past read x) (tokensFrom file next) ≡ none)
     passed =
-        let good = first-good (record { place = place; bytes = g .bytes }) (tokensFrom file next) (g .split) in (
+        let good = next-good (record { place = place; bytes = g .bytes }) (tokensFrom file next) (g .split) in (
           sym (ap (badToken (s .n) (s .c) read place) (g .number)) ∙ good .0,
           sym (ap (λ (o : Option ℤ). badTokens (s .n) (s .c) (s .size) (past read (Option·getD o (pos 0))) (tokensFrom file next)) (g .number)) ∙ good .1,
         )

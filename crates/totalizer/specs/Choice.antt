@@ -1,20 +1,18 @@
 -- Choices, and what their first variables say.
 use mathlib.Core.Path.{_≡_, refl, ap}
-use mathlib.Core.Bool.{true, not}
+use mathlib.Core.Bool.{true}
 use mathlib.Core.List.{List, [], _∷_}
 use Prim.Native.Nat.{ℕ, zero, suc, _≤_, _<_}
 use native.Mathlib.Omega.{arith}
-use native.Mathlib.Nat.{not-suc-le-zero}
 use lib.Dec.{eqb, ltb, lit<}
-use lib.IntN.{ℤ, pos, negsuc}
+use lib.IntN.{ℤ}
 use lib.ListN.{length, getD, take, length-take}
 use lib.Seq.{getD-take}
 use borrow.Author.Tests.{ltb-true, lt-ltb}
 use Rattle.literal.specs.Literal.{variable, value, wanted, holds}
 use Rattle.formula.specs.Formula.{all}
 use Rattle.soundness.specs.Laws.{and-left, and-right, and-both}
-use Rattle.choices.specs.Choices.{Choice, choice-value}
-use Rattle.totalizer.specs.Meaning.{Opposite}
+use Rattle.choices.specs.Choices.{Choice}
 
 -- a choice by one test of its bytes
 pub binary : {n : ℕ} {a : List ℕ} → Choice n a → all (λ (b : ℕ). ltb b 2) a ≡ true
@@ -31,17 +29,6 @@ choice-of n a l e = record { size = l; bytes = go a e }
     go [] h i = lit< tt
     go (b ∷ l) h zero = ltb-true b 2 (and-left (ltb b 2) (all (λ (x : ℕ). ltb x 2) l) h)
     go (b ∷ l) h (suc i) = go l (and-right (ltb b 2) (all (λ (x : ℕ). ltb x 2) l) h) i
-
-bit : (w : ℕ) → w < 2 → (eqb w 0 ≡ not (eqb w 1)) × (eqb w 1 ≡ not (eqb w 0))
-bit zero h = (refl, refl)
-bit (suc zero) h = (refl, refl)
-bit (suc (suc w)) h = absurd (omega arith)
-
--- so opposite literals have opposite truth
-pub choice-opposite : (n : ℕ) (a : List ℕ) → Choice n a → Opposite (holds a) n
-choice-opposite n a c (pos zero) z h = absurd (not-suc-le-zero z)
-choice-opposite n a c (pos (suc k)) z h = bit (value a (suc k)) (choice-value n a c (suc k) z h) .0
-choice-opposite n a c (negsuc k) z h = bit (value a (suc k)) (choice-value n a c (suc k) z h) .1
 
 -- the first variables keep their values
 pub value-take : (n : ℕ) (a : List ℕ) (v : ℕ) → v ≤ n → value (take n a) v ≡ value a v

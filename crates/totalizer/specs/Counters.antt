@@ -17,7 +17,7 @@ use Rattle.choices.specs.Choices.{Choice, choice-value}
 use Rattle.totalizer.specs.Totalizer.{Tree, leaf, node, tree, size, added, output, totalizer, limit, atMost, count, unary, counters, Over, Counts, AllCount}
 use Rattle.totalizer.specs.Meaning.{count-most, right-counts, signed, totalizer-right, right-totalizer}
 use Rattle.totalizer.specs.Trees.{held, Within, tree-size, tree-count, tree-over}
-use Rattle.totalizer.specs.Choice.{choice-opposite}
+use Rattle.choices.specs.Opposites.{choice-opposite}
 
 pub length-unary : (m c : ℕ) → length (unary m c) ≡ m
 length-unary zero c = refl
