@@ -1,4 +1,4 @@
--- The classes of bytes (document 01, "The rule file"): "The classes of all 256 byte values stand in one table: blank, digit, minus, letter c, other."
+-- The classes of bytes (document 01, "The rule file": "blank, digit, minus, letter c, other"; document 02, L4: "the class of a byte is decided from the ranges themselves").
 use mathlib.Core.Bool.{Bool, cond, _||_}
 use Prim.Native.Nat.{ℕ}
 use lib.Dec.{eqb}

@@ -3,12 +3,13 @@ use mathlib.Core.Path.{_≡_, refl, sym, ap, ap₂, _∙_}
 use mathlib.Core.Bool.{Bool, true, false, cond, not, _&&_, _||_}
 use mathlib.Core.List.{List, [], _∷_}
 use mathlib.Core.Option.{Option, none, some}
-use Prim.Native.Nat.{ℕ, zero, suc, _+_, _-_, _*_, _^_, min, _≤_, _<_}
-use native.Mathlib.Nat.{pow-le-pow-right}
+use Prim.Native.Nat.{ℕ, zero, suc, _+_, _-_, _*_, _%_, _^_, min, _≤_, _<_}
+use native.Mathlib.Nat.{pow-suc, pow-le-pow-right}
 use native.Mathlib.Omega.{arith}
 use lib.Dec.{eqb, lit<}
 use lib.IntN.{ℤ}
 use lib.ListN.{length, getD}
+use lib.Pow.{shl-exact}
 use borrow.Author.Tests.{eq-eqb, ne-eqb}
 use Rattle.literal.specs.Slots.{isAt}
 use Rattle.formula.specs.Formula.{any, all, satisfied}
@@ -20,22 +21,20 @@ use Rattle.clause_standing.specs.Standing.{standingOf}
 use Rattle.clause_standing.specs.Laws.{satisfied-stands, open-stands}
 use Rattle.weighing.specs.Weights.{isMarked, weightAt, Weighed}
 
--- the powers of 4 in the code's table
-abbrev pub powers : List ℕ
-powers = 1048576 ∷ 262144 ∷ 65536 ∷ 16384 ∷ 4096 ∷ 1024 ∷ 256 ∷ 64 ∷ 16 ∷ 4 ∷ []
+-- a power of 4 is a power of 2 with twice the exponent
+even-power : (j : ℕ) → 2 ^ (j + j) ≡ 4 ^ j
+even-power zero = refl
+even-power (suc j) =
+    let both : suc j + suc j ≡ suc (suc (j + j)) = omega arith in
+    let doubled : 2 ^ (suc j + suc j) ≡ 2 ^ suc (suc (j + j)) = ap (λ (i : ℕ). 2 ^ i) both in
+    omega (arith, doubled, pow-suc 2 (suc (j + j)), pow-suc 2 (j + j), pow-suc 4 j, even-power j)
 
-pub power-at : (k : ℕ) → k < 10 → getD powers k 0 ≡ 4 ^ (10 - min k 10)
-power-at zero h = refl
-power-at (suc zero) h = refl
-power-at (suc (suc zero)) h = refl
-power-at (suc (suc (suc zero))) h = refl
-power-at (suc (suc (suc (suc zero)))) h = refl
-power-at (suc (suc (suc (suc (suc zero))))) h = refl
-power-at (suc (suc (suc (suc (suc (suc zero)))))) h = refl
-power-at (suc (suc (suc (suc (suc (suc (suc zero))))))) h = refl
-power-at (suc (suc (suc (suc (suc (suc (suc (suc zero)))))))) h = refl
-power-at (suc (suc (suc (suc (suc (suc (suc (suc (suc zero))))))))) h = refl
-power-at (suc (suc (suc (suc (suc (suc (suc (suc (suc (suc k)))))))))) h = absurd (omega arith)
+-- the power by a shift to the left, which loses no bit of 64
+pub power-shifted : (k : ℕ) → k < 10 → 1 * 2 ^ (20 - 2 * k) % 2 ^ 64 ≡ 4 ^ (10 - min k 10)
+power-shifted k h =
+    let exponent : 20 - 2 * k ≡ (10 - min k 10) + (10 - min k 10) = omega arith in
+    let exact : 1 * 2 ^ (20 - 2 * k) % 2 ^ 64 ≡ 1 * 2 ^ (20 - 2 * k) = shl-exact 1 (20 - 2 * k) 64 (lit< tt) (omega arith) in
+    exact ∙ ap (λ (i : ℕ). 1 * 2 ^ i) exponent ∙ omega (arith, even-power (10 - min k 10))
 
 pub power-past : (k : ℕ) → 10 ≤ k → 4 ^ (10 - min k 10) ≡ 1
 power-past k h = let e : 10 - min k 10 ≡ 0 = omega arith in ap (λ (j : ℕ). 4 ^ j) e

@@ -10,14 +10,11 @@ ghost use Rattle.clause_standing.specs.Standing.{standingOf};
 ghost use Rattle.opposed.specs.Opposed.{sizeOf};
 ghost use Rattle.weighing.specs.Weights.{Weighable, Weighed};
 
-// 4 to the power 10 - k, for k below 10.
-const POWERS: [u64; 10] = [1048576, 262144, 65536, 16384, 4096, 1024, 256, 64, 16, 4];
-
 // The weight of an open clause with so many unassigned literals.
 pub fn clause_weight(count: usize) -> u64
     ensures { λ r. ⌜ r ≡ 4 ^ (10 - min count 10) ⌝ }
 {
-    if count < 10 { POWERS[count] } else { 1 }
+    if count < 10 { 1 << (20 - 2 * count) } else { 1 }
 }
 
 // Whether an open clause with so many unassigned literals gives candidates.
