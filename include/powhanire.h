@@ -33,8 +33,8 @@
  *   A call that refuses with 15 says in `place` how many elements it needs.
  *
  * The calls keep no state and use no heap, so several threads may call at once on separate buffers.
- * Stack, measured by tests/interface/run at the deepest inputs there are: plain up to 335,632 bytes
- * (496 for each fork on a path, of which 640 settings allow 639), search and nearest up to 144,608,
+ * Stack, measured by tests/interface/run at the deepest inputs there are: plain up to 304,896 bytes
+ * (448 for each fork on a path, of which 640 settings allow 639), search and nearest up to 132,304,
  * the other calls up to 3,208. A thread with 512 KB suffices for all.
  */
 #ifndef POWHANIRE_H
