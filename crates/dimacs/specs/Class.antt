@@ -1,4 +1,4 @@
--- The classes of bytes (document 01, "The rule file": "blank, digit, minus, letter c, other"; document 02, L4: "the class of a byte is decided from the ranges themselves").
+-- The classes of bytes (document 01, "The rule file": "blank, digit, minus, letter c, other"; document 02, L4: "Each byte keeps its class").
 use mathlib.Core.Bool.{Bool, cond, _||_}
 use Prim.Native.Nat.{ℕ}
 use lib.Dec.{eqb}

@@ -13,7 +13,7 @@ pub const LETTER_C: u8 = 3;
 // Any byte that has no class above.
 pub const OTHER: u8 = 4;
 
-// The class of a byte.
+// The class of a byte, "decided from the ranges themselves" (document 02, L4).
 pub fn class_of(b: u8) -> u8
     ensures { λ r. ⌜ r ≡ classOf b ⌝ }
 {

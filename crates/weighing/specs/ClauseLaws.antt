@@ -26,8 +26,7 @@ even-power : (j : ℕ) → 2 ^ (j + j) ≡ 4 ^ j
 even-power zero = refl
 even-power (suc j) =
     let both : suc j + suc j ≡ suc (suc (j + j)) = omega arith in
-    let doubled : 2 ^ (suc j + suc j) ≡ 2 ^ suc (suc (j + j)) = ap (λ (i : ℕ). 2 ^ i) both in
-    omega (arith, doubled, pow-suc 2 (suc (j + j)), pow-suc 2 (j + j), pow-suc 4 j, even-power j)
+    rw both (omega (arith, pow-suc 2 (suc (j + j)), pow-suc 2 (j + j), pow-suc 4 j, even-power j))
 
 -- the power by a shift to the left, which loses no bit of 64
 pub power-shifted : (k : ℕ) → k < 10 → 1 * 2 ^ (20 - 2 * k) % 2 ^ 64 ≡ 4 ^ (10 - min k 10)

@@ -28,14 +28,11 @@ tab-or-line-feed b l h = go (eqb b 9) refl
     go : (t : Bool) → eqb b 9 ≡ t → blank ≡ classOf b
     go true e = at (eqb-true b 9 e)
     go false e =
-        let feed : b ≡ 10 = omega (arith, l, h, eqb-false b 9 e) in
+        let feed : b ≡ 10 = omega (arith, eqb-false b 9 e) in
         at feed
 
 digits : (b : ℕ) → 48 ≤ b → b < 58 → digit ≡ classOf b
-digits b l h =
-    let most : b ≤ 57 = omega (arith, h) in
-    let it : isDigit b ≡ true = rw (le-leb 48 b l, le-leb b 57 most) in
-    sym (digit-class b it)
+digits b l h = sym (digit-class b (rw (le-leb 48 b l, le-leb b 57 (omega arith))))
 
 -- a byte that is none of the numbers that the definition names
 others : (b : ℕ) → (b ≡ 9 → ⊥) → (b ≡ 10 → ⊥) → (b ≡ 13 → ⊥) → (b ≡ 32 → ⊥) → isDigit b ≡ false → (b ≡ 45 → ⊥) → (b ≡ 99 → ⊥) → other ≡ classOf b
@@ -46,21 +43,19 @@ below-digits : (b : ℕ) → b < 48 → isDigit b ≡ false
 below-digits b h = rw (lt-leb 48 b h)
 
 above-digits : (b : ℕ) → 58 ≤ b → isDigit b ≡ false
-above-digits b l =
-    let least : 48 ≤ b = omega (arith, l) in
-    rw (le-leb 48 b least, lt-leb b 57 l)
+above-digits b l = rw (le-leb 48 b (omega arith), lt-leb b 57 l)
 
 before-blanks : (b : ℕ) → b < 9 → other ≡ classOf b
 before-blanks b h =
-    others b (omega (arith, h)) (omega (arith, h)) (omega (arith, h)) (omega (arith, h)) (below-digits b (omega (arith, h))) (omega (arith, h)) (omega (arith, h))
+    others b (omega arith) (omega arith) (omega arith) (omega arith) (below-digits b (omega arith)) (omega arith) (omega arith)
 
 before-digits : (b : ℕ) → 11 ≤ b → b < 48 → (b ≡ 13 ⊎ b ≡ 32 → ⊥) → (b ≡ 45 → ⊥) → other ≡ classOf b
 before-digits b l h blanks m =
-    others b (omega (arith, l)) (omega (arith, l)) (λ e. blanks (inl e)) (λ e. blanks (inr e)) (below-digits b h) m (omega (arith, h))
+    others b (omega arith) (omega arith) (λ e. blanks (inl e)) (λ e. blanks (inr e)) (below-digits b h) m (omega arith)
 
 after-digits : (b : ℕ) → 58 ≤ b → (b ≡ 99 → ⊥) → other ≡ classOf b
 after-digits b l c =
-    others b (omega (arith, l)) (omega (arith, l)) (omega (arith, l)) (omega (arith, l)) (above-digits b l) (omega (arith, l)) c
+    others b (omega arith) (omega arith) (omega arith) (omega arith) (above-digits b l) (omega arith) c
 
 returns : tie.Need-returns
 unfolding classOf
