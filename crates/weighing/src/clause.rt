@@ -10,7 +10,7 @@ ghost use Rattle.clause_standing.specs.Standing.{standingOf};
 ghost use Rattle.opposed.specs.Opposed.{sizeOf};
 ghost use Rattle.weighing.specs.Weights.{Weighable, Weighed};
 
-// The weight of an open clause with so many unassigned literals.
+// The weight of an open clause with so many unassigned literals, a power of 4 by a shift.
 pub fn clause_weight(count: usize) -> u64
     ensures { λ r. ⌜ r ≡ 4 ^ (10 - min count 10) ⌝ }
 {
