@@ -10,14 +10,15 @@ drawn from a fixed seed, so a second run writes the same files.
 A case is a line: the name of a call, then its values, single spaces between them. A list is its
 length and its elements; among these `@ COUNT BACK` stands for COUNT further elements, each of them
 the one that stands BACK places before it. A call that fills an output has the buffer for it as its last
-list, and the last line of its answer says what the buffer then holds. Which choice a search finds is left
-open, so of a choice that is found the answer says what holds of it, and what the buffer holds past it. A
+list, and the last line of its answer says what the buffer then holds. Which choice the wish search and plain search
+find is left open, so of a choice that they find the answer says what holds of it, and what the buffer holds past it. A
 line that starts with # is a label."""
 
 import itertools
 import pathlib
 import random
 
+import first_choices
 import forks
 import opb_files
 import repeats
@@ -310,6 +311,7 @@ def main():
     forks.add(random.Random(5))
     opb_files.add(random.Random(6))
     repeats.add(random.Random(7))
+    first_choices.add(random.Random(8))
     malformed()
     cases = '\n'.join(lines) + '\n'
     answers = all_answers(cases)

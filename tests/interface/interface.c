@@ -1,5 +1,6 @@
-/* The calls from C: document 01's examples, comment lines, repeated entries, the export to OPB, each call on its
- * largest and deepest input, the stack that each takes, and several threads at once. Also compiled as C++. */
+/* The calls from C: document 01's examples, comment lines, repeated entries, the first nearest choice, the export to
+ * OPB, each call on its largest and deepest input, the stack that each takes, and several threads at once. Also compiled
+ * as C++. */
 #include "powhanire.h"
 
 #include <pthread.h>
@@ -66,7 +67,7 @@ static void examples(void) {
     is("limit 1 found", powhanire_search(2, one_or_two, 3, both_off, 2, 1, choice, 3), 0, 0, 1, 1, 0, 0);
     expect(choice[0] + choice[1] == 1 && choice[2] == 9, "one of the two is on, and what lies past stays");
     is("nearest 1", powhanire_nearest(2, one_or_two, 3, both_off, 2, choice, 2), 0, 0, 1, 1, 0, 0);
-    expect(choice[0] + choice[1] == 1, "one of the two is on");
+    expect(choice[0] == 0 && choice[1] == 1, "the first of the two nearest"); /* by document 02, L5 */
     is("it is met", powhanire_check(2, one_or_two, 3, both_off, 2, choice, 2), 0, 0, 1, 1, 0, 0);
     is("plain", powhanire_plain(2, one_or_two, 3, choice, 2), 0, 0, 1, 0, 0, 0);
     is("empty rule", powhanire_nearest(2, empty_rule, 1, both_off, 2, choice, 2), 0, 0, 0, 0, 0, 0);
@@ -126,6 +127,28 @@ static void repeated_entries(void) {
     is("exported", powhanire_write_opb(2, equal, 7, on, 2, 1, out_opb, OPB_FILE), 13, 5, 0, 0, 0, 0);
 }
 
+/* Document 02, L5: the first nearest choice, off before on from setting 1 upward, however the rules are written. */
+static void first_choice(void) {
+    static const int32_t rules[] = {1, 2, 3, 0, -1, 4, 0};
+    static const int32_t twin[] = {4, -1, 0, 2, -2, 0, 3, 2, 1, 0, 1, 3, 2, 4, 0, 4, -1, 0};
+    static const struct {
+        uint8_t row[4];
+        uint64_t broken;
+        uint8_t first[4];
+    } expected[] = {
+        {{2, 2, 2, 2}, 0, {0, 0, 1, 0}}, {{0, 0, 0, 0}, 1, {0, 0, 1, 0}}, {{2, 2, 0, 1}, 0, {0, 1, 0, 1}},
+        {{2, 0, 0, 2}, 0, {1, 0, 0, 1}}, {{1, 0, 0, 0}, 1, {1, 0, 0, 1}}, {{1, 2, 2, 0}, 1, {0, 0, 1, 0}},
+    };
+    for (size_t k = 0; k < sizeof expected / sizeof *expected; k++) {
+        const uint8_t *row = expected[k].row;
+        uint8_t choice[4] = {9, 9, 9, 9}, other[4] = {9, 9, 9, 9};
+        is("the first", powhanire_nearest(4, rules, 7, row, 4, choice, 4), 0, 0, 1, expected[k].broken, 0, 0);
+        is("its twin's", powhanire_nearest(4, twin, 18, row, 4, other, 4), 0, 0, 1, expected[k].broken, 0, 0);
+        expect(memcmp(choice, expected[k].first, 4) == 0, "the first nearest choice");
+        expect(memcmp(choice, other, 4) == 0, "twin books have the same");
+    }
+}
+
 /* The rewriting program's example, through five calls. */
 static void rewriting_example(void) {
     static const char rules[] = "p cnf 2 1\n1 2 0\n";
@@ -164,13 +187,16 @@ static void opb_example(void) {
 
 /* ---- the largest and the deepest inputs ---- */
 
-/* A search makes n - 1 forks on one path of this book, as many as there can be: a fork settles one setting,
- * and needs two unsettled. compare counts them. */
-static size_t ladder(int32_t n, int32_t *list) {
+/* With `first` 1 a search makes n - 1 forks on one path of this book, as many as there can be: a fork settles one
+ * setting, and needs two unsettled. With `first` 2 setting 1 meets every rule, and without it there are n - 2. compare
+ * counts them. */
+static size_t ladder(int32_t first, int32_t n, int32_t *list) {
     size_t length = 0;
-    for (int32_t i = 1; i < n; i++)
+    for (int32_t i = first; i < n; i++)
         for (int32_t j = i + 1; j <= n && j <= i + 4; j++) {
-            if (i > 1)
+            if (first > 1)
+                list[length++] = 1;
+            if (i > first)
                 list[length++] = 1 - i;
             list[length++] = i;
             list[length++] = j;
@@ -204,23 +230,27 @@ static size_t longest_opb(int32_t *list) {
     return length;
 }
 
-static int32_t ladder640[RULES], ladder256[RULES], full640[RULES], full256[RULES], opb256[RULES];
-static size_t ladder640_len, ladder256_len, full640_len, full256_len, opb256_len;
-static uint8_t full_file[RULE_FILE], wish_file[WISH_FILE], off64[256], on64[256], last64[256], choice256[256];
+static int32_t ladder640[RULES], ladder256[RULES], met256[RULES], full640[RULES], full256[RULES], opb256[RULES];
+static size_t ladder640_len, ladder256_len, met256_len, full640_len, full256_len, opb256_len;
+static uint8_t full_file[RULE_FILE], wish_file[WISH_FILE], choice256[256];
+static uint8_t off64[256], on64[256], next64[256], last64[256];
 static answer result;
 
 static void build(void) {
-    ladder640_len = ladder(640, ladder640);
-    ladder256_len = ladder(256, ladder256);
+    ladder640_len = ladder(1, 640, ladder640);
+    ladder256_len = ladder(1, 256, ladder256);
+    met256_len = ladder(2, 256, met256);
     full640_len = full(9000, 31000, 640, full640);
     full256_len = full(4096, 16384, 256, full256);
     opb256_len = longest_opb(opb256);
     memset(off64, 2, 256);
     memset(on64, 2, 256);
     memset(last64, 2, 256);
+    memset(next64, 2, 256);
     memset(off64, 0, 64);
     memset(on64, 1, 64);
     memset(last64 + 192, 0, 64);
+    memset(next64 + 1, 1, 64);
     is("longest rule file", powhanire_write_rules(640, full640, full640_len, full_file, RULE_FILE), 0, 0, 1, RULE_FILE, 0, 0);
     is("longest wish file", powhanire_write_wishes(256, off64, 256, 64, wish_file, WISH_FILE), 0, 0, 1, WISH_FILE, 0, 0);
 }
@@ -237,6 +267,7 @@ static void plain_deep(void) { result = powhanire_plain(640, ladder640, ladder64
 static void plain_half(void) { result = powhanire_plain(256, ladder256, ladder256_len, out_choice, 256); }
 static void plain_full(void) { result = powhanire_plain(640, full640, full640_len, out_choice, 640); }
 static void nearest_deep(void) { result = powhanire_nearest(256, ladder256, ladder256_len, on64, 256, out_choice, 256); }
+static void nearest_off(void) { result = powhanire_nearest(256, met256, met256_len, next64, 256, out_choice, 256); }
 static void nearest_full(void) { result = powhanire_nearest(256, full256, full256_len, on64, 256, out_choice, 256); }
 static void rewrite(void) { result = powhanire_rewrite(256, full256, full256_len, off64, 256, 0, out_rewritten, REWRITTEN); }
 static void write_opb(void) { result = powhanire_write_opb(256, opb256, opb256_len, last64, 256, 64, out_opb, OPB_FILE); }
@@ -255,14 +286,15 @@ static const struct {
     {"check", "256 settings, 4,096 rules, 16,384 entries", check, {64, 0, 0}, 4096},
     {"rewrite", "the same, 64 wishes", rewrite, {640, REWRITTEN, 0}, 4096},
     {"write_opb", "the same, the longest file", write_opb, {OPB_FILE, 0, 0}, 4096},
-    {"search", "the same, 64 wishes", search_full, {0, 0, 0}, 138000},
-    {"nearest", "the same, 64 wishes", nearest_full, {0, 0, 0}, 138000},
-    {"plain", "640 settings, 9,000 rules, 31,000 entries", plain_full, {0, 0, 0}, 310000},
-    {"search", "255 forks on a path, its first 64 wished off", search_deep, {64, 0, 0}, 138000},
-    {"search", "255 forks on a path, its last 64 wished off", search_last, {63, 0, 0}, 138000},
-    {"nearest", "255 forks on a path, its first 64 wished on", nearest_deep, {0, 0, 0}, 138000},
-    {"plain", "255 forks on a path", plain_half, {0, 0, 0}, 310000},
-    {"plain", "639 forks on a path, the most there can be", plain_deep, {0, 0, 0}, 310000},
+    {"search", "the same, 64 wishes", search_full, {0, 0, 0}, 158000},
+    {"nearest", "the same, 64 wishes", nearest_full, {0, 0, 0}, 158000},
+    {"plain", "640 settings, 9,000 rules, 31,000 entries", plain_full, {0, 0, 0}, 360000},
+    {"search", "255 forks on a path, its first 64 wished off", search_deep, {64, 0, 0}, 158000},
+    {"search", "255 forks on a path, its last 64 wished off", search_last, {63, 0, 0}, 158000},
+    {"nearest", "255 forks on a path, its first 64 wished on", nearest_deep, {0, 0, 0}, 158000},
+    {"nearest", "254 forks on a path, its first 64 wished on", nearest_off, {0, 0, 0}, 158000},
+    {"plain", "255 forks on a path", plain_half, {0, 0, 0}, 360000},
+    {"plain", "639 forks on a path, the most there can be", plain_deep, {0, 0, 0}, 360000},
 };
 
 /* ---- the stack that a call takes: the lowest byte that it changed of a painted stack of 1 MB ---- */
@@ -350,6 +382,7 @@ int main(void) {
     expect(getrlimit(RLIMIT_STACK, &limit) == 0 && limit.rlim_cur <= STACK, "run under `ulimit -s 1024`");
     examples();
     repeated_entries();
+    first_choice();
     rewriting_example();
     opb_example();
     build();

@@ -12,6 +12,9 @@ RESULTS = ROOT / 'tests' / 'solvers' / 'results.txt'
 # The greatest limit.
 GREATEST = 64
 
+# A book with this after its name has the wishes of the book of that name, and the same choices meet its rules.
+TWIN = '-twin'
+
 # A book has a name, the number of limits at which both routes are run, and its two files.
 Book = collections.namedtuple('Book', 'name limits rule_file wish_file')
 

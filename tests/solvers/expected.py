@@ -2,8 +2,9 @@
 """Writes what the program `routes` must write, to crates/routes/stdout, from the solvers' results alone.
 
 In its lines `found, met` says that the checking call finds all rules met, as many wishes broken as the search
-says, and no more than the limit. Beside each answer of the wish search stands the OPB file of the same limit; the
-answer must be what the solvers said of that file."""
+says, and no more than the limit. Behind that of nearest stands its choice, which must be the solvers' first nearest
+one. Beside each answer of the wish search stands the OPB file of the same limit; the answer must be what the solvers
+said of that file."""
 
 import books
 
@@ -33,9 +34,9 @@ def exports(words):
     return shown.__getitem__
 
 
-def searches(least, limit, exported):
-    """Nearest, and the wish search at some limits, with the exported file of each."""
-    parts = ['nearest none' if least is None else 'nearest %d found, met' % least]
+def searches(least, first, limit, exported):
+    """Nearest with its choice, and the wish search at some limits, with the exported file of each."""
+    parts = ['nearest none' if least is None else 'nearest %d found, met, %s' % (least, first)]
     for d in books.search_limits(least, limit):
         found, file = exported(d)
         parts.append('limit %d %s, %s' % (d, word(found), file))
@@ -55,10 +56,11 @@ def routes(least, rewritten, count):
 
 def line(result):
     """The line of a book. Its fields are named at the top of the results."""
-    name, n, rules, wishes, limit, count, _, least, _, given, rewritten, _, _, _, _, *exported = result.split()
+    name, n, rules, wishes, limit, count, _, least, first, *others = result.split()
+    _, given, rewritten, _, _, _, _, *exported = others
     least = None if least == 'none' else int(least)
     parts = ['%s: settings %s rules %s wishes %s limit %s' % (name, n, rules, wishes, limit)]
-    parts += searches(least, int(limit), exports(exported))
+    parts += searches(least, first, int(limit), exports(exported))
     parts.append('plain ' + word(given == '+'))
     parts.append(routes(least, rewritten, int(count)))
     return '; '.join(parts) + '\n'

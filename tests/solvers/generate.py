@@ -225,6 +225,17 @@ def repeats():
     return shelf
 
 
+def twins(shelves):
+    """For every third book of the kinds that have rules another one with the same choices and wishes, so that the same
+    choice is the first nearest. The routes are run with the first few limits."""
+    shelf = Shelf('twins')
+    for book in [book for one in shelves if one.kind not in ('document', 'empty', 'free') for book in one.books[1::3]]:
+        name = book.name + books.TWIN
+        file = books.rule_file(*kinds.twin(Draw(name), books.parse_rules(book.rule_file)))
+        shelf.books.append(books.Book(name, min(book.limits, FEW), file, book.wish_file))
+    return shelf
+
+
 def main():
     shelves = [
         document(),
@@ -245,6 +256,7 @@ def main():
         many(),
         repeats(),
     ]
+    shelves.append(twins(shelves))
     text = b''.join(books.frame(book) for shelf in shelves for book in shelf.books)
     books.STDIN.write_bytes(text)
     for shelf in shelves:

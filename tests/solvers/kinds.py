@@ -124,3 +124,14 @@ def with_senses(draw, problem, count):
         rule = draw.shuffled([one, -one] + ([other] if i % 2 and one != other else []))
         rules.insert(draw.between(0, len(rules)), rule)
     return n, rules
+
+
+def twin(draw, problem):
+    """The same choices by another book: its rules and the entries of each are in another order, and about every fourth
+    rule stands there again, about half of these with an entry more."""
+    n, rules = problem
+    again = []
+    for rule in [rule for rule in rules if draw.below(4) == 0]:
+        others = [setting for setting in range(1, n + 1) if setting not in map(abs, rule)]
+        again.append(rule + signed(draw, draw.sample(others, min(draw.below(2), len(others)))))
+    return n, [draw.shuffled(rule) for rule in draw.shuffled(rules + again)]

@@ -1,5 +1,7 @@
-// The three searches. Document 01 leaves open which choice is found, so the answer says what holds of
-// it, and what the buffer holds past it.
+// The three searches. Which choice the wish search and plain search find is left open, so the answer says
+// what holds of it, and what the buffer holds past it; nearest's is the first (document 02, L5), so of its
+// buffer nothing is left out.
+use crate::call::NEAREST;
 use crate::call::PLAIN;
 use crate::call::SEARCH;
 use crate::show;
@@ -19,14 +21,18 @@ pub fn answer(call: usize, n: usize, rules: &[i32], row: &[u8], d: usize, choice
     found(call, n, rules, row, d, answer.value[0], choice);
 }
 
-// What holds of a choice that was found, and of the buffer past it.
+// What holds of a choice that was found, and what the buffer holds.
 fn found(call: usize, n: usize, rules: &[i32], row: &[u8], d: usize, broken: u64, choice: &[u8]) {
     if choice.len() < n {
         report::line(words::NO_ROOM);
         return;
     }
     judge(call, n, rules, row, d, broken, &choice[0..n]);
-    held::bytes(&choice[n..]);
+    if call == NEAREST {
+        held::bytes(choice);
+    } else {
+        held::bytes(&choice[n..]);
+    }
 }
 
 fn called(call: usize, n: usize, rules: &[i32], row: &[u8], d: usize, choice: &mut [u8]) -> Answer {

@@ -1,5 +1,5 @@
 // `nearest RULES WISH`, or `nearest` alone for `rules.cnf` and `wish.txt` of the current folder: prints
-// the least number of broken wishes and a choice, or the line of a refusal. What is printed is
+// the least number of broken wishes and the first choice, or the line of a refusal. What is printed is
 // `nearestPrinted` in nearest_text/specs/Printed.antt.
 use input_file::FilesRead;
 use libc::STDERR_FILENO;

@@ -7,7 +7,8 @@ use native.Mathlib.Numerals.{add-one}
 use native.Mathlib.Omega.{arith}
 use lib.IntN.{ℤ}
 use Rattle.wish.specs.Wish.{totalWeight}
-use Rattle.walk.specs.Walk.{Answer, walk, firstAnswer, climb, nearestWalk}
+use Rattle.walk.specs.Nearest.{climb, nearestWalk}
+use Rattle.walk.specs.Walk.{Answer, walk, firstAnswer}
 use Rattle.searches.specs.Searches.{brokenBy, choiceAfter}
 
 -- the first of two answers, where it has a number of broken wishes and where it has none

@@ -1,5 +1,5 @@
-// Nearest: the least number of broken wishes with a choice that meets all rules, or none when the
-// rules can't be met.
+// Nearest: the least number of broken wishes with the first choice that meets all rules and breaks so
+// many, or none when the rules can't be met.
 use admission_steps::Admission;
 use searches::Searched;
 use walk_result::Tried;
@@ -10,8 +10,8 @@ ghost use Rattle.formula.specs.Formula.{clauses};
 ghost use Rattle.wish.specs.Wish.{totalWeight};
 ghost use Rattle.root_walk.specs.Into.{Startable};
 ghost use Rattle.searches.specs.Answers.{replyOf, NearestMeans, searchedOf};
-ghost use Rattle.searches.specs.Searches.{nearestReply, nearestChoice, brokenBy, choiceAfter};
-ghost use Rattle.walk.specs.Walk.{nearestWalk};
+ghost use Rattle.searches.specs.Searches.{nearestReply, nearestAnswer, nearestChoice, brokenBy, choiceAfter};
+ghost use Rattle.walk.specs.Nearest.{nearestWalk};
 
 // Searches from what was lent; a choice that is found goes to the first n bytes of the lent choice.
 pub fn search(n: usize, rules: &[i32], row: &[u8], choice: &mut [u8]) -> Searched
@@ -22,8 +22,21 @@ pub fn search(n: usize, rules: &[i32], row: &[u8], choice: &mut [u8]) -> Searche
     let admitted = admission::admit_wishes(n, rules, row, 0);
     match admission_steps::with_room(admitted, n, choice.len()) {
         Admission::Refused(r) => Searched::Refused(r),
-        Admission::Admitted(counts) => climb(n, rules, row, counts.weight, choice),
+        Admission::Admitted(counts) => first_nearest(n, rules, row, counts.weight, choice),
     }
+}
+
+// Finds the least count, and then the first choice that has it: as none has less, the first within it.
+fn first_nearest(n: usize, rules: &[i32], row: &[u8], last: usize, choice: &mut [u8]) -> Searched
+    requires { ⌜ Startable n (now rules) (length (now choice)) × (last ≡ totalWeight (now row)) ⌝ }
+    ensures answer { λ r. ⌜ r ≡ searchedOf (brokenBy (nearestAnswer n (now (rules .entry)) (now (row .entry)))) ⌝ }
+    ensures output { λ r. ⌜ now (choice .exit) ≡ choiceAfter none (nearestAnswer n (now (rules .entry)) (now (row .entry))) n (now (choice .entry)) ⌝ }
+{
+    let answer = climb(n, rules, row, last, choice);
+    if let Searched::Found(broken) = answer {
+        first_choice::make_first(n, rules, row, broken, choice);
+    }
+    answer
 }
 
 // Walks with the limits 0, 1, .. until one finds an answer. No choice breaks more than all wishes weigh,

@@ -8,15 +8,15 @@ use lib.IntN.{ℤ}
 use lib.ListN.{length, take, drop, replicate, length-replicate, length-append, drop-of-length-le}
 use lib.Seq.{take-at}
 use Rattle.formula.specs.Formula.{clauses}
-use Rattle.distance.specs.Distance.{nearest}
+use Rattle.distance.specs.Distance.{disagreement, nearest}
+use Rattle.choices.specs.Order.{FirstNearest}
 use Rattle.refusal.specs.declared.Refusal.{Refusal}
 use Rattle.refusal.specs.Reply.{Reply, refusing, answering, unless}
 use Rattle.causes.specs.Admitted.{Admitted}
 use Rattle.causes.specs.Lent.{wishedProblem, refusalOf}
-use Rattle.walk.specs.Promises.{Closest}
-use Rattle.walk.specs.Walk.{Answer, nearestWalk}
+use Rattle.walk.specs.Walk.{Answer}
 use Rattle.searches.specs.Meaning as meaning
-use Rattle.searches.specs.Searches.{lentToSearch, found, brokenBy, choiceAfter, nearestReply, nearestChoice}
+use Rattle.searches.specs.Searches.{lentToSearch, found, brokenBy, choiceAfter, nearestReply, nearestAnswer, nearestChoice}
 use Rattle.report.specs.Report.{refusalLine}
 use Rattle.problem_files.specs.Problem.{unlessRefused}
 use Rattle.problem_files.specs.Room.{enough, unrefused}
@@ -35,33 +35,33 @@ module _ (n : ℕ) (rules : List ℤ) (row : List ℕ) where
     admitted : Admitted (wishedProblem n rules row 0)
     admitted = unrefused n rules row 0 n n e
 
-    broken-is : brokenBy (nearestWalk n (clauses rules) row) ≡ nearest n rules row
-    broken-is = meaning.nearest-is n rules (admitted .soundRules) row
+    broken-is : brokenBy (nearestAnswer n rules row) ≡ nearest n rules row
+    broken-is = meaning.nearest-is n rules row
 
     none-chosen : refusalOf (lentToSearch n rules row 0 (length off)) ≡ none
     none-chosen = ap (λ (j : ℕ). refusalOf (lentToSearch n rules row 0 j)) (length-replicate {A = ℕ} n 0) ∙ e
 
-    -- the walk's choice is the one that stands in the n bytes
-    chosen-is : (x : Answer) → nearestWalk n (clauses rules) row ≡ some x → chosen n rules row ≡ x .choice
+    -- the first nearest choice is the one that stands in the n bytes
+    chosen-is : (x : Answer) → nearestAnswer n rules row ≡ some x → chosen n rules row ≡ x .choice
     chosen-is x g =
         let rest : drop n off ≡ [] = drop-of-length-le off {i = n} (omega (arith, length-replicate {A = ℕ} n 0)) in
         ap₂ (λ (o : Option Refusal) (w : Option Answer). choiceAfter o w n off) none-chosen g
         ∙ ap (λ (l : List ℕ). x .choice ++ l) rest
         ∙ append-nil (x .choice)
 
-    -- What is printed of a choice that was found: it meets all rules and breaks the printed number of wishes, and no choice that meets the rules breaks fewer.
-    pub closest : (k : ℕ) → nearest n rules row ≡ some k → Closest n (clauses rules) row (record { choice = chosen n rules row; broken = k })
-    closest k f = go (nearestWalk n (clauses rules) row) refl
+    -- What is printed of a choice that was found: it breaks the printed number of wishes and meets all rules; no choice that meets the rules breaks fewer, and every other that breaks as few comes later.
+    pub chosen-first : (k : ℕ) → nearest n rules row ≡ some k → (disagreement row (chosen n rules row) ≡ k) × FirstNearest n (clauses rules) row (chosen n rules row)
+    chosen-first k f = go (nearestAnswer n rules row) refl
       where
-        go : (o : Option Answer) → nearestWalk n (clauses rules) row ≡ o → Closest n (clauses rules) row (record { choice = chosen n rules row; broken = k })
+        go : (o : Option Answer) → nearestAnswer n rules row ≡ o → (disagreement row (chosen n rules row) ≡ k) × FirstNearest n (clauses rules) row (chosen n rules row)
         go none g =
             let never : none ≡ some k = sym (ap brokenBy g) ∙ broken-is ∙ f in
             let z : _≡_ {A = ℕ} 0 1 = cc in absurd (omega arith)
         go (some x) g =
             let count : x .broken ≡ k = Option·some-injective (x .broken) k (sym (ap brokenBy g) ∙ broken-is ∙ f) in
-            subst (Closest n (clauses rules) row)
+            subst (meaning.IsFirst n rules row)
             (ap₂ (λ (a : List ℕ) (j : ℕ). record { choice = a; broken = j }) (sym (chosen-is x g)) count)
-            (meaning.nearest-found n rules (admitted .soundRules) row x g)
+            (meaning.nearest-found n rules row x g)
 
   -- a choice of any length that has room for n bytes
   module _ (blank : List ℕ) (room : 256 ≤ length blank) where
@@ -107,7 +107,7 @@ module _ (n : ℕ) (rules : List ℤ) (row : List ℕ) where
       pub lines : solution (some k) (take n result) ≡ nearestText n rules row
 
     pub nearest-given : (k : ℕ) (result : List ℕ) → answering 1 k 0 0 ≡ nearestReply n rules row (length blank) → result ≡ nearestChoice n rules row blank → Given k result
-    nearest-given k result e f = go (nearestWalk n (clauses rules) row) refl
+    nearest-given k result e f = go (nearestAnswer n rules row) refl
       where
         a : (cause-of ≡ none) × (answering 1 k 0 0 ≡ found (nearest n rules row))
         a = answered (answering 1 k 0 0) 1 k refl e
@@ -122,12 +122,12 @@ module _ (n : ℕ) (rules : List ℤ) (row : List ℕ) where
             same none g = let z : _≡_ {A = ℕ} 0 1 = cc in absurd (omega arith)
             same (some j) g = cc
 
-        go : (o : Option Answer) → nearestWalk n (clauses rules) row ≡ o → Given k result
+        go : (o : Option Answer) → nearestAnswer n rules row ≡ o → Given k result
         go none g =
             let never : none ≡ some k = sym (ap brokenBy g) ∙ broken-is free ∙ count in
             let z : _≡_ {A = ℕ} 0 1 = cc in absurd (omega arith)
         go (some x) g =
-            let size : length (x .choice) ≡ n = meaning.nearest-found n rules (admitted free .soundRules) row x g .model .choice .size in
+            let size : length (x .choice) ≡ n = meaning.nearest-found n rules row x g .1 .model .choice .size in
             let left : result ≡ x .choice ++ drop n blank = f ∙ ap₂ (λ (o : Option Refusal) (w : Option Answer). choiceAfter o w n blank) (a .0) g in
             let front : take n result ≡ x .choice = ap (take n) left ∙ take-at (x .choice) (drop n blank) n size in
             record {

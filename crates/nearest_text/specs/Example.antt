@@ -8,12 +8,12 @@ use Rattle.wish_file.specs.Examples.{bothOff}
 use Rattle.problem_files.specs.Example.{oneRule}
 use Rattle.nearest_text.specs.Printed.{nearestPrinted}
 
--- `o 1`, `s OPTIMUM FOUND` and `v 1 -2 0`: of two equal candidates the lower number, against its wish first
+-- `o 1`, `s OPTIMUM FOUND` and `v -1 2 0`: two choices break one wish, and the first of them has setting 1 off (document 02, L5)
 abbrev pub threeLines : List ℕ
 threeLines =
     (111 ∷ 32 ∷ 49 ∷ 10 ∷ [])
     ++ (115 ∷ 32 ∷ 79 ∷ 80 ∷ 84 ∷ 73 ∷ 77 ∷ 85 ∷ 77 ∷ 32 ∷ 70 ∷ 79 ∷ 85 ∷ 78 ∷ 68 ∷ 10 ∷ [])
-    ++ (118 ∷ 32 ∷ 49 ∷ 32 ∷ 45 ∷ 50 ∷ 32 ∷ 48 ∷ 10 ∷ [])
+    ++ (118 ∷ 32 ∷ 45 ∷ 49 ∷ 32 ∷ 50 ∷ 32 ∷ 48 ∷ 10 ∷ [])
 
 pub printed-example : nearestPrinted oneRule bothOff ≡ threeLines
 unfolding decimal digits classOf

@@ -1,4 +1,4 @@
--- What the program `nearest` prints: the lines of a nearest choice or that there is none, or the line of a refusal.
+-- What the program `nearest` prints: the lines of the first nearest choice or that there is none, or the line of a refusal.
 use mathlib.Core.List.{List}
 use mathlib.Core.Option.{Option}
 use Prim.Native.Nat.{ℕ}
@@ -15,7 +15,7 @@ use Rattle.solution_text.specs.Lines.{solution}
 abbrev pub nearestRefused : ℕ → List ℤ → List ℕ → Option Refusal
 nearestRefused n rules row = refusalOf (lentToSearch n rules row 0 n)
 
--- the choice that it leaves in n bytes
+-- the choice that it leaves in n bytes: the first nearest one (document 02, L5)
 abbrev pub chosen : ℕ → List ℤ → List ℕ → List ℕ
 chosen n rules row = nearestChoice n rules row (replicate n 0)
 

@@ -1,4 +1,4 @@
-// What the program `nearest` prints: the least number of broken wishes and a choice, in the lines
+// What the program `nearest` prints: the least number of broken wishes and the first choice, in the lines
 // that solvers print.
 use problem_files::ReadProblem;
 use searches::Searched;
@@ -29,7 +29,7 @@ pub fn print_nearest(rules_file: &[u8], wish_file: &[u8], out: &mut [u8]) -> usi
     }
 }
 
-// The nearest choice, or the line of the refusal.
+// The first nearest choice, or the line of the refusal.
 fn put_nearest(n: usize, rules: &[i32], row: &[u8], out: &mut [u8]) -> usize
     ensures length { λ r. ⌜ r ≡ length (nearestText n (now (rules .entry)) (now (row .entry))) ⌝ }
     ensures output { λ r. ⌜ now (out .exit) ≡ fitted (nearestText n (now (rules .entry)) (now (row .entry))) (now (out .entry)) ⌝ }

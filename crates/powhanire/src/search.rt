@@ -33,7 +33,7 @@ pub extern "C" fn powhanire_plain(n: usize, rules: &[i32], choice: &mut [u8]) ->
     search_answers::of_searched(plain_search::search(n, rules, choice))
 }
 
-// A nearest choice; the value is the least number of broken wishes.
+// The first nearest choice; the value is the least number of broken wishes.
 #[no_mangle]
 pub extern "C" fn powhanire_nearest(
     n: usize,

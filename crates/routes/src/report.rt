@@ -25,6 +25,28 @@ pub fn outcome(outcome: Outcome) {
     }
 }
 
+// A choice of n settings, each as the number that stands for it, from setting 1 on: 1 for on, 0 for off.
+pub fn choice(n: usize, choice: &[u8]) {
+    if choice.len() < n {
+        words::write(words::NO_ROOM);
+        return;
+    }
+    words::write(words::CHOICE);
+    each_setting(&choice[0..n]);
+}
+
+fn each_setting(choice: &[u8]) {
+    let mut i = 0;
+    while i < choice.len() {
+        setting(choice[i]);
+        i += 1;
+    }
+}
+
+fn setting(byte: u8) {
+    io::print_decimal(STDOUT_FILENO, byte as u64);
+}
+
 // The first and the last of the numbers from one to below another.
 pub fn range(word: usize, from: usize, below: usize) {
     if below <= from {

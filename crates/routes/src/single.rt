@@ -10,8 +10,8 @@ use searches::Searched;
 // The greatest limit, and the greatest number of wishes.
 const GREATEST: usize = 64;
 
-// Nearest, and the wish search at its count, at one below and at 0; at the greatest limit and at 0 where it
-// finds none.
+// Nearest with its choice, and the wish search at its count, at one below and at 0; at the greatest limit
+// and at 0 where it finds none.
 pub fn nearest(n: usize, rules: &[i32], row: &[u8]) {
     let mut choice = unset::choice();
     nearest_into(n, rules, row, &mut choice);
@@ -32,6 +32,7 @@ fn nearest_into(n: usize, rules: &[i32], row: &[u8], choice: &mut [u8]) {
         Searched::Found(count) => {
             report::value(words::BLANK, count);
             report::outcome(outcome::wished(n, rules, row, count, answer, choice));
+            report::choice(n, choice);
             around(n, rules, row, count);
         }
     }

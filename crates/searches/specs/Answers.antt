@@ -11,11 +11,12 @@ use Rattle.distance.specs.Distance.{disagreement}
 use Rattle.refusal.specs.declared.Refusal.{Refusal}
 use Rattle.refusal.specs.Reply.{Reply, refusing, answering, unless}
 use Rattle.choices.specs.Choices.{Model}
+use Rattle.choices.specs.Order.{FirstNearest}
 use Rattle.rule_list.specs.Sound.{SoundList}
 use Rattle.walk.specs.Promises as P
-use Rattle.walk.specs.Walk.{Answer, walk, plainWalk, nearestWalk}
-use Rattle.searches.specs.Meaning.{search-found, search-none, nearest-found, nearest-nothing, plain-found, plain-nothing}
-use Rattle.searches.specs.Searches.{found, brokenBy, choiceAfter}
+use Rattle.walk.specs.Walk.{Answer, walk, plainWalk}
+use Rattle.searches.specs.Meaning.{IsFirst, search-found, search-none, nearest-found, nearest-nothing, plain-found, plain-nothing}
+use Rattle.searches.specs.Searches.{found, brokenBy, choiceAfter, nearestAnswer}
 use Rattle.searches.specs.declared.Searched.{Searched}
 use Rattle.searches.specs.declared.Searched.the-variants.{Refused, Found, Nothing}
 
@@ -41,10 +42,10 @@ PlainMeans n rules bytes (Refused r) = Unit {0}
 PlainMeans n rules bytes (Found broken) = (broken ≡ 0) × Model n (clauses rules) (take n bytes)
 PlainMeans n rules bytes Nothing = (a : List ℕ) → Model n (clauses rules) a → ⊥
 
--- nearest: a model, with its own count, and no model breaks fewer wishes; or there is no model
+-- nearest: a model, with its own count; no model breaks fewer wishes, and every other that breaks as few comes later (document 02, L5); or there is no model
 abbrev pub NearestMeans : ℕ → List ℤ → List ℕ → List ℕ → Searched → Type 0
 NearestMeans n rules row bytes (Refused r) = Unit {0}
-NearestMeans n rules row bytes (Found broken) = P.Closest n (clauses rules) row (answerIn n bytes broken)
+NearestMeans n rules row bytes (Found broken) = (disagreement row (take n bytes) ≡ broken) × FirstNearest n (clauses rules) row (take n bytes)
 NearestMeans n rules row bytes Nothing = (a : List ℕ) → Model n (clauses rules) a → ⊥
 
 -- the answer of a search that comes to o
@@ -83,12 +84,12 @@ module _ (n : ℕ) (before : List ℕ) where
         let w : P.ModelWithin n (clauses rules) row d x = search-found n rules sound row d x e in
         subst (P.ModelWithin n (clauses rules) row d) (front x (w .model .choice .size) bytes g) w
 
-    pub nearest-means : (o : Option Answer) → nearestWalk n (clauses rules) row ≡ o → bytes ≡ choiceAfter none o n before
-        → NearestMeans n rules row bytes (searchedOf (brokenBy o))
-    nearest-means none e g = nearest-nothing n rules sound row e
-    nearest-means (some x) e g =
-        let w : P.Closest n (clauses rules) row x = nearest-found n rules sound row x e in
-        subst (P.Closest n (clauses rules) row) (front x (w .model .choice .size) bytes g) w
+  pub nearest-means : (rules : List ℤ) (row bytes : List ℕ) (o : Option Answer) → nearestAnswer n rules row ≡ o → bytes ≡ choiceAfter none o n before
+      → NearestMeans n rules row bytes (searchedOf (brokenBy o))
+  nearest-means rules row bytes none e g = nearest-nothing n rules row e
+  nearest-means rules row bytes (some x) e g =
+      let w = nearest-found n rules row x e in
+      subst (IsFirst n rules row) (front x (w .1 .model .choice .size) bytes g) w
 
   pub plain-means : (rules : List ℤ) → SoundList n rules → (bytes : List ℕ) (o : Option Answer) → plainWalk n (clauses rules) .answer ≡ o
       → bytes ≡ choiceAfter none o n before → PlainMeans n rules bytes (searchedOf (brokenBy o))

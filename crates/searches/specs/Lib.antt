@@ -4,3 +4,4 @@ pub mod Fits
 pub mod Meaning
 pub mod Opposites
 pub mod Searches
+pub mod Twins

@@ -1,22 +1,23 @@
--- What the searches' replies mean (document 01, demand 2): a found choice meets all rules and breaks the stated number of wishes, at most the limit; none exactly when no choice does so; nearest is the least number among all choices that meet the rules.
-use mathlib.Core.Path.{_≡_, sym, ap, _∙_}
+-- What the searches' replies mean (document 01, demand 2): a found choice meets all rules and breaks the stated number of wishes, at most the limit; none exactly when no choice does so; nearest is the least number among all choices that meet the rules, and its choice the first that has it (document 02, L5).
+use mathlib.Core.Path.{_≡_, refl, sym, ap, subst, _∙_}
 use mathlib.Core.Logic.{_↔_}
 use mathlib.Core.List.{List}
-use mathlib.Core.Option.{Option, none, some}
+use mathlib.Core.Option.{Option, none, some, Option·map, Option·some-injective, Option·none-ne-some}
 use Prim.Native.Nat.{ℕ, _<_}
 use native.Mathlib.Omega.{arith}
 use lib.IntN.{ℤ}
 use lib.ListN.{replicate}
 use Rattle.formula.specs.Formula.{clauses}
 use Rattle.wish.specs.Wish.{freeByte}
-use Rattle.distance.specs.Distance.{disagreement, nearest}
+use Rattle.distance.specs.Distance.{disagreement, nearest, firstNearest}
 use Rattle.choices.specs.Choices.{Model, nearest-none}
+use Rattle.choices.specs.Order.{FirstNearest, first-nearest, first-count}
 use Rattle.rule_list.specs.Sound.{SoundList}
-use Rattle.walk.specs.Promises.{ModelWithin, Closest}
-use Rattle.walk.specs.Theorems.{walk-sound, walk-none, plain-none, nearest-sound, nearest-count}
-use Rattle.walk.specs.Walk.{Answer, walk, plainWalk, nearestWalk}
+use Rattle.walk.specs.Promises.{ModelWithin}
+use Rattle.walk.specs.Theorems.{walk-sound, walk-none, plain-none}
+use Rattle.walk.specs.Walk.{Answer, walk, plainWalk}
 use Rattle.searches.specs.Fits.{sound-fits}
-use Rattle.searches.specs.Searches.{brokenBy}
+use Rattle.searches.specs.Searches.{brokenBy, withBroken, nearestAnswer}
 
 module _ (n : ℕ) (rules : List ℤ) (sound : SoundList n rules) (row : List ℕ) where
   -- the wish search, whatever the row: a found choice is a model within the limit, with its own count
@@ -26,18 +27,26 @@ module _ (n : ℕ) (rules : List ℤ) (sound : SoundList n rules) (row : List �
   pub search-none : (d : ℕ) → (walk n (clauses rules) row d .answer ≡ none) ↔ ((a : List ℕ) → Model n (clauses rules) a → d < disagreement row a)
   search-none d = walk-none n (clauses rules) (sound-fits n rules sound) row d
 
-  -- nearest
-  pub nearest-found : (x : Answer) → nearestWalk n (clauses rules) row ≡ some x → Closest n (clauses rules) row x
-  nearest-found x e = nearest-sound n (clauses rules) (sound-fits n rules sound) row x e
+-- nearest, whatever the rules and the row: the first nearest model, with its own count
+module _ (n : ℕ) (rules : List ℤ) (row : List ℕ) where
+  abbrev pub IsFirst : Answer → Type 0
+  IsFirst x = (disagreement row (x .choice) ≡ x .broken) × FirstNearest n (clauses rules) row (x .choice)
 
-  pub nearest-is : brokenBy (nearestWalk n (clauses rules) row) ≡ nearest n rules row
-  nearest-is = go (nearestWalk n (clauses rules) row) (nearest-count n rules (sound-fits n rules sound) row)
+  pub nearest-found : (x : Answer) → nearestAnswer n rules row ≡ some x → IsFirst x
+  nearest-found x = go (firstNearest n rules row) refl
     where
-      go : (o : Option Answer) → mathlib.Core.Option.Option·map (λ (x : Answer). x .broken) o ≡ nearest n rules row → brokenBy o ≡ nearest n rules row
-      go none e = e
-      go (some x) e = e
+      go : (o : Option (List ℕ)) → firstNearest n rules row ≡ o → withBroken row o ≡ some x → IsFirst x
+      go none e f = absurd (Option·none-ne-some x f)
+      go (some a) e f = subst IsFirst (Option·some-injective (record { choice = a; broken = disagreement row a }) x f) (refl, first-nearest n rules row a .0 e)
 
-  pub nearest-nothing : nearestWalk n (clauses rules) row ≡ none → (a : List ℕ) → Model n (clauses rules) a → ⊥
+  pub nearest-is : brokenBy (nearestAnswer n rules row) ≡ nearest n rules row
+  nearest-is = go (firstNearest n rules row) ∙ first-count n rules row
+    where
+      go : (o : Option (List ℕ)) → brokenBy (withBroken row o) ≡ Option·map (disagreement row) o
+      go none = refl
+      go (some a) = refl
+
+  pub nearest-nothing : nearestAnswer n rules row ≡ none → (a : List ℕ) → Model n (clauses rules) a → ⊥
   nearest-nothing e = nearest-none n rules row .0 (sym nearest-is ∙ ap brokenBy e)
 
 -- plain search

@@ -5,11 +5,11 @@ use Prim.Native.Nat.{ℕ}
 use lib.IntN.{ℤ}
 use lib.ListN.{length, drop}
 use Rattle.formula.specs.Formula.{clauses}
-use Rattle.distance.specs.Distance.{nearest}
+use Rattle.distance.specs.Distance.{disagreement, nearest, firstNearest}
 use Rattle.refusal.specs.declared.Refusal.{Refusal}
 use Rattle.refusal.specs.Reply.{Reply, answering, unless}
 use Rattle.causes.specs.Lent.{Lent, withRoom, plainProblem, wishedProblem, refusalOf}
-use Rattle.walk.specs.Walk.{Answer, walk, plainWalk, nearestWalk}
+use Rattle.walk.specs.Walk.{Answer, walk, plainWalk}
 
 -- found, with the number of broken wishes, or none
 abbrev pub found : Option ℕ → Reply
@@ -19,6 +19,11 @@ found (some broken) = answering 1 broken 0 0
 abbrev pub brokenBy : Option Answer → Option ℕ
 brokenBy none = none
 brokenBy (some x) = some (x .broken)
+
+-- a choice, if there is one, with the number of wishes that it breaks
+abbrev pub withBroken : List ℕ → Option (List ℕ) → Option Answer
+withBroken row none = none
+withBroken row (some a) = some (record { choice = a; broken = disagreement row a })
 
 -- "The choice that a search writes needs n bytes": a choice that is found stands in the first n bytes; "None" and a refusal leave the choice unchanged, and "on success bytes past the needed length stay"
 abbrev pub choiceAfter : Option Refusal → Option Answer → ℕ → List ℕ → List ℕ
@@ -47,10 +52,13 @@ plainReply n rules room = unless (refusalOf (lentToPlain n rules room)) (found (
 abbrev pub plainChoice : ℕ → List ℤ → List ℕ → List ℕ
 plainChoice n rules choice = choiceAfter (refusalOf (lentToPlain n rules (length choice))) (plainWalk n (clauses rules) .answer) n choice
 
--- "Nearest gives the least number of broken wishes with a choice, or none when the rules can't be met; it takes no limit."
+-- "Nearest gives the least number of broken wishes with a choice, or none when the rules can't be met; it takes no limit." "Nearest now returns the first nearest choice" (document 02, L5).
 abbrev pub nearestReply : ℕ → List ℤ → List ℕ → ℕ → Reply
 nearestReply n rules row room = unless (refusalOf (lentToSearch n rules row 0 room)) (found (nearest n rules row))
 
+abbrev pub nearestAnswer : ℕ → List ℤ → List ℕ → Option Answer
+nearestAnswer n rules row = withBroken row (firstNearest n rules row)
+
 abbrev pub nearestChoice : ℕ → List ℤ → List ℕ → List ℕ → List ℕ
 nearestChoice n rules row choice =
-    choiceAfter (refusalOf (lentToSearch n rules row 0 (length choice))) (nearestWalk n (clauses rules) row) n choice
+    choiceAfter (refusalOf (lentToSearch n rules row 0 (length choice))) (nearestAnswer n rules row) n choice

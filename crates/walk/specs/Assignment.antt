@@ -51,6 +51,11 @@ assign-extends a zero b e = record { keeps = λ i q. refl }
 assign-extends a (suc j) b e =
     record { keeps = λ i q. set-at a j i b .1 (λ z. q (ap (λ (m : ℕ). getD a m 2) z ∙ e)) }
 
+-- the variable has the value then
+pub assign-value : {n : ℕ} {a : List ℕ} → State n a → (v b : ℕ) → 0 < v → v ≤ n → value (assign a v b) v ≡ b
+assign-value h zero b l u = absurd (not-suc-le-zero l)
+assign-value {n} {a} h (suc j) b l u = getD-set-same a j b 2 (omega (arith, h .size))
+
 -- the state stays a state
 pub assign-state : {n : ℕ} {a : List ℕ} → State n a → (v b : ℕ) → b ≤ 2 → State n (assign a v b)
 assign-state h zero b k = h

@@ -10,10 +10,19 @@ use lib.ListN.{replicate}
 use Rattle.wish.specs.Wish.{totalWeight}
 use Rattle.distance.specs.Distance.{disagreement}
 use Rattle.choices.specs.Choices.{Model}
-use Rattle.walk.specs.State.{unassigned, fits}
-use Rattle.walk.specs.Walk.{Answer, walk, firstAnswer, climb, nearestWalk}
+use Rattle.walk.specs.State.{fits}
+use Rattle.walk.specs.Walk.{Answer, walk, firstAnswer}
 use Rattle.walk.specs.Promises.{ModelWithin, Closest}
 use Rattle.walk.specs.Correctness.{start-state, start-extends, Right, walk-right}
+
+-- the first answer of the walks with the limits d, d + 1, .., d + k
+abbrev pub climb : ℕ → List (List ℤ) → List ℕ → ℕ → ℕ → Option Answer
+climb n f row zero d = walk n f row d .answer
+climb n f row (suc k) d = firstAnswer (walk n f row d .answer) (climb n f row k (suc d))
+
+-- a nearest choice: the first answer of all limits, since no choice breaks more than all wishes weigh
+abbrev pub nearestWalk : ℕ → List (List ℤ) → List ℕ → Option Answer
+nearestWalk n f row = climb n f row (totalWeight row) 0
 
 -- what the answer of the walks up to limit m says
 abbrev pub RightUpTo : ℕ → List (List ℤ) → List ℕ → ℕ → Option Answer → Type 0
@@ -23,13 +32,13 @@ RightUpTo n f row m (some x) = Closest n f row x
 module _ (n : ℕ) (f : List (List ℤ)) (fit : fits n f ≡ true) (row : List ℕ) where
   -- the walk from the start
   pub start-right : (d : ℕ) → Right n f row d (replicate n 2) (walk n f row d .answer)
-  start-right d = walk-right n f fit row d (suc (unassigned (replicate n 2))) (replicate n 2) (start-state n) (omega arith)
+  start-right d = walk-right n f fit row d (replicate n 2) (start-state n)
 
   -- where every model breaks d wishes or more, what a walk with limit d finds is nearest
   at-limit : (d : ℕ) → ((a : List ℕ) → Model n f a → d ≤ disagreement row a) → (o : Option Answer) → Right n f row d (replicate n 2) o → RightUpTo n f row d o
   at-limit d h none p = λ a m. p a m (start-extends n a)
   at-limit d h (some x) p =
-      let r : ModelWithin n f row d x = p in
+      let r : ModelWithin n f row d x = p .0 in
       record { model = r .model; own-count = r .own-count; below = λ a m. omega (arith, h a m, r .limited) }
 
   climb-right : (k d m : ℕ) → m ≡ d + k → ((a : List ℕ) → Model n f a → d ≤ disagreement row a) → RightUpTo n f row m (climb n f row k d)

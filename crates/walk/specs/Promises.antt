@@ -16,7 +16,7 @@ pub record ModelWithin (n : ℕ) (f : List (List ℤ)) (row : List ℕ) (d : ℕ
   pub own-count : disagreement row (x .choice) ≡ x .broken
   pub limited : x .broken ≤ d
 
--- an answer of nearest: a model, with its own count, and no model breaks fewer
+-- an answer of the walks with rising limits: a model, with its own count, and no model breaks fewer
 pub record Closest (n : ℕ) (f : List (List ℤ)) (row : List ℕ) (x : Answer) : Type 0 where
   pub model : Model n f (x .choice)
   pub own-count : disagreement row (x .choice) ≡ x .broken

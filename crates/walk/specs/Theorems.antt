@@ -1,4 +1,4 @@
--- The theorems of the wish search. Each holds for every n, every formula whose literals have their variables in 1 to n (`fits`), every wish row and every limit.
+-- The theorems of the wish search, from its start; `walk-right` in Correctness is that from any state. Each holds for every n, every formula whose literals have their variables in 1 to n (`fits`), every wish row and every limit.
 use mathlib.Core.Path.{_≡_, refl, sym, subst}
 use mathlib.Core.Logic.{_↔_, Iff·trans, Iff·symm}
 use mathlib.Core.Bool.{true}
@@ -15,16 +15,18 @@ use Rattle.distance.specs.Laws.{disagreement-most, disagreement-free}
 use Rattle.choices.specs.Choices.{Model, within-iff, within-none, nearest-none, nearest-some}
 use Rattle.walk.specs.State.{State, unassigned, fits}
 use Rattle.walk.specs.Branching.{branchingVariable}
-use Rattle.walk.specs.Walk.{Answer, walkBy, walk, plainWalk, nearestWalk}
+use Rattle.walk.specs.Walk.{Answer, walkBy, walk, plainWalk}
 use Rattle.walk.specs.Promises.{ModelWithin, Closest, Undecided, Branches}
 use Rattle.walk.specs.WalkLaws.{walk-enough}
 use Rattle.walk.specs.Induction.{branching}
 use Rattle.walk.specs.Correctness.{start-state, start-unassigned, start-extends, Right}
-use Rattle.walk.specs.Nearest.{RightUpTo, start-right, nearest-right}
+use Rattle.walk.specs.Nearest.{nearestWalk, RightUpTo, start-right, nearest-right}
 
 -- Soundness: what the walk finds is a choice that meets all rules, with the count that it breaks, and that is at most d.
 pub walk-sound : (n : ℕ) (f : List (List ℤ)) → fits n f ≡ true → (row : List ℕ) (d : ℕ) (x : Answer) → walk n f row d .answer ≡ some x → ModelWithin n f row d x
-walk-sound n f fit row d x e = subst (Right n f row d (replicate n 2)) e (start-right n f fit row d)
+walk-sound n f fit row d x e =
+    let p : Right n f row d (replicate n 2) (some x) = subst (Right n f row d (replicate n 2)) e (start-right n f fit row d) in
+    p .0
 
 -- Completeness: it finds nothing exactly when every choice that meets all rules breaks more than d wishes.
 pub walk-none : (n : ℕ) (f : List (List ℤ)) → fits n f ≡ true → (row : List ℕ) (d : ℕ)
@@ -39,7 +41,7 @@ walk-none n f fit row d = (forth, λ g. back g (walk n f row d .answer) (start-r
     back : ((a : List ℕ) → Model n f a → d < disagreement row a) → (o : Option Answer) → Right n f row d (replicate n 2) o → o ≡ none
     back g none p = refl
     back g (some x) p =
-        let r : ModelWithin n f row d x = p in
+        let r : ModelWithin n f row d x = p .0 in
         absurd (omega (arith, g (x .choice) (r .model), r .own-count, r .limited))
 
 -- The same of the choices that are listed.
@@ -66,11 +68,11 @@ pub plain-none : (n : ℕ) (f : List (List ℤ)) → fits n f ≡ true → (plai
 plain-none n f fit =
     (λ e a m. omega (arith, walk-none n f fit (replicate n freeByte) 0 .0 e a m, disagreement-free n a), λ g. walk-none n f fit (replicate n freeByte) 0 .1 (λ a m. absurd (g a m)))
 
--- Nearest finds a choice that meets all rules, with the count that it breaks, and no such choice breaks fewer.
+-- The walks with rising limits find a choice that meets all rules, with the count that it breaks, and no such choice breaks fewer.
 pub nearest-sound : (n : ℕ) (f : List (List ℤ)) → fits n f ≡ true → (row : List ℕ) (x : Answer) → nearestWalk n f row ≡ some x → Closest n f row x
 nearest-sound n f fit row x e = subst (RightUpTo n f row (totalWeight row)) e (nearest-right n f fit row)
 
--- Its count is the nearest count: none exactly when the rules can't be met.
+-- Their count is the nearest count: none exactly when the rules can't be met.
 pub nearest-count : (n : ℕ) (list : List ℤ) → fits n (clauses list) ≡ true → (row : List ℕ)
     → Option·map (λ (x : Answer). x .broken) (nearestWalk n (clauses list) row) ≡ nearest n list row
 nearest-count n list fit row = go (nearestWalk n (clauses list) row) (nearest-right n (clauses list) fit row)

@@ -8,7 +8,7 @@ use lib.IntN.{ℤ}
 use lib.ListN.{replicate}
 use Rattle.literal.specs.Literal.{value}
 use Rattle.formula.specs.Formula.{any, models}
-use Rattle.wish.specs.Wish.{freeByte, wishedValue, unwishedValue, totalWeight}
+use Rattle.wish.specs.Wish.{freeByte, wishedValue, unwishedValue}
 use Rattle.distance.specs.Distance.{disagreement}
 use Rattle.walk.specs.State.{isUnset, unassigned, assign, isFalsified}
 use Rattle.walk.specs.Propagation.{propagate}
@@ -101,12 +101,3 @@ walk n f row d = walkFrom f row d (replicate n 2)
 -- "Plain search is this with no wishes and d = 0"
 abbrev pub plainWalk : ℕ → List (List ℤ) → Outcome
 plainWalk n f = walk n f (replicate n freeByte) 0
-
--- the first answer of the walks with the limits d, d + 1, .., d + k
-abbrev pub climb : ℕ → List (List ℤ) → List ℕ → ℕ → ℕ → Option Answer
-climb n f row zero d = walk n f row d .answer
-climb n f row (suc k) d = firstAnswer (walk n f row d .answer) (climb n f row k (suc d))
-
--- "Nearest gives the least number of broken wishes with a choice [..]; it takes no limit."
-abbrev pub nearestWalk : ℕ → List (List ℤ) → List ℕ → Option Answer
-nearestWalk n f row = climb n f row (totalWeight row) 0

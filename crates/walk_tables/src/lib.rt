@@ -33,7 +33,7 @@ pub fn no_trail() -> [u16; 640]
     [0; 640]
 }
 
-// Copies values to the front of a choice.
+// Copies values to the front of a list of bytes.
 pub fn copy_to(values: &[u8], choice: &mut [u8])
     requires { ⌜ length (now values) ≤ length (now choice) ⌝ }
     ensures { λ _. ⌜ now (choice .exit) ≡ now (values .entry) ++ drop (length (now (values .entry))) (now (choice .entry)) ⌝ }
@@ -41,6 +41,18 @@ pub fn copy_to(values: &[u8], choice: &mut [u8])
     let mut i = 0;
     while i < values.len() {
         choice[i] = values[i];
+        i += 1;
+    }
+}
+
+// Copies a trail to one that is as long.
+pub fn copy_trail(trail: &[u16], to: &mut [u16])
+    requires { ⌜ length (now to) ≡ length (now trail) ⌝ }
+    ensures { λ _. ⌜ now (to .exit) ≡ now (trail .entry) ⌝ }
+{
+    let mut i = 0;
+    while i < trail.len() {
+        to[i] = trail[i];
         i += 1;
     }
 }

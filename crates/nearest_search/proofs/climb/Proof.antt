@@ -6,7 +6,8 @@ use Prim.Native.Nat.{ℕ, _-_, _≤_, zero-le}
 use native.Mathlib.Omega.{arith}
 use lib.ListN.{length}
 use Rattle.formula.specs.Formula.{clauses}
-use Rattle.walk.specs.Walk.{Answer, walk, climb as walks, nearestWalk}
+use Rattle.walk.specs.Nearest.{climb as walks, nearestWalk}
+use Rattle.walk.specs.Walk.{Answer, walk}
 use Rattle.searches.specs.Answers.{searchedOf}
 use Rattle.searches.specs.Searches.{brokenBy, choiceAfter}
 use Rattle.walk_result.specs.Tried.{brokenIn}

@@ -1,9 +1,8 @@
--- `nearest_search::search` meets its contract: refused, or what the walks with rising limits come to.
+-- `nearest_search::search` meets its contract: refused, or the first nearest choice.
 use mathlib.Core.Path.{_≡_, refl, sym, ap, subst, _∙_}
 use mathlib.Core.Option.{Option, none, some}
 use Prim.Native.Nat.{ℕ, _≤_}
 use lib.ListN.{length}
-use Rattle.formula.specs.Formula.{clauses}
 use Rattle.distance.specs.Distance.{nearest}
 use Rattle.refusal.specs.Reply.{unless}
 use Rattle.causes.specs.Admitted.{Admitted, unrefused}
@@ -11,23 +10,22 @@ use Rattle.causes.specs.Lent.{Lent, wishedProblem, refusalOf}
 use Rattle.admission_steps.specs.declared.Counts.{Counts}
 use Rattle.admission_steps.specs.Admission.{countsOf, start}
 use Rattle.admission_steps.specs.Laws.{refused-by, admitted-by, started}
-use Rattle.walk.specs.Walk.{nearestWalk}
 use Rattle.searches.specs.Answers.{NearestMeans, refused-reply, refused-answer, given-answer, nearest-means}
 use Rattle.searches.specs.Meaning.{nearest-is}
-use Rattle.searches.specs.Searches.{lentToSearch, found}
+use Rattle.searches.specs.Searches.{lentToSearch, found, nearestAnswer}
 use Rattle.root_walk.specs.Into.{startable}
 use borrow.Author.Needs.{needs}
 use Rattle.nearest_search.proofs.search.Statement.{statement}
 use Rattle.nearest_search.proofs.search.Tie as tie
 
--- Points of the program: the entry; after the checks; past them, with the counts; after the climb.
+-- Points of the program: the entry; after the checks; past them, with the counts; after the search.
 abbrev entry : tie.After-with-room → tie.Start
 entry c = c .before .before .before .before
 
 abbrev checked : tie.After-known-told2 → tie.After-with-room
 checked c = c .before .before .before
 
-abbrev counts : tie.After-climb → tie.After-known-told2
+abbrev counts : tie.After-first-nearest → tie.After-known-told2
 counts c = c .before .before
 
 -- after the checks: what was lent, and what they say of it
@@ -67,8 +65,8 @@ enum-known-r c = search needs
 enum-known-counts : tie.Need-enum-known-counts
 enum-known-counts c = search needs
 
-climb-requires : tie.Need-climb-requires
-climb-requires c κs =
+first-nearest-requires : tie.Need-first-nearest-requires
+first-nearest-requires c κs =
     let past = c .before in
     (startable (problem-of (checked past)) (room (checked past)) (ready past), ap (λ (k : Counts). k .weight) (passed past .1))
 
@@ -79,7 +77,7 @@ returns c =
     let r = c .before .r .given .0 .0 in
     let refuses : refusalOf (lent p) ≡ some r = refused-by (refusalOf (lent p)) (countsOf (lent p)) r (sym (told p) ∙ c .before .r .given .1) in (
       refused-reply (refusalOf (lent p)) r (found (nearest (args .n) (args .rules .now) (args .row .now))) refuses,
-      (refused-answer (refusalOf (lent p)) (nearestWalk (args .n) (clauses (args .rules .now)) (args .row .now)) (args .n) (args .choice .now) r refuses .1, tt),
+      (refused-answer (refusalOf (lent p)) (nearestAnswer (args .n) (args .rules .now) (args .row .now)) (args .n) (args .choice .now) r refuses .1, tt),
     )
 
 same-length : tie.Need-same-length
@@ -87,20 +85,19 @@ same-length c = search needs
 
 returns-2 : tie.Need-returns-2
 returns-2 c =
-    let climbed = c .before .before in
-    let past = counts climbed in
+    let searched = c .before .before in
+    let past = counts searched in
     let p = checked past in
     let args = entry p .args in
-    let answer = nearestWalk (args .n) (clauses (args .rules .now)) (args .row .now) in
-    let call = climbed .climb in
+    let answer = nearestAnswer (args .n) (args .rules .now) (args .row .now) in
+    let call = searched .first-nearest in
     let after = call .last .1 .1 .1 .1 .0 in
-    let sound = ready past .0 .soundRules in
     let w = given-answer (refusalOf (lent p)) answer (args .n) (args .choice .now) (passed past .0) (call .result) after (call .ensures .0) (call .ensures .1) in (
-      w .0 ∙ ap (λ (o : Option ℕ). unless (refusalOf (lent p)) (found o)) (nearest-is (args .n) (args .rules .now) sound (args .row .now)),
+      w .0 ∙ ap (λ (o : Option ℕ). unless (refusalOf (lent p)) (found o)) (nearest-is (args .n) (args .rules .now) (args .row .now)),
       (
         w .1,
         subst (NearestMeans (args .n) (args .rules .now) (args .row .now) after) (sym (call .ensures .0))
-            (nearest-means (args .n) (args .choice .now) (args .rules .now) sound (args .row .now) after answer refl (call .ensures .1)),
+            (nearest-means (args .n) (args .choice .now) (args .rules .now) (args .row .now) after answer refl (call .ensures .1)),
       ),
     )
 
@@ -112,7 +109,7 @@ search-spec =
     with-room-requires
     enum-known-r
     enum-known-counts
-    climb-requires
+    first-nearest-requires
     returns
     same-length
     returns-2)

@@ -1,26 +1,13 @@
 -- `walk_tables::copy_to` meets its contract: each turn stores the next value.
-use mathlib.Core.Path.{_≡_, sym, ap, _∙_}
-use mathlib.Core.List.{List, _++_}
-use Prim.Native.Nat.{ℕ, _+_, _-_, _≤_, _<_}
-use native.Mathlib.Nat.{zero-add}
-use native.Mathlib.Numerals.{add-one}
+use mathlib.Core.Path.{_≡_, _∙_}
+use Prim.Native.Nat.{_-_, _≤_}
 use native.Mathlib.Omega.{arith}
-use lib.ListN.{length, getD, set, drop, length-set, drop-of-length-le}
-use lib.Seq.{drop-cons, sets, sets-eq}
+use lib.ListN.{length, getD, drop, length-set}
+use lib.Seq.{sets}
 use borrow.Author.Needs.{needs}
+use Rattle.walk_tables.specs.Copying.{copy-step, copy-done}
 use Rattle.walk_tables.proofs.copy_to.Statement.{statement}
 use Rattle.walk_tables.proofs.copy_to.Tie as tie
-
-copy-step : (values choice : List ℕ) (i : ℕ) → i < length values → sets (set choice i (getD values i 0)) (i + 1) (drop (i + 1) values) ≡ sets choice i (drop i values)
-copy-step values choice i h = sym (rw (drop-cons values i 0 h, add-one i))
-
-copy-done : (values choice choice₀ : List ℕ) (i : ℕ) → length values ≤ i → length values ≤ length choice₀ → sets choice i (drop i values) ≡ sets choice₀ 0 values
-    → choice ≡ values ++ drop (length values) choice₀
-copy-done values choice choice₀ i h k e =
-    sym (ap (sets choice i) (drop-of-length-le values {i = i} h))
-    ∙ e
-    ∙ sets-eq values choice₀ 0 (omega arith)
-    ∙ ap (λ (j : ℕ). values ++ drop j choice₀) (zero-add (length values))
 
 abbrev Inv-loop : tie.InvT-loop
 Inv-loop values choice₀ i₀ choice i = (i ≤ length values) × (length choice ≡ length choice₀) × (sets choice i (drop i values) ≡ sets choice₀ 0 values)

@@ -100,10 +100,10 @@ fn write_opb(mut v: Values, short: usize) -> Option<String> {
     Some(format!("{words}\n{}", held(&file, short)))
 }
 
-/// Which choice a search finds is left open: of one that is found, what holds of it and what the buffer holds
-/// past it.
-fn searched(a: Answer, n: u64, buffer: &[u8], short: usize, found: impl Fn(Answer) -> String) -> String {
-    let kept = if a.verdict == 1 { n as usize } else { 0 };
+/// A search's answer and what its buffer holds, without the first bytes of a choice that was found where the documents
+/// leave `open` which it is: of such a choice the answer says what holds of it.
+fn searched(a: Answer, open: u64, buffer: &[u8], short: usize, found: impl Fn(Answer) -> String) -> String {
+    let kept = if a.verdict == 1 { open as usize } else { 0 };
     let words = said(a, |a| if a.verdict == 1 { found(a) } else { "none".to_string() });
     format!("{words}\n{}", held(&buffer[kept..], short))
 }
@@ -132,12 +132,13 @@ fn plain(mut v: Values, short: usize) -> Option<String> {
     Some(searched(a, n, &choice, short, |a| format!("found {}\nmet", a.value[0])))
 }
 
+/// Which choice is nearest is not left open (document 02, L5).
 fn nearest(mut v: Values, short: usize) -> Option<String> {
     let (n, rules, row, mut choice) = (v.number()?, v.numbers()?, v.row()?, v.bytes()?);
     v.end()?;
     let a = reference::nearest(n, &rules, &row, &mut choice);
     sure(a, n, &rules, &row, 64, &choice);
-    Some(searched(a, n, &choice, short, |a| format!("found {0}\nmet {0}", a.value[0])))
+    Some(searched(a, 0, &choice, short, |a| format!("found {0}\nmet {0}", a.value[0])))
 }
 
 fn rewrite(mut v: Values, short: usize) -> Option<String> {

@@ -6,6 +6,7 @@ mod files;
 mod page;
 mod random;
 mod searches;
+mod twins;
 mod values;
 
 use both::Both;
@@ -15,7 +16,7 @@ type Group = (&'static str, u64, fn(&mut Both, &mut random::Random));
 
 fn main() {
     let only = std::env::args().nth(1);
-    let groups: Vec<Group> = [files::GROUPS, values::GROUPS, searches::GROUPS, exports::GROUPS].concat();
+    let groups: Vec<Group> = [files::GROUPS, values::GROUPS, searches::GROUPS, twins::GROUPS, exports::GROUPS].concat();
     let mut both = Both::new();
     for (name, runs, run) in groups.iter().filter(|g| only.as_deref().map_or(true, |o| o == g.0)) {
         let (before, start) = (both.passed, std::time::Instant::now());

@@ -83,6 +83,34 @@ impl Random {
         opposed
     }
 
+    /// A list that permits the same choices: its rules and the entries of each in another order, if `more` with rules
+    /// beside them that ask nothing new. These are a rule once more, one with a further entry, or both senses of a
+    /// setting.
+    pub fn twin(&mut self, n: usize, list: &[i32], more: bool) -> Vec<i32> {
+        let mut rules: Vec<Vec<i32>> = rules_of(list).into_iter().map(<[i32]>::to_vec).collect();
+        for at in 0..if more { rules.len() } else { 0 } {
+            let (mut again, entry) = (rules[at].clone(), self.rule(n, 1)[0]);
+            match self.below(6) {
+                0 => rules.push(again),
+                1 if !again.contains(&entry) => {
+                    again.push(entry);
+                    rules.push(again)
+                }
+                2 => rules.push(vec![entry, -entry]),
+                _ => {}
+            }
+        }
+        self.shuffle(&mut rules);
+        rules.iter_mut().for_each(|rule| self.shuffle(rule));
+        rules.iter().flat_map(|rule| [rule, &[0][..]].concat()).collect()
+    }
+
+    fn shuffle<T>(&mut self, values: &mut [T]) {
+        for at in 1..values.len() {
+            values.swap(at, self.below(at + 1));
+        }
+    }
+
     /// A row with `wishes` wishes.
     pub fn row(&mut self, n: usize, wishes: usize) -> Vec<u8> {
         let mut row = vec![2; n];
@@ -238,6 +266,14 @@ pub fn ladder(n: usize) -> Vec<i32> {
         }
     }
     list
+}
+
+/// The same of the settings from 2 on, and setting 1 meets every rule: nearest has a choice by it at once, and comes to
+/// the path when it asks for one without.
+pub fn met_ladder(n: usize) -> Vec<i32> {
+    let next = |&e: &i32| e + e.signum();
+    let met = |rule: &[i32]| [1].into_iter().chain(rule.iter().map(next)).chain([0]).collect::<Vec<_>>();
+    rules_of(&ladder(n - 1)).into_iter().flat_map(met).collect()
 }
 
 /// The list without the entries that stand in their rule already.

@@ -2,9 +2,9 @@
 
 use crate::both::Both;
 use crate::files::rooms;
-use crate::random::{ladder, without_opposites, Random};
+use crate::random::{ladder, met_ladder, without_opposites, Random};
 use reference::lent::wish_count;
-use reference::{totalizer, walk};
+use reference::{first, totalizer, walk};
 
 pub const GROUPS: &[crate::Group] = &[
     ("searches: tiny books, every d", 4_000, tiny),
@@ -102,7 +102,7 @@ fn long_rules(both: &mut Both, random: &mut Random) {
 /// "Opposite entries are both stored, and such a rule is always met": without such rules a book has the same answers.
 fn same_without_opposites(both: &mut Both, n: usize, list: &[i32], row: &[u8]) {
     let fewer = without_opposites(list);
-    let near = both.nearest(n as u64, list, row, n).0 == both.nearest(n as u64, &fewer, row, n).0;
+    let near = both.nearest(n as u64, list, row, n) == both.nearest(n as u64, &fewer, row, n);
     let plain = both.plain(n as u64, list, n).0 == both.plain(n as u64, &fewer, n).0;
     both.hold(near && plain, || format!("rules of both senses count in {list:?} with {row:?}"));
 }
@@ -145,15 +145,15 @@ fn many_forks(both: &mut Both, random: &mut Random) {
     both.nearest(64, &list, &row, 64);
 }
 
-/// A book and a row on which nearest makes few enough forks for a test.
-fn within_reach(
+/// A book and a row on which nearest makes few enough forks for a test, for the count and for the first choice.
+pub fn within_reach(
     random: &mut Random,
     most: u64,
     mut book: impl FnMut(&mut Random) -> (Vec<i32>, Vec<u8>),
 ) -> (Vec<i32>, Vec<u8>) {
     loop {
         let (list, row) = book(random);
-        if walk::nearest_within(&list, &row, most).is_some() {
+        if first::by_searches(&list, &row, most).is_some() {
             return (list, row);
         }
     }
@@ -161,7 +161,7 @@ fn within_reach(
 
 fn many_wishes(both: &mut Both, random: &mut Random) {
     let n = random.of(&[64, 70, 100]);
-    let (list, row) = within_reach(random, 1_000, |r| (r.book(n, 2 * n, 3, 4), r.row(n, 64)));
+    let (list, row) = within_reach(random, 3_000, |r| (r.book(n, 2 * n, 3, 4), r.row(n, 64)));
     both.nearest(n as u64, &list, &row, n);
     for d in 0..=65 {
         both.search(n as u64, &list, &row, d, n);
@@ -189,7 +189,7 @@ fn plain_large(both: &mut Both, random: &mut Random) {
 fn wished_large(both: &mut Both, random: &mut Random) {
     let n = 256;
     let rules = random.of(&[200, 250, 300, 350]);
-    let (list, row) = within_reach(random, 1_000, |r| (r.book(n, rules, 3, 5), r.row(n, 64)));
+    let (list, row) = within_reach(random, 5_000, |r| (r.book(n, rules, 3, 5), r.row(n, 64)));
     let (near, _) = both.nearest(n as u64, &list, &row, n);
     for d in near.value[0].saturating_sub(2)..near.value[0] + 2 {
         both.search(n as u64, &list, &row, d, n);
@@ -219,6 +219,15 @@ fn deepest(both: &mut Both, _: &mut Random) {
         if d == 0 {
             both.nearest(256, &list, &row, 256);
         }
+    }
+    // a path that only the search for the first choice comes to
+    let (list, mut row) = (met_ladder(256), vec![2; 256]);
+    for wishes in [0, 64] {
+        row[1..1 + wishes].fill(1);
+        let searches = [walk::least_within, first::by_searches];
+        let [climbed, made] = searches.map(|search| search(&list, &row, u64::MAX).unwrap().deepest);
+        both.hold((climbed, made) == (1, 254), || format!("{climbed} and then {made} forks on a path"));
+        both.nearest(256, &list, &row, 256);
     }
 }
 

@@ -1,6 +1,7 @@
 //! The ten calls, written from the text of document 01 and of the landed requests of document 02 alone, and from nothing
 //! of the library, so that a comparison of the two can find a misreading in either. It is plain rather than quick.
 
+pub mod first;
 pub mod lent;
 pub mod opb;
 pub mod program;
@@ -134,7 +135,7 @@ pub fn nearest(n: u64, rules: &[i32], row: &[u8], choice: &mut [u8]) -> Answer {
     replied((|| {
         wished(n, rules, row, 0)?;
         lent::room(choice, n as usize)?;
-        Ok(found(row, walk::nearest(rules, row).choice, choice))
+        Ok(found(row, first::nearest(rules, row), choice))
     })())
 }
 

@@ -14,18 +14,15 @@ pub fn search(list: &[i32], row: &[u8], d: u64) -> Outcome {
     search_within(list, row, d, u64::MAX).unwrap()
 }
 
-pub fn nearest(list: &[i32], row: &[u8]) -> Outcome {
-    nearest_within(list, row, u64::MAX).unwrap()
-}
-
 /// The search, unless it makes more than `most` forks: for a test or a timing to pass over a book that is
 /// out of the walk's reach.
 pub fn search_within(list: &[i32], row: &[u8], d: u64, most: u64) -> Option<Outcome> {
     Walk::new(list, row, d).run(most)
 }
 
-/// The first limit at which the walk finds. No choice breaks more wishes than there are.
-pub fn nearest_within(list: &[i32], row: &[u8], most: u64) -> Option<Outcome> {
+/// The first limit at which the walk finds, and the choice that it finds there, on the same terms. No choice breaks more
+/// wishes than there are.
+pub fn least_within(list: &[i32], row: &[u8], most: u64) -> Option<Outcome> {
     let (mut forks, mut deepest) = (0, 0);
     for d in 0..=wish_count(row) {
         let outcome = search_within(list, row, d, most - forks)?;
@@ -65,7 +62,7 @@ fn wanted(entry: i32) -> u8 {
     (entry > 0) as u8
 }
 
-const UNSETTLED: u8 = 2;
+pub const UNSETTLED: u8 = 2;
 const FREE: u8 = 2;
 
 enum State {
@@ -80,22 +77,23 @@ struct Fork {
     settled: usize,
 }
 
-struct Walk<'a> {
+pub struct Walk<'a> {
     rules: Vec<&'a [i32]>,
     row: &'a [u8],
     d: u64,
-    value: Vec<u8>,
+    pub value: Vec<u8>,
     /// settings in the order in which they were settled
-    trail: Vec<usize>,
+    pub trail: Vec<usize>,
     broken: u64,
 }
 
 impl<'a> Walk<'a> {
-    fn new(list: &'a [i32], row: &'a [u8], d: u64) -> Self {
+    pub fn new(list: &'a [i32], row: &'a [u8], d: u64) -> Self {
         Walk { rules: rules_of(list), row, d, value: vec![UNSETTLED; row.len()], trail: Vec::new(), broken: 0 }
     }
 
-    fn run(mut self, most: u64) -> Option<Outcome> {
+    /// From the state at hand on, which the caller can come back to by `undo`.
+    pub fn run(&mut self, most: u64) -> Option<Outcome> {
         let mut path: Vec<Fork> = Vec::new();
         let (mut forks, mut deepest) = (0, 0);
         loop {
@@ -127,13 +125,13 @@ impl<'a> Walk<'a> {
         }
     }
 
-    fn assign(&mut self, setting: usize, value: u8) {
+    pub fn assign(&mut self, setting: usize, value: u8) {
         self.value[setting] = value;
         self.trail.push(setting);
         self.broken += self.breaks(setting, value) as u64;
     }
 
-    fn undo(&mut self, settled: usize) {
+    pub fn undo(&mut self, settled: usize) {
         for setting in self.trail.split_off(settled) {
             self.broken -= self.breaks(setting, self.value[setting]) as u64;
             self.value[setting] = UNSETTLED;
@@ -177,7 +175,7 @@ impl<'a> Walk<'a> {
     }
 
     /// Step 1; false for a dead end.
-    fn settle(&mut self) -> bool {
+    pub fn settle(&mut self) -> bool {
         'again: loop {
             if self.broken > self.d {
                 return false;

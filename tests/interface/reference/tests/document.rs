@@ -1,6 +1,7 @@
 //! The reference held to document 01 and to what document 02 changes in it and adds: examples, and all choices of small
 //! books by brute force.
 
+use reference::first::choices;
 use reference::walk::{broken, met};
 use reference::*;
 
@@ -19,6 +20,7 @@ fn read(file: &str) -> (Answer, Vec<i32>) {
 fn examples() {
     let mut c = [9; 2];
     assert_eq!(nearest(2, &[1, 2, 0], &[0, 0], &mut c).value[0], 1);
+    assert_eq!(c, [0, 1]); // by document 02, L5
     let mut c = [9; 2];
     assert_eq!(search(2, &[1, 2, 0], &[0, 0], 0, &mut c).verdict, 0);
     assert_eq!(c, [9; 2]);
@@ -214,12 +216,23 @@ impl Random {
         (self.0 >> 33) % bound
     }
 
-    /// Every other book may hold opposite entries in a rule.
     fn book(&mut self, n: u64) -> Vec<i32> {
+        let rules = self.below(3 * n + 3);
+        self.rules(n, rules, 1)
+    }
+
+    /// Without rules of one entry, so that many choices are permitted.
+    fn loose_book(&mut self, n: u64) -> Vec<i32> {
+        let rules = 1 + self.below(3 * n);
+        self.rules(n, rules, 2)
+    }
+
+    /// So many rules, of three entries more than the fewest at most; every other list may hold opposite ones in a rule.
+    fn rules(&mut self, n: u64, rules: u64, fewest: u64) -> Vec<i32> {
         let (mut list, opposites) = (Vec::new(), self.below(2) == 0);
-        for _ in 0..self.below(3 * n + 3) {
+        for _ in 0..rules {
             let mut rule: Vec<i32> = Vec::new();
-            for _ in 0..1 + self.below(4) {
+            for _ in 0..fewest + self.below(4) {
                 let v = 1 + self.below(n) as i32;
                 let entry = if self.below(2) == 0 { v } else { -v };
                 if !rule.contains(&entry) && (opposites || !rule.contains(&-entry)) {
@@ -250,10 +263,6 @@ impl Random {
     }
 }
 
-fn choices(n: usize) -> impl Iterator<Item = Vec<u8>> {
-    (0u32..1 << n).map(move |bits| (0..n).map(|v| (bits >> v & 1) as u8).collect())
-}
-
 #[test]
 fn searches_by_brute_force() {
     let mut random = Random(1);
@@ -279,6 +288,81 @@ fn searches_by_brute_force() {
     }
 }
 
+/// Document 02, L5: "Nearest now returns the first nearest choice, off before on, compared from setting 1 upward. .. The
+/// limited search keeps its freedom."
+#[test]
+fn first_nearest_choices() {
+    for (rules, row, count, choice) in [
+        (&[1, 2, 0][..], &[0, 0][..], 1, &[0, 1][..]),
+        (&[1, 2, 0], &[2, 2], 0, &[0, 1]),
+        (&[1, 2, 0], &[1, 2], 0, &[1, 0]),
+        (&[-1, -2, 0], &[1, 1], 1, &[0, 1]),
+        (&[1, 2, 0, -1, 3, 0, -2, 3, 0], &[2, 2, 2], 0, &[0, 1, 1]),
+        (&[1, 2, 3, 0, -3, 0], &[0, 0, 1], 2, &[0, 1, 0]),
+        // by setting 1 first, whatever the later ones are: 0 1 1 1 is before 1 0 0 0
+        (&[1, 2, 0, 1, 3, 0, 1, 4, 0], &[2, 2, 2, 2], 0, &[0, 1, 1, 1]),
+        // of choices that are not nearest an earlier one does not count
+        (&[1, 2, 0, 1, 3, 0, 1, 4, 0], &[0, 0, 0, 0], 1, &[1, 0, 0, 0]),
+        (&[], &[2, 0, 1, 2], 0, &[0, 0, 1, 0]),
+    ] {
+        let mut c = vec![9; row.len()];
+        let a = nearest(row.len() as u64, rules, row, &mut c);
+        assert_eq!(a, Answer { verdict: 1, value: [count, 0, 0], ..Answer::default() });
+        assert_eq!(c, choice);
+    }
+    // the walk tries on first, and against the wish first
+    for (row, d) in [([0, 0], 1), ([2, 2], 0)] {
+        let mut c = [9; 2];
+        assert_eq!(search(2, &[1, 2, 0], &row, d, &mut c).verdict, 1);
+        assert_eq!(c, [1, 0]);
+    }
+}
+
+/// The order of all choices, and the two ways to the first of them.
+#[test]
+fn first_by_searches_and_of_all() {
+    assert_eq!(choices(2).collect::<Vec<_>>(), [[0, 0], [0, 1], [1, 0], [1, 1]]);
+    assert!(choices(9).zip(choices(9).skip(1)).all(|(one, next)| one < next));
+    let (mut random, mut others) = (Random(6), 0);
+    for run in 0..4_000 {
+        let n = 1 + random.below(if run % 40 == 0 { 15 } else { 8 });
+        let (rules, row) = (random.loose_book(n), random.row(n));
+        let right = first::of_all(&rules, &row);
+        assert_eq!(first::by_searches(&rules, &row, u64::MAX).unwrap().choice, right);
+        others += (walk::least_within(&rules, &row, u64::MAX).unwrap().choice != right) as u64;
+    }
+    assert!(others > 400, "only {others} of the walk's choices are not the first");
+}
+
+/// On more settings than can be listed, by the second route: within one wish less there is no choice, and none within
+/// the count has the settings below one that is on as the first has them, and this one off.
+#[test]
+fn first_on_larger_books() {
+    let mut random = Random(7);
+    for _ in 0..60 {
+        let n = 20 + random.below(30);
+        let rules = random.loose_book(n);
+        let row: Vec<u8> = (0..n).map(|_| if random.below(2) == 0 { random.below(2) as u8 } else { 2 }).collect();
+        let none_within = |d: u64, settled: &[i32]| {
+            let (settings, list) = totalizer::rewrite(n, &[&rules[..], settled].concat(), &row, d);
+            walk::search(&list, &vec![2; settings as usize], 0).choice.is_none()
+        };
+        let mut c = vec![9; n as usize];
+        let a = nearest(n, &rules, &row, &mut c);
+        if a.verdict == 0 {
+            assert!(none_within(n, &[]));
+            continue;
+        }
+        assert!(met(&rules, &c) && broken(&row, &c) == a.value[0]);
+        assert!(a.value[0] == 0 || none_within(a.value[0] - 1, &[]));
+        for at in (0..n as usize).filter(|&at| c[at] == 1) {
+            let entry = |v: usize| if c[v] == 1 && v < at { v as i32 + 1 } else { -(v as i32 + 1) };
+            let settled: Vec<i32> = (0..=at).flat_map(|v| [entry(v), 0]).collect();
+            assert!(none_within(a.value[0], &settled));
+        }
+    }
+}
+
 /// "such a rule is always met": a book without its rules of both senses of a setting has the same answers.
 #[test]
 fn rules_of_both_senses_ask_nothing() {
@@ -293,6 +377,7 @@ fn rules_of_both_senses_ask_nothing() {
         assert!(choices(n as usize).all(|c| met(&rules, &c) == met(&fewer, &c)));
         let (mut c, mut other) = (vec![9; n as usize], vec![9; n as usize]);
         assert_eq!(nearest(n, &rules, &row, &mut c), nearest(n, &fewer, &row, &mut other));
+        assert_eq!(c, other);
         assert_eq!(plain(n, &rules, &mut c), plain(n, &fewer, &mut other));
     }
     assert!(left_out > 1_000);

@@ -1,0 +1,79 @@
+-- `first_choice::fix::first_value` meets its contract: the choice at hand has the variable off, or a walk from the state decides.
+use mathlib.Core.Path.{_≡_, refl, sym, subst, _∙_}
+use mathlib.Core.List.{List}
+use mathlib.Core.Option.{Option, none, some}
+use Prim.Native.Nat.{ℕ, _+_, _<_}
+use native.Mathlib.Omega.{arith}
+use lib.ListN.{length}
+use borrow.Author.Needs.{needs}
+use Rattle.formula.specs.Formula.{clauses}
+use Rattle.literal.specs.Literal.{value}
+use Rattle.searches.specs.Fits.{sound-fits}
+use Rattle.walk.specs.Correctness.{walk-right}
+use Rattle.walk.specs.State.{assign}
+use Rattle.walk.specs.Walk.{Answer, walkFrom}
+use Rattle.walk.specs.WalkLaws.{branch-state}
+use Rattle.first_choice.specs.Refining.{Refining, valueAfter, handAfter, refining-kept, refining-searched}
+use Rattle.first_choice.proofs.fix.first_value.Statement.{statement}
+use Rattle.first_choice.proofs.fix.first_value.Tie as tie
+
+value-bit : (o : Option Answer) → valueAfter o < 2
+value-bit none = omega arith
+value-bit (some x) = omega arith
+
+add-t10 : tie.Need-add-t10
+add-t10 c = search needs
+
+value-of-requires : tie.Need-value-of-requires
+value-of-requires c κs = search needs
+
+same-length : tie.Need-same-length
+same-length c = search needs
+
+returns : tie.Need-returns
+returns c =
+    let call = c .before .before .before .before .before .before .before in
+    let given = call .pre in
+    let off : value (call .args .choice .now) (call .args .i + 1) ≡ 0 = sym (c .before .value-of .ensures) ∙ c .if1 .taken in
+    (omega arith, refining-kept (given .0 .refining) (call .args .i + 1) refl (omega (arith, given .1)) (given .2) off)
+
+value-by-walk-requires : tie.Need-value-by-walk-requires
+value-by-walk-requires c κs =
+    let given = c .before .before .before .before .before .before .before .before .pre in
+    let fixing = given .0 in (
+      (fixing .searching, record { unset = given .2; above = omega arith; upTo = omega (arith, given .1) }),
+      (fixing .sound, fixing .few, fixing .refining .model .choice .size),
+    )
+
+same-length-2 : tie.Need-same-length-2
+same-length-2 c = search needs
+
+returns-2 : tie.Need-returns-2
+returns-2 c =
+    let walked = c .before .before .value-by-walk in
+    let call = c .before .before .before .before .before .before .before .before .before .before .before in
+    let given = call .pre in
+    let n = length (call .args .a .now) in
+    let f = clauses (call .args .list .now) in
+    let u : ℕ = call .args .i + 1 in
+    let from : List ℕ = assign (call .args .a .now) u 0 in
+    let o : Option Answer = walkFrom f (call .args .row .now) (call .args .d) from .answer in
+    let right = walk-right n f (sound-fits n (call .args .list .now) (given .0 .sound)) (call .args .row .now) (call .args .d) from (branch-state (given .0 .refining .state) u 0 (omega arith)) in
+    let refined : Refining n f (call .args .row .now) (call .args .d) u (assign (call .args .a .now) u (valueAfter o)) (handAfter (call .args .choice .now) o)
+    = refining-searched (given .0 .refining) u refl (omega (arith, given .1)) (given .2) o right in (
+      subst (λ (k : ℕ). k < 2) (sym (walked .ensures .0)) (value-bit o),
+      subst (λ (k : ℕ). Refining n f (call .args .row .now) (call .args .d) u (assign (call .args .a .now) u k) (walked .last .1 .1 .1 .1 .1 .1 .1 .0)) (sym (walked .ensures .0))
+          (subst (Refining n f (call .args .row .now) (call .args .d) u (assign (call .args .a .now) u (valueAfter o))) (sym (walked .ensures .1)) refined),
+    )
+
+pub first-value-spec : {M : Type 1} → statement M
+first-value-spec =
+    tie.close
+    (tie.spec
+    add-t10
+    value-of-requires
+    same-length
+    returns
+    value-by-walk-requires
+    same-length-2
+    returns-2)
