@@ -33,8 +33,8 @@
  *   A call that refuses with 15 says in `place` how many elements it needs.
  *
  * The calls keep no state and use no heap, so several threads may call at once on separate buffers.
- * Stack, measured by tests/interface/run at the deepest inputs there are: plain up to 304,896 bytes
- * (448 for each fork on a path, of which 640 settings allow 639), search and nearest up to 132,304,
+ * Stack, measured by tests/interface/run at the deepest inputs there are: plain up to 356,216 bytes
+ * (528 for each fork on a path, of which 640 settings allow 639), search and nearest up to 154,808,
  * the other calls up to 3,208. A thread with 512 KB suffices for all.
  */
 #ifndef POWHANIRE_H
@@ -126,8 +126,9 @@ powhanire_answer powhanire_search(uint64_t n, const int32_t *rules, size_t rules
 powhanire_answer powhanire_plain(uint64_t n, const int32_t *rules, size_t rules_len,
                                  uint8_t *choice, size_t choice_len);
 
-/* Finds a choice that meets all rules and breaks as few wishes as any such choice,
- * or says that no choice meets the rules.
+/* Finds the first choice that meets all rules and breaks as few wishes as any such choice, off before on,
+ * compared from setting 1 upward, or says that no choice meets the rules. So rule books that permit the same
+ * choices give the same bytes for the same wishes.
  * value: wishes that the choice breaks. */
 powhanire_answer powhanire_nearest(uint64_t n, const int32_t *rules, size_t rules_len,
                                    const uint8_t *row, size_t row_len,

@@ -6,9 +6,10 @@
 mod books;
 mod counted;
 mod reading;
+mod states;
 
 use books::Book;
-use reference::{rule_file, totalizer, walk, wish_file};
+use reference::{first, rule_file, totalizer, walk, wish_file};
 use std::fmt::Write;
 
 /// Kind, settings, rules, wishes, books timed.
@@ -36,7 +37,7 @@ const PROCESSES: [Class; 7] = [
     ("random", 256, 400, 64, 5),
 ];
 
-/// A book on which the walk makes more forks is left out of the table, and counted there.
+/// A book on which nearest makes more forks is left out of the table, and counted there.
 const MOST_FORKS: u64 = 50_000;
 
 fn book((kind, n, rules, wishes, _): Class, seed: u64) -> Book {
@@ -98,38 +99,84 @@ fn short(value: f64) -> String {
     format!("{value:.digits$}")
 }
 
-fn cell(forks: &[f64], times: &mut [f64]) -> String {
-    let rate = forks.iter().sum::<f64>() / times.iter().sum::<f64>();
-    let [low, middle, high] = quartiles(times).map(|t| short(t * 1000.0));
-    format!("{middle} ({low} to {high}) | {:.0}", rate)
+/// The median and the quartiles.
+fn spread(values: &[f64], shown: impl Fn(f64) -> String) -> String {
+    let [low, middle, high] = quartiles(&mut values.to_vec()).map(shown);
+    format!("{middle} ({low} to {high})")
+}
+
+fn milliseconds(seconds: f64) -> String {
+    short(seconds * 1000.0)
+}
+
+/// Of the books of a class: the forks of a call, those for the count alone, and seconds: the library's nearest, and of
+/// each Rust walk nearest and the count alone.
+#[derive(Default)]
+struct Measured {
+    left_out: usize,
+    forks: Vec<f64>,
+    count_forks: Vec<f64>,
+    library: Vec<f64>,
+    plain: [Vec<f64>; 2],
+    counted: [Vec<f64>; 2],
+}
+
+impl Measured {
+    /// The library and both Rust walks must find what the reference finds, which has its own way to the first choice;
+    /// the Rust walks with as many forks, since they make the same searches.
+    fn add(&mut self, book: &Book) {
+        let (list, row) = (&book.list[..], &book.row[..]);
+        let Some(right) = first::by_searches(list, row, MOST_FORKS) else {
+            self.left_out += 1;
+            return;
+        };
+        let (plain, counted) = (|d| walk::Walk::new(list, row, d), |d| counted::Walk::new(list, row, d));
+        let (n, mut choice) = (row.len() as u64, vec![0; row.len()]);
+        let answer = powhanire::nearest(n, list, row, &mut choice);
+        assert_eq!((answer.verdict == 1).then_some(&choice), right.choice.as_ref(), "not the same choice");
+        let right = (right.choice, right.forks);
+        assert_eq!(states::nearest(row, plain), right, "not the same searches");
+        assert_eq!(states::nearest(row, counted), right, "not the same searches");
+        let mut count_forks = 0;
+        states::least(row, plain, &mut count_forks);
+        self.forks.push(right.1 as f64);
+        self.count_forks.push(count_forks as f64);
+        self.library.push(seconds(|| powhanire::nearest(n, list, row, &mut choice)));
+        self.plain[0].push(seconds(|| states::nearest(row, plain)));
+        self.plain[1].push(seconds(|| states::least(row, plain, &mut 0)));
+        self.counted[0].push(seconds(|| states::nearest(row, counted)));
+        self.counted[1].push(seconds(|| states::least(row, counted, &mut 0)));
+    }
+
+    /// The row of a table.
+    fn cells(&self) -> String {
+        let forks = [&self.forks, &self.count_forks].map(|forks| spread(forks, |f| f.to_string()));
+        let rate = |times: &[f64]| format!("{:.0}", self.forks.iter().sum::<f64>() / times.iter().sum::<f64>());
+        let mut cells = vec![format!("{} ({})", self.forks.len(), self.left_out)];
+        cells.extend(forks);
+        cells.extend([spread(&self.library, milliseconds), rate(&self.library)]);
+        for [nearest, count] in [&self.plain, &self.counted] {
+            let count = milliseconds(quartiles(&mut count.clone())[1]);
+            cells.extend([spread(nearest, milliseconds), count, rate(nearest)]);
+        }
+        cells.join(" | ")
+    }
 }
 
 fn table() {
-    println!("| books | timed (left out) | forks a call | library: ms a call | forks/s | plain Rust: ms a call | forks/s | Rust with counts: ms a call | forks/s |");
-    println!("|---|---|---|---|---|---|---|---|---|");
+    print!("| books | timed (left out) | forks a call | for the count | library: ms a call | forks/s ");
+    print!("| plain Rust: ms a call | for the count | forks/s ");
+    println!("| Rust with counts: ms a call | for the count | forks/s |");
+    println!("|{}", "---|".repeat(12));
     for class in TIMED {
-        let (mut forks, mut times, mut left_out) = (Vec::new(), [(); 3].map(|_| Vec::new()), 0);
-        let mut seed = 0;
-        while forks.len() < class.4 {
-            let book = book(class, seed);
-            seed += 1;
-            let Some(right) = walk::nearest_within(&book.list, &book.row, MOST_FORKS) else {
-                left_out += 1;
-                continue;
-            };
-            let mut choice = vec![0; book.row.len()];
-            let n = choice.len() as u64;
-            let answer = powhanire::nearest(n, &book.list, &book.row, &mut choice);
-            assert_eq!((answer.verdict == 1).then_some(&choice), right.choice.as_ref(), "not the same walk");
-            assert_eq!(counted::nearest(&book.list, &book.row), (right.choice, right.forks), "not the same walk");
-            forks.push(right.forks as f64);
-            times[0].push(seconds(|| powhanire::nearest(n, &book.list, &book.row, &mut choice)));
-            times[1].push(seconds(|| walk::nearest(&book.list, &book.row)));
-            times[2].push(seconds(|| counted::nearest(&book.list, &book.row)));
+        let mut measured = Measured::default();
+        for seed in 0.. {
+            measured.add(&book(class, seed));
+            if measured.forks.len() == class.4 {
+                break;
+            }
         }
-        let cells: Vec<String> = times.iter_mut().map(|t| cell(&forks, t)).collect();
-        let [low, middle, high] = quartiles(&mut forks);
-        println!("| {} | {} ({left_out}) | {middle} ({low} to {high}) | {} |", name(class), class.4, cells.join(" | "));
+        println!("| {} | {} |", name(class), measured.cells());
     }
 }
 
