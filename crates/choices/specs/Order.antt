@@ -1,4 +1,4 @@
--- The order of choices (document 02, L5: "off before on, compared from setting 1 upward"), and that `choices` of crate distance lists them in it.
+-- The order of choices, that `choices` of crate distance lists them in it, and what it is to be the first.
 use mathlib.Core.Path.{_≡_, refl, sym, ap, subst, _∙_}
 use mathlib.Core.Logic.{_↔_, _⊎_, inl, inr, ⊎-elim}
 use mathlib.Core.Bool.{Bool, true, false, cond}
@@ -16,7 +16,7 @@ use Rattle.distance.specs.Distance.{disagreement, choices, keep, permitted, wit
 use Rattle.choices.specs.Lists.{kept-passes}
 use Rattle.choices.specs.Choices.{Choice, Model, Nearest, choices-iff, within-iff, nearest-some}
 
--- a comes before b: where they first differ, a is off and b is on
+-- "off before on, compared from setting 1 upward" (document 02, L5): a comes before b if, where they first differ, a is off and b is on
 pub record Before (a b : List ℕ) : Type 0 where
   pub at : ℕ
   pub off : value a at ≡ 0
