@@ -1,6 +1,5 @@
 -- `first_choice::fix::fix` meets its contract: propagation has fixed the variable, or it takes its value and propagation follows.
 use mathlib.Core.Path.{_≡_, refl, sym, subst, _∙_}
-use mathlib.Core.Bool.{true}
 use mathlib.Core.List.{List}
 use Prim.Native.Nat.{ℕ, _+_}
 use native.Mathlib.Omega.{arith}
@@ -11,12 +10,9 @@ use Rattle.formula.specs.Formula.{clauses}
 use Rattle.literal.specs.Literal.{value}
 use Rattle.propagation.specs.Assigned.{assigned-searching}
 use Rattle.propagation.specs.Searching.{Searching}
-use Rattle.searches.specs.Fits.{sound-fits}
 use Rattle.tally.specs.declared.Tally.{Tally}
-use Rattle.try_and_fork.specs.Ready.{long-searching}
-use Rattle.walk.specs.State.{fits}
-use Rattle.first_choice.specs.Fixing.{Fixing, fixing-of}
-use Rattle.first_choice.specs.Refining.{Refining, refining-fixed, refining-propagated, refining-alive}
+use Rattle.first_choice.specs.Fixing.{Fixing, fixing-of, may-settle, settled}
+use Rattle.first_choice.specs.Refining.{Refining, refining-fixed}
 use Rattle.first_choice.proofs.fix.fix.Statement.{statement}
 use Rattle.first_choice.proofs.fix.fix.Tie as tie
 
@@ -46,16 +42,20 @@ module _ (c : tie.After-assign-to) where
   fixing : Fixing (call .args .list .now) (call .args .row .now) (call .args .d) (call .args .i) (call .args .tally) (call .args .a .now) (call .args .trail .now) (call .args .choice .now)
   fixing = call .pre .0
 
-  searching : Searching n (call .args .row .now) a trail (with .settled) (with .broken)
-  searching =
-      let valued = c .before .before .before .before .before in
-      let free : value (call .args .a .now) (call .args .i + 1) ≡ 2 = sym (valued .before .before .before .before .before .value-of .ensures) ∙ valued .before .before .before .before .if1 .left in
-      assigned-searching (c .assign-to .ensures) (fixing .searching) (omega arith) (omega (arith, call .pre .1)) free (valued .first-value .ensures .0)
+  -- the state with it, before propagation
+  assigned-fixing : Fixing (call .args .list .now) (call .args .row .now) (call .args .d) (call .args .i + 1) with a trail choice
+  assigned-fixing = fixing-of n (fixing .few) (fixing .sound) searching refining
+    where
+      free : value (call .args .a .now) (call .args .i + 1) ≡ 2
+      free = sym (c .before .before .before .before .before .before .before .before .before .before .value-of .ensures) ∙ c .before .before .before .before .before .before .before .before .before .if1 .left
 
-  refining : Refining n f (call .args .row .now) (call .args .d) (call .args .i + 1) a choice
-  refining =
-      subst (λ (l : List ℕ). Refining n f (call .args .row .now) (call .args .d) (call .args .i + 1) l choice) (sym (c .assign-to .ensures .values))
-      (c .before .before .before .before .before .first-value .ensures .1)
+      searching : Searching n (call .args .row .now) a trail (with .settled) (with .broken)
+      searching = assigned-searching (c .assign-to .ensures) (fixing .searching) (omega arith) (omega (arith, call .pre .1)) free (c .before .before .before .before .before .first-value .ensures .0)
+
+      refining : Refining n f (call .args .row .now) (call .args .d) (call .args .i + 1) a choice
+      refining =
+          subst (λ (l : List ℕ). Refining n f (call .args .row .now) (call .args .d) (call .args .i + 1) l choice) (sym (c .assign-to .ensures .values))
+          (c .before .before .before .before .before .first-value .ensures .1)
 
 add-t12 : tie.Need-add-t12
 add-t12 c = search needs
@@ -85,18 +85,7 @@ assign-to-requires : tie.Need-assign-to-requires
 assign-to-requires c κs = search needs
 
 settle-requires : tie.Need-settle-requires
-settle-requires c κs =
-    let assigned = c .before .before .before .before .before .before in
-    let size = searching assigned .state .size in (
-      long-searching (searching assigned),
-      (
-        (
-          subst (λ (k : ℕ). fits k (f assigned) ≡ true) (sym size) (sound-fits (n assigned) (call assigned .args .list .now) (fixing assigned .sound)),
-          omega (arith, size, fixing assigned .few),
-        ),
-        refining-alive (refining assigned),
-      ),
-    )
+settle-requires c κs = may-settle (assigned-fixing (c .before .before .before .before .before .before))
 
 same-length-2 : tie.Need-same-length-2
 same-length-2 c = search needs
@@ -109,16 +98,9 @@ same-length-4 c = search needs
 
 returns-2 : tie.Need-returns-2
 returns-2 c =
-    let settled = c .before .before .before .before in
-    let assigned = settled .before .before .before .before .before .before .before in
-    let a = settled .settle .last .1 .1 .1 .1 .0 in
-    let trail = settled .settle .last .1 .1 .1 .1 .1 .0 in
-    let t = settled .settle .result in
-    let call = call assigned in
-    let n = n assigned in
-    fixing-of n (fixing assigned .few) (fixing assigned .sound)
-    (subst (λ (k : ℕ). Searching k (call .args .row .now) a trail (t .settled) (t .broken)) (searching assigned .state .size) (settled .settle .ensures .1))
-    (subst (λ (l : List ℕ). Refining n (f assigned) (call .args .row .now) (call .args .d) (call .args .i + 1) l (choice assigned)) (sym (settled .settle .ensures .0)) (refining-propagated (refining assigned)))
+    let propagated = c .before .before .before .before in
+    let assigned = propagated .before .before .before .before .before .before .before in
+    settled (assigned-fixing assigned) (propagated .settle .ensures .0) (propagated .settle .ensures .1)
 
 pub fix-spec : {M : Type 1} → statement M
 fix-spec =

@@ -1,6 +1,5 @@
 -- `first_choice::refine::refine` meets its contract: before each turn the first i variables are as the first model has them.
 use mathlib.Core.Path.{_≡_, refl, sym, subst, _∙_}
-use mathlib.Core.Bool.{true}
 use mathlib.Core.List.{List}
 use Prim.Native.Nat.{ℕ, _-_, _≤_}
 use native.Mathlib.Omega.{arith}
@@ -9,13 +8,9 @@ use lib.ListN.{length, replicate}
 use borrow.Author.Needs.{needs}
 use Rattle.choices.specs.Order.{FirstWithin}
 use Rattle.formula.specs.Formula.{clauses}
-use Rattle.propagation.specs.Searching.{Searching}
-use Rattle.searches.specs.Fits.{sound-fits}
-use Rattle.try_and_fork.specs.Ready.{long-searching}
-use Rattle.walk.specs.State.{fits}
 use Rattle.root_walk.specs.Root.{root-searching}
-use Rattle.first_choice.specs.Fixing.{Fixing, fixing-of}
-use Rattle.first_choice.specs.Refining.{Refining, refining-start, refining-propagated, refining-alive, refining-end}
+use Rattle.first_choice.specs.Fixing.{Fixing, fixing-of, may-settle, settled}
+use Rattle.first_choice.specs.Refining.{Refining, refining-start, refining-end}
 use Rattle.first_choice.proofs.refine.refine.Statement.{statement}
 use Rattle.first_choice.proofs.refine.refine.Tie as tie
 
@@ -43,13 +38,12 @@ module _ (c : tie.After-unassign-all Inv-loop μ-loop) where
   start : a ≡ replicate n 2
   start = c .unassign-all .ensures
 
-  searching : Searching n (call .args .row .now) a (call .args .trail .now) 0 0
-  searching = root-searching n (call .args .row .now) (call .args .trail .now) a (call .pre .0 .2) start
-
-  refining : Refining n f (call .args .row .now) (call .args .d) 0 a (call .args .choice .now)
-  refining =
-      subst (λ (l : List ℕ). Refining n f (call .args .row .now) (call .args .d) 0 l (call .args .choice .now)) (sym start)
-      (refining-start n f (call .args .row .now) (call .args .d) (call .args .choice .now) (call .pre .1 .0) (call .pre .1 .1))
+  -- no variable is fixed yet
+  unfixed : Fixing (call .args .list .now) (call .args .row .now) (call .args .d) 0 (record { settled = 0; broken = 0 }) a (call .args .trail .now) (call .args .choice .now)
+  unfixed =
+      fixing-of n (call .pre .0 .0) (call .pre .0 .1) (root-searching n (call .args .row .now) (call .args .trail .now) a (call .pre .0 .2) start)
+      (subst (λ (l : List ℕ). Refining n f (call .args .row .now) (call .args .d) 0 l (call .args .choice .now)) (sym start)
+      (refining-start n f (call .args .row .now) (call .args .d) (call .args .choice .now) (call .pre .1 .0) (call .pre .1 .1)))
 
 -- after propagation: as many variables as before
 module _ (c : tie.After-settle Inv-loop μ-loop) where
@@ -57,38 +51,18 @@ module _ (c : tie.After-settle Inv-loop μ-loop) where
   cleared = c .before .before .before .before .before
 
   still : length (c .settle .last .1 .1 .1 .1 .0) ≡ n cleared
-  still = c .settle .kept .1 .1 .1 .1 .0 ∙ searching cleared .state .size
+  still = c .settle .kept .1 .1 .1 .1 .0 ∙ cleared .unassign-all .kept .0
 
 unassign-all-requires : tie.Need-unassign-all-requires Inv-loop μ-loop
 unassign-all-requires c κs = search needs
 
 settle-requires : tie.Need-settle-requires Inv-loop μ-loop
-settle-requires c κs =
-    let cleared = c .before .before .before .before in
-    let size = searching cleared .state .size in (
-      long-searching (searching cleared),
-      (
-        (subst (λ (k : ℕ). fits k (f cleared) ≡ true) (sym size) (sound-fits (n cleared) (call cleared .args .list .now) (call cleared .pre .0 .1)), omega (arith, size, call cleared .pre .0 .0)),
-        refining-alive (refining cleared),
-      ),
-    )
+settle-requires c κs = may-settle (unfixed (c .before .before .before .before))
 
 loop-holds : tie.Need-loop-holds Inv-loop μ-loop
 loop-holds c =
-    let settled = c .before .before .before .before in
-    let cleared = cleared settled in
-    let call = call cleared in
-    let a = settled .settle .last .1 .1 .1 .1 .0 in
-    let trail = settled .settle .last .1 .1 .1 .1 .1 .0 in
-    let t = settled .settle .result in
-    let there = subst (λ (k : ℕ). Searching k (call .args .row .now) a trail (t .settled) (t .broken)) (searching cleared .state .size) (settled .settle .ensures .1) in (
-      omega arith,
-      refl,
-      refl,
-      refl,
-      fixing-of (n cleared) (call .pre .0 .0) (call .pre .0 .1) there
-          (subst (λ (l : List ℕ). Refining (n cleared) (f cleared) (call .args .row .now) (call .args .d) 0 l (call .args .choice .now)) (sym (settled .settle .ensures .0)) (refining-propagated (refining cleared))),
-    )
+    let propagated = c .before .before .before .before in
+    (omega arith, refl, refl, refl, settled (unfixed (cleared propagated)) (propagated .settle .ensures .0) (propagated .settle .ensures .1))
 
 fix-requires : tie.Need-fix-requires Inv-loop μ-loop
 fix-requires c κs =
