@@ -1,16 +1,28 @@
--- What `any` and `all` of crate formula and `keep` and `least` of crate distance say of the members of a list.
+-- The members of a list: which they are by index, and what `any` and `all` of crate formula and `keep` and `least` of crate distance say of them.
 use mathlib.Core.Path.{_≡_, refl, sym, ap, subst, _∙_}
 use mathlib.Core.Logic.{_↔_}
 use mathlib.Core.Bool.{Bool, true, false, cond, _&&_, _||_, true≢false, or-true}
 use mathlib.Core.List.{List, [], _∷_, List·Memᴰ, List·Memᴰ·head, List·Memᴰ·tail, List·Memᴰ·not-nil}
 use mathlib.Core.Option.{Option, none, some, Option·map, Option·some-injective, Option·none-ne-some, Option·some-ne-none}
-use Prim.Native.Nat.{ℕ, min, _≤_}
-use native.Mathlib.Nat.{min-eq-left, min-eq-right}
+use Prim.Native.Nat.{ℕ, zero, suc, min, _≤_, _<_}
+use native.Mathlib.Nat.{min-eq-left, min-eq-right, le-of-suc-le-suc, not-suc-le-zero}
 use native.Mathlib.Omega.{arith}
 use lib.Dec.{leb}
+use lib.ListN.{length, getD}
 use borrow.Author.Tests.{leb-true, leb-false}
 use Rattle.formula.specs.Formula.{any, all}
 use Rattle.distance.specs.Distance.{keep, least}
+
+-- what stands at an index is a member, and each member stands at some index
+pub member-at {ℓ} : {A : Type ℓ} (z : A) (l : List A) (i : ℕ) → i < length l → List·Memᴰ (getD l i z) l
+member-at z [] i h = absurd (not-suc-le-zero h)
+member-at z (x ∷ l) zero h = List·Memᴰ·head refl
+member-at z (x ∷ l) (suc i) h = List·Memᴰ·tail (member-at z l i (le-of-suc-le-suc h))
+
+pub member-index {ℓ} : {A : Type ℓ} (z : A) (l : List A) {x : A} → List·Memᴰ x l → (i : ℕ) × (i < length l) × (getD l i z ≡ x)
+member-index z [] m = absurd (List·Memᴰ·not-nil m)
+member-index z (y ∷ l) (List·Memᴰ·head e) = (0, (omega arith), sym e)
+member-index z (y ∷ l) (List·Memᴰ·tail m) = let r = member-index z l m in (suc (r .0), (omega (arith, r .1)), r .2)
 
 -- a test that some member passes, and one that all pass
 pub any-at {ℓ} : {A : Type ℓ} (p : A → Bool) {l : List A} {x : A} → List·Memᴰ x l → p x ≡ true → any p l ≡ true

@@ -1,46 +1,42 @@
 -- A clause that is being read for its standing, literal by literal.
-use mathlib.Core.Path.{_≡_, refl, ap, ap₂, _∙_}
+use mathlib.Core.Path.{_≡_, ap, ap₂, _∙_}
 use mathlib.Core.Bool.{Bool, true, false, cond}
 use mathlib.Core.List.{List, [], _∷_}
-use mathlib.Core.Option.{some}
 use Prim.Native.Nat.{ℕ, suc, _+_, _≤_, _<_}
 use native.Mathlib.Omega.{arith}
 use lib.IntN.{ℤ, pos}
 use lib.ListN.{length, getD, drop}
 use Rattle.literal.specs.Literal.{closes, holds}
 use Rattle.formula.specs.Formula.{clauseLength}
-use Rattle.walk.specs.State.{find, isUnassigned, unassignedIn}
+use Rattle.walk.specs.State.{isUnassigned, unassignedIn}
 use Rattle.clause_standing.specs.Clause.{clauseAt, at-literal, at-closed, at-past, Tested, Passing, passing-start, passing-closed, passing-past, passing-found, passing-next}
 use Rattle.clause_standing.specs.Standing.{IsRead}
 use Rattle.clause_standing.specs.declared.Standing.the-variants.{Satisfied, Open}
 
--- of the literals from `from` to i none holds and `count` are unassigned, the last of them at index `last`
-pub record Reads (a : List ℕ) (l : List ℤ) (from i count last : ℕ) : Type 0 where
+-- of the literals from `from` to i none holds and `count` are unassigned
+pub record Reads (a : List ℕ) (l : List ℤ) (from i count : ℕ) : Type 0 where
   pub passing : Passing (holds a) l from i
   pub few : count ≤ i
   pub total : unassignedIn a (clauseAt from l) ≡ count + unassignedIn a (clauseAt i l)
-  pub later : count ≡ 0 → find (isUnassigned a) (clauseAt from l) ≡ find (isUnassigned a) (clauseAt i l)
-  pub unit : count ≡ 1 → (last < length l) × (find (isUnassigned a) (clauseAt from l) ≡ some (getD l last (pos 0)))
 
-pub reads-start : (a : List ℕ) (l : List ℤ) (from : ℕ) → Reads a l from from 0 0
+pub reads-start : (a : List ℕ) (l : List ℤ) (from : ℕ) → Reads a l from from 0
 reads-start a l from =
-    record { passing = passing-start (holds a) l from; few = omega arith; total = omega arith; later = λ e. refl; unit = λ e. absurd (omega arith) }
+    record { passing = passing-start (holds a) l from; few = omega arith; total = omega arith }
 
-module _ (a : List ℕ) (l : List ℤ) (from i count last : ℕ) (s : Reads a l from i count last) where
+module _ (a : List ℕ) (l : List ℤ) (from i count : ℕ) (s : Reads a l from i count) where
   -- the clause's end
-  closed : clauseAt i l ≡ [] → Tested (holds a) l from i false → IsRead a l from i (Open count) last
+  closed : clauseAt i l ≡ [] → Tested (holds a) l from i false → IsRead a l from i (Open count)
   closed e t =
       let all : count ≡ unassignedIn a (clauseAt from l) = omega (arith, s .total, ap (unassignedIn a) e) in
       record {
         ends = t .ends;
         stands = ap₂ (λ (b : Bool) (k : ℕ). cond b Satisfied (Open k)) (t .verdict) all;
-        unit = λ q. s .unit (cc);
       }
 
-  pub reads-closed : i < length l → closes (getD l i (pos 0)) ≡ true → IsRead a l from i (Open count) last
+  pub reads-closed : i < length l → closes (getD l i (pos 0)) ≡ true → IsRead a l from i (Open count)
   reads-closed h z = closed (at-closed l i h z) (passing-closed (holds a) l from i (s .passing) h z)
 
-  pub reads-past : length l ≤ i → IsRead a l from i (Open count) last
+  pub reads-past : length l ≤ i → IsRead a l from i (Open count)
   reads-past h = closed (at-past l i h) (passing-past (holds a) l from i (s .passing) h)
 
   module _ (h : i < length l) (literal : closes (getD l i (pos 0)) ≡ false) where
@@ -51,36 +47,30 @@ module _ (a : List ℕ) (l : List ℤ) (from i count last : ℕ) (s : Reads a l 
     next = at-literal l i h literal
 
     -- a literal that holds
-    pub reads-satisfied : holds a x ≡ true → (e : ℕ) → e ≡ i + 1 + clauseLength (drop (i + 1) l) → IsRead a l from e Satisfied last
+    pub reads-satisfied : holds a x ≡ true → (e : ℕ) → e ≡ i + 1 + clauseLength (drop (i + 1) l) → IsRead a l from e Satisfied
     reads-satisfied t e q =
         let found = passing-found (holds a) l from i (s .passing) h literal t e q in
         record {
           ends = found .ends;
           stands = ap (λ (b : Bool). cond b Satisfied (Open (unassignedIn a (clauseAt from l)))) (found .verdict);
-          unit = λ q. absurd (let z : _≡_ {A = ℕ} 0 1 = cc in omega arith);
         }
 
     -- one that does not, unassigned or not
     module _ (t : holds a x ≡ false) where
-      pub reads-unassigned : isUnassigned a x ≡ true → Reads a l from (i + 1) (count + 1) i
+      pub reads-unassigned : isUnassigned a x ≡ true → Reads a l from (i + 1) (count + 1)
       reads-unassigned u =
           let one : unassignedIn a (clauseAt i l) ≡ suc (unassignedIn a (clauseAt (i + 1) l)) = ap (unassignedIn a) next ∙ rw u in
-          let here : find (isUnassigned a) (clauseAt i l) ≡ some x = ap (find (isUnassigned a)) next ∙ rw u in
           record {
             passing = passing-next (holds a) l from i (s .passing) h literal t;
             few = omega (arith, s .few);
             total = omega (arith, s .total, one);
-            later = λ e. absurd (omega arith);
-            unit = λ e. (h, s .later (omega arith) ∙ here);
           }
 
-      pub reads-assigned : isUnassigned a x ≡ false → Reads a l from (i + 1) count last
+      pub reads-assigned : isUnassigned a x ≡ false → Reads a l from (i + 1) count
       reads-assigned u =
           let same : unassignedIn a (clauseAt i l) ≡ unassignedIn a (clauseAt (i + 1) l) = ap (unassignedIn a) next ∙ rw u in
           record {
             passing = passing-next (holds a) l from i (s .passing) h literal t;
             few = omega (arith, s .few);
             total = omega (arith, s .total, same);
-            later = λ e. s .later e ∙ ap (find (isUnassigned a)) next ∙ rw u;
-            unit = s .unit;
           }

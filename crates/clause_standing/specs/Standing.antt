@@ -2,12 +2,11 @@
 use mathlib.Core.Path.{_≡_}
 use mathlib.Core.Bool.{cond}
 use mathlib.Core.List.{List}
-use mathlib.Core.Option.{some}
-use Prim.Native.Nat.{ℕ, _+_, _<_}
-use lib.IntN.{ℤ, pos}
-use lib.ListN.{length, getD, drop}
+use Prim.Native.Nat.{ℕ, _+_}
+use lib.IntN.{ℤ}
+use lib.ListN.{drop}
 use Rattle.formula.specs.Formula.{satisfied, clauseLength}
-use Rattle.walk.specs.State.{find, isUnassigned, unassignedIn}
+use Rattle.walk.specs.State.{unassignedIn}
 use Rattle.clause_standing.specs.Clause.{clauseAt}
 use Rattle.clause_standing.specs.declared.Standing.{Standing}
 use Rattle.clause_standing.specs.declared.Standing.the-variants.{Satisfied, Open}
@@ -17,7 +16,6 @@ abbrev pub standingOf : List ℕ → List ℤ → Standing
 standingOf a c = cond (satisfied a c) Satisfied (Open (unassignedIn a c))
 
 -- what reading the clause that begins at `from` tells of it
-pub record IsRead (a : List ℕ) (l : List ℤ) (from end : ℕ) (standing : Standing) (last : ℕ) : Type 0 where
+pub record IsRead (a : List ℕ) (l : List ℤ) (from end : ℕ) (standing : Standing) : Type 0 where
   pub ends : end ≡ from + clauseLength (drop from l)
   pub stands : standing ≡ standingOf a (clauseAt from l)
-  pub unit : standing ≡ Open 1 → (last < length l) × (find (isUnassigned a) (clauseAt from l) ≡ some (getD l last (pos 0)))

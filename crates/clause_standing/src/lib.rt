@@ -9,12 +9,10 @@ pub enum Standing {
     Open(usize),
 }
 
-// A clause of a list: where it ends, how it stands, and in a unit clause the index of its one unassigned
-// literal; of any other clause `last` says nothing.
+// A clause of a list: where it ends and how it stands.
 pub struct ReadClause {
     pub end: usize,
     pub standing: Standing,
-    pub last: usize,
 }
 
 // Whether the variable of a literal is unassigned.
@@ -27,17 +25,15 @@ pub fn is_unassigned(x: i32, assignment: &[u8]) -> bool
 // Reads the clause that begins at an index, each literal once. After one that holds it looks only for
 // the clause's end.
 pub fn read_clause(list: &[i32], from: usize, assignment: &[u8]) -> ReadClause
-    ensures { λ r. ⌜ IsRead (now (assignment .entry)) (now (list .entry)) from (r .end) (r .standing) (r .last) ⌝ }
+    ensures { λ r. ⌜ IsRead (now (assignment .entry)) (now (list .entry)) from (r .end) (r .standing) ⌝ }
 {
     let mut count: usize = 0;
-    let mut last: usize = 0;
     let mut i = from;
     while i < list.len() {
         if literal::closes(list[i]) {
             return ReadClause {
                 end: i,
                 standing: Standing::Open(count),
-                last: last,
             };
         }
         if literal::holds_in(list[i], assignment) {
@@ -45,18 +41,15 @@ pub fn read_clause(list: &[i32], from: usize, assignment: &[u8]) -> ReadClause
             return ReadClause {
                 end: end,
                 standing: Standing::Satisfied,
-                last: last,
             };
         }
         if is_unassigned(list[i], assignment) {
             count += 1;
-            last = i;
         }
         i += 1;
     }
     ReadClause {
         end: i,
         standing: Standing::Open(count),
-        last: last,
     }
 }

@@ -16,6 +16,9 @@ ghost use Rattle.first_choice.specs.Refining.{Refining};
 // as it is.
 pub fn fix(
     list: &[i32],
+    ends: &[u16],
+    numbers: &[u16],
+    begins: &[u16],
     row: &[u8],
     d: usize,
     tally: Tally,
@@ -24,22 +27,37 @@ pub fn fix(
     trail: &mut [u16],
     choice: &mut [u8],
 ) -> Tally
-    requires { ⌜ Fixing (now list) (now row) d i tally (now a) (now trail) (now choice) × (i < length (now a)) ⌝ }
-    ensures { λ r. ⌜ Fixing (now (list .entry)) (now (row .entry)) d (i + 1) r (now (a .exit)) (now (trail .exit)) (now (choice .exit)) ⌝ }
+    requires { ⌜ Fixing (now list) (now ends) (now numbers) (now begins) (now row) d i tally (now a) (now trail) (now choice) × (i < length (now a)) ⌝ }
+    ensures { λ r. ⌜ Fixing (now (list .entry)) (now (ends .entry)) (now (numbers .entry)) (now (begins .entry)) (now (row .entry)) d (i + 1) r (now (a .exit)) (now (trail .exit)) (now (choice .exit)) ⌝ }
 {
     let v = Variable(i + 1);
     if literal::value_of(v, a) != 2 {
         return tally;
     }
-    let bit = first_value(list, row, d, tally, i, a, trail, choice);
+    let bit = first_value(
+        list,
+        ends,
+        numbers,
+        begins,
+        row,
+        d,
+        tally,
+        i,
+        a,
+        trail,
+        choice,
+    );
     let with = propagation::assign_to(tally, row, v, bit, a, trail);
-    settle(list, row, d, with, a, trail)
+    settle(list, ends, numbers, begins, row, d, with, a, trail)
 }
 
 // Its value: off where the choice at hand has it off, or where a search finds a choice that has, which is
 // then at hand; else on.
 fn first_value(
     list: &[i32],
+    ends: &[u16],
+    numbers: &[u16],
+    begins: &[u16],
     row: &[u8],
     d: usize,
     tally: Tally,
@@ -48,12 +66,24 @@ fn first_value(
     trail: &[u16],
     choice: &mut [u8],
 ) -> u8
-    requires { ⌜ Fixing (now list) (now row) d i tally (now a) (now trail) (now choice) × (i < length (now a)) × (value (now a) (i + 1) ≡ 2) ⌝ }
+    requires { ⌜ Fixing (now list) (now ends) (now numbers) (now begins) (now row) d i tally (now a) (now trail) (now choice) × (i < length (now a)) × (value (now a) (i + 1) ≡ 2) ⌝ }
     ensures { λ r. ⌜ (r < 2) × Refining (length (now (a .entry))) (clauses (now (list .entry))) (now (row .entry)) d (i + 1) (assign (now (a .entry)) (i + 1) r) (now (choice .exit)) ⌝ }
 {
     let v = Variable(i + 1);
     if literal::value_of(v, choice) == 0 {
         return 0;
     }
-    value_by_walk(list, row, d, tally, v, a, trail, choice)
+    value_by_walk(
+        list,
+        ends,
+        numbers,
+        begins,
+        row,
+        d,
+        tally,
+        v,
+        a,
+        trail,
+        choice,
+    )
 }

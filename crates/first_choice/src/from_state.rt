@@ -1,4 +1,5 @@
-// A walk from a state with one more variable off, in space of its own, so that the state stays.
+// A walk from a state in which propagation has nothing to do, with one more variable off. It goes in
+// space of its own, so that the state stays.
 use literal::Variable;
 use tally::Tally;
 use walk_result::Tried;
@@ -8,7 +9,9 @@ ghost use lib.ListN.{length};
 ghost use Rattle.formula.specs.Formula.{clauses};
 ghost use Rattle.limits.specs.Limits.{maxVariables};
 ghost use Rattle.propagation.specs.Searching.{Searching};
+ghost use Rattle.occurrences.specs.Table.{Beside};
 ghost use Rattle.rule_list.specs.Sound.{SoundList};
+ghost use Rattle.unit_queue.specs.Due.{NoneDue};
 ghost use Rattle.try_and_fork.specs.Ready.{Ready};
 ghost use Rattle.walk.specs.Promises.{Branches};
 ghost use Rattle.walk.specs.State.{assign};
@@ -19,6 +22,9 @@ ghost use Rattle.first_choice.specs.Refining.{valueAfter, handAfter};
 // choice at hand.
 pub fn value_by_walk(
     list: &[i32],
+    ends: &[u16],
+    numbers: &[u16],
+    begins: &[u16],
     row: &[u8],
     d: usize,
     tally: Tally,
@@ -27,8 +33,8 @@ pub fn value_by_walk(
     trail: &[u16],
     choice: &mut [u8],
 ) -> u8
-    requires { ⌜ Searching (length (now a)) (now row) (now a) (now trail) (tally .settled) (tally .broken) × Branches (now a) (length (now a)) (v .0) ⌝ }
-    requires { ⌜ SoundList (length (now a)) (now list) × (length (now a) ≤ maxVariables) × (length (now choice) ≡ length (now a)) ⌝ }
+    requires { ⌜ Searching (length (now a)) (now row) (now a) (now trail) (tally .settled) (tally .broken) × Branches (now a) (length (now a)) (v .0) × NoneDue (clauses (now list)) (now a) ⌝ }
+    requires { ⌜ SoundList (length (now a)) (now list) × Beside (length (now a)) (now list) (now ends) (now numbers) (now begins) × (length (now a) ≤ maxVariables) × (length (now choice) ≡ length (now a)) ⌝ }
     ensures value { λ r. ⌜ r ≡ valueAfter (walkFrom (clauses (now (list .entry))) (now (row .entry)) d (assign (now (a .entry)) (v .0) 0) .answer) ⌝ }
     ensures hand { λ r. ⌜ now (choice .exit) ≡ handAfter (now (choice .entry)) (walkFrom (clauses (now (list .entry))) (now (row .entry)) d (assign (now (a .entry)) (v .0) 0) .answer) ⌝ }
 {
@@ -42,6 +48,9 @@ pub fn value_by_walk(
     let variables = n + 1;
     value_in(
         list,
+        ends,
+        numbers,
+        begins,
         row,
         d,
         tally,
@@ -59,6 +68,9 @@ pub fn value_by_walk(
 // The same in lent space, whatever it holds.
 fn value_in(
     list: &[i32],
+    ends: &[u16],
+    numbers: &[u16],
+    begins: &[u16],
     row: &[u8],
     d: usize,
     tally: Tally,
@@ -71,8 +83,8 @@ fn value_in(
     marks: &mut [u64],
     choice: &mut [u8],
 ) -> u8
-    requires { ⌜ Searching (length (now a)) (now row) (now a) (now trail) (tally .settled) (tally .broken) × Branches (now a) (length (now a)) (v .0) ⌝ }
-    requires { ⌜ Ready (now list) (length (now a)) (length (now weights)) (length (now marks)) ⌝ }
+    requires { ⌜ Searching (length (now a)) (now row) (now a) (now trail) (tally .settled) (tally .broken) × Branches (now a) (length (now a)) (v .0) × NoneDue (clauses (now list)) (now a) ⌝ }
+    requires { ⌜ Ready (now list) (now ends) (now numbers) (now begins) (length (now a)) (length (now weights)) (length (now marks)) ⌝ }
     requires { ⌜ (length (now values) ≡ length (now a)) × (length (now trace) ≡ length (now a)) × (length (now choice) ≡ length (now a)) ⌝ }
     ensures value { λ r. ⌜ r ≡ valueAfter (walkFrom (clauses (now (list .entry))) (now (row .entry)) d (assign (now (a .entry)) (v .0) 0) .answer) ⌝ }
     ensures hand { λ r. ⌜ now (choice .exit) ≡ handAfter (now (choice .entry)) (walkFrom (clauses (now (list .entry))) (now (row .entry)) d (assign (now (a .entry)) (v .0) 0) .answer) ⌝ }
@@ -80,7 +92,19 @@ fn value_in(
     walk_tables::copy_to(a, values);
     walk_tables::copy_trail(trail, trace);
     let off = propagation::assign_to(tally, row, v, 0, values, trace);
-    match try_and_fork::attempt(list, row, d, off, values, trace, weights, marks) {
+    match try_and_fork::attempt(
+        list,
+        ends,
+        numbers,
+        begins,
+        row,
+        d,
+        off,
+        values,
+        trace,
+        weights,
+        marks,
+    ) {
         Tried::Found(_, _) => {
             walk_tables::copy_to(values, choice);
             0

@@ -8,6 +8,7 @@ ghost use mathlib.Core.Option.{none};
 ghost use lib.ListN.{length};
 ghost use Rattle.formula.specs.Formula.{clauses};
 ghost use Rattle.wish.specs.Wish.{totalWeight};
+ghost use Rattle.occurrences.specs.Table.{Beside};
 ghost use Rattle.root_walk.specs.Into.{Startable};
 ghost use Rattle.searches.specs.Answers.{replyOf, NearestMeans, searchedOf};
 ghost use Rattle.searches.specs.Searches.{nearestReply, nearestAnswer, nearestChoice, brokenBy, choiceAfter};
@@ -26,32 +27,82 @@ pub fn search(n: usize, rules: &[i32], row: &[u8], choice: &mut [u8]) -> Searche
     }
 }
 
-// Finds the least count, and then the first choice that has it: as none has less, the first within it.
+// Arranges the clauses once, for all that follows.
 fn first_nearest(n: usize, rules: &[i32], row: &[u8], last: usize, choice: &mut [u8]) -> Searched
     requires { ⌜ Startable n (now rules) (length (now choice)) × (last ≡ totalWeight (now row)) ⌝ }
     ensures answer { λ r. ⌜ r ≡ searchedOf (brokenBy (nearestAnswer n (now (rules .entry)) (now (row .entry)))) ⌝ }
     ensures output { λ r. ⌜ now (choice .exit) ≡ choiceAfter none (nearestAnswer n (now (rules .entry)) (now (row .entry))) n (now (choice .entry)) ⌝ }
 {
-    let answer = climb(n, rules, row, last, choice);
+    let mut ends = walk_tables::no_ends();
+    let mut numbers = walk_tables::no_numbers();
+    let mut begins = walk_tables::no_begins();
+    let literals = 2 * n + 2;
+    occurrences::arrange(n, rules, &mut ends[..literals], &mut numbers, &mut begins);
+    nearest_with(
+        n,
+        rules,
+        &ends[..literals],
+        &numbers,
+        &begins,
+        row,
+        last,
+        choice,
+    )
+}
+
+// Finds the least count, and then the first choice that has it: as none has less, the first within it.
+fn nearest_with(
+    n: usize,
+    rules: &[i32],
+    ends: &[u16],
+    numbers: &[u16],
+    begins: &[u16],
+    row: &[u8],
+    last: usize,
+    choice: &mut [u8],
+) -> Searched
+    requires { ⌜ Startable n (now rules) (length (now choice)) × (last ≡ totalWeight (now row)) × Beside n (now rules) (now ends) (now numbers) (now begins) ⌝ }
+    ensures answer { λ r. ⌜ r ≡ searchedOf (brokenBy (nearestAnswer n (now (rules .entry)) (now (row .entry)))) ⌝ }
+    ensures output { λ r. ⌜ now (choice .exit) ≡ choiceAfter none (nearestAnswer n (now (rules .entry)) (now (row .entry))) n (now (choice .entry)) ⌝ }
+{
+    let answer = climb(n, rules, ends, numbers, begins, row, last, choice);
     if let Searched::Found(broken) = answer {
-        first_choice::make_first(n, rules, row, broken, choice);
+        first_choice::make_first(n, rules, ends, numbers, begins, row, broken, choice);
     }
     answer
 }
 
 // Walks with the limits 0, 1, .. until one finds an answer. No choice breaks more than all wishes weigh,
 // so that is the last limit.
-fn climb(n: usize, rules: &[i32], row: &[u8], last: usize, choice: &mut [u8]) -> Searched
-    requires { ⌜ Startable n (now rules) (length (now choice)) × (last ≡ totalWeight (now row)) ⌝ }
+fn climb(
+    n: usize,
+    rules: &[i32],
+    ends: &[u16],
+    numbers: &[u16],
+    begins: &[u16],
+    row: &[u8],
+    last: usize,
+    choice: &mut [u8],
+) -> Searched
+    requires { ⌜ Startable n (now rules) (length (now choice)) × (last ≡ totalWeight (now row)) × Beside n (now rules) (now ends) (now numbers) (now begins) ⌝ }
     ensures answer { λ r. ⌜ r ≡ searchedOf (brokenBy (nearestWalk n (clauses (now (rules .entry))) (now (row .entry)))) ⌝ }
     ensures output { λ r. ⌜ now (choice .exit) ≡ choiceAfter none (nearestWalk n (clauses (now (rules .entry))) (now (row .entry))) n (now (choice .entry)) ⌝ }
 {
     let mut d: usize = 0;
     while d < last {
-        if let Tried::Found(broken, _) = root_walk::walk_into(n, rules, row, d, choice) {
+        if let Tried::Found(broken, _) = root_walk::walk_with(
+            n,
+            rules,
+            ends,
+            numbers,
+            begins,
+            row,
+            d,
+            choice,
+        ) {
             return Searched::Found(broken);
         }
         d += 1;
     }
-    walk_result::answer_of(root_walk::walk_into(n, rules, row, d, choice))
+    walk_result::answer_of(root_walk::walk_with(n, rules, ends, numbers, begins, row, d, choice))
 }

@@ -1,8 +1,8 @@
 -- The equations by which proofs find opposed clauses.
 use mathlib.Core.Path.{_≡_, refl, sym, ap, _∙_}
-use mathlib.Core.Bool.{Bool, true, false, cond, _||_}
+use mathlib.Core.Bool.{Bool, true, false, cond, _||_, true≢false}
 use mathlib.Core.List.{List, [], _∷_}
-use mathlib.Core.Option.{Option, none, some}
+use mathlib.Core.Option.{Option, none, some, Option·map}
 use Prim.Native.Nat.{ℕ, _≤_}
 use native.Mathlib.Omega.{arith}
 use lib.Dec.{ltb}
@@ -12,8 +12,8 @@ use borrow.Author.Tests.{lt-ltb, le-ltb, ltb-true, ltb-false}
 use Rattle.formula.specs.Formula.{any, clauses}
 use Rattle.walk.specs.State.{unassignedIn}
 use Rattle.walk.specs.Branching.{isOpposed, shorter, shorterOf, shortest, fewest}
-use Rattle.walk.specs.BranchingLaws.{fewer, fewest-opposed, fewest-other}
-use Rattle.opposed.specs.Opposed.{someOpposed}
+use Rattle.walk.specs.BranchingLaws.{fewer, fewest-opposed, fewest-other, IsFewest, fewest-is, fewest-member}
+use Rattle.opposed.specs.Opposed.{someOpposed, NoneShort}
 
 -- the shorter of three clauses is the same from either side
 pub shorter-assoc : (a : List ℕ) (s c e : List ℤ) → shorter a s (shorter a c e) ≡ shorter a (shorter a s c) e
@@ -64,3 +64,27 @@ any-opposed row a (c ∷ f) = go (isOpposed row a c) refl (any-opposed row a f)
         ap (λ (t : Bool). t || any (isOpposed row a) f) e
         ∙ sym (ap someOpposed (fewest-opposed row a c f e) ∙ there (fewest row a f))
     go false e ih = ap (λ (t : Bool). t || any (isOpposed row a) f) e ∙ ih ∙ sym (ap someOpposed (fewest-other row a c f e))
+
+-- where no opposed clause has less than two unassigned literals, neither has the shortest
+two-in-shortest : (row a : List ℕ) (f : List (List ℤ)) → NoneShort row a f → (s : List ℤ) → shortest row a f ≡ some s → 2 ≤ unassignedIn a s
+two-in-shortest row a f h s e =
+    let r = fewest-member row a f (ap (Option·map (unassignedIn a)) e) in
+    omega (arith, h (r .0) (r .1) (r .2), r .3)
+
+-- so a clause that has at most two is the shortest where it is kept beside any other
+pub kept-two : (row a : List ℕ) (f : List (List ℤ)) → NoneShort row a f → (s : List ℤ) (o : Option (List ℤ)) → shortest row a f ≡ some (shorterOf a s o) → unassignedIn a s ≤ 2
+    → shortest row a f ≡ some s
+kept-two row a f h s none e l = e
+kept-two row a f h s (some g) e l = go (ltb (unassignedIn a g) (unassignedIn a s)) refl e
+  where
+    go : (t : Bool) → ltb (unassignedIn a g) (unassignedIn a s) ≡ t → shortest row a f ≡ some (cond t g s) → shortest row a f ≡ some s
+    go true p q = absurd (omega (arith, two-in-shortest row a f h g q, ltb-true (unassignedIn a g) (unassignedIn a s) p))
+    go false p q = q
+
+-- that no opposed clause has less than two carries over to clauses with the same shortest
+pub none-short-same : (row a : List ℕ) (f g : List (List ℤ)) → shortest row a f ≡ shortest row a g → NoneShort row a f → NoneShort row a g
+none-short-same row a f g e h c m p = go (shortest row a g) refl (fewest-is row a g)
+  where
+    go : (o : Option (List ℤ)) → shortest row a g ≡ o → IsFewest row a g (Option·map (unassignedIn a) o) → 2 ≤ unassignedIn a c
+    go none q w = absurd (true≢false (sym p ∙ w c m))
+    go (some s) q w = omega (arith, two-in-shortest row a f h s (e ∙ q), w .below c m p)

@@ -1,12 +1,13 @@
 -- Opposed clauses of a list.
 use mathlib.Core.Path.{_≡_}
 use mathlib.Core.Bool.{Bool, true, false}
-use mathlib.Core.List.{List}
+use mathlib.Core.List.{List, List·Memᴰ}
 use mathlib.Core.Option.{Option, none, some}
-use Prim.Native.Nat.{ℕ, _<_}
+use Prim.Native.Nat.{ℕ, _≤_, _<_}
 use lib.IntN.{ℤ}
 use lib.ListN.{length, drop}
 use Rattle.formula.specs.Formula.{clauses}
+use Rattle.walk.specs.State.{unassignedIn}
 use Rattle.walk.specs.Branching.{isOpposed, shortest}
 use Rattle.clause_standing.specs.Clause.{clauseAt}
 use Rattle.opposed.specs.declared.fewest.Fewest.{Fewest}
@@ -29,3 +30,7 @@ abbrev pub KeepsShortest : List ℕ → List ℕ → List ℤ → Begins → Typ
 KeepsShortest row a l W.Nothing = shortest row a (clauses l) ≡ none
 KeepsShortest row a l (W.At i) =
     (i < length l) × (isOpposed row a (clauseAt i l) ≡ true) × (shortest row a (clauses l) ≡ shortest row a (clauses (drop i l)))
+
+-- no opposed clause has less than two unassigned literals. It is so after unit propagation, which leaves no such clause open, and opposed clauses are open
+abbrev pub NoneShort : List ℕ → List ℕ → List (List ℤ) → Type 0
+NoneShort row a f = (c : List ℤ) → List·Memᴰ c f → isOpposed row a c ≡ true → 2 ≤ unassignedIn a c

@@ -6,7 +6,7 @@ use crate::shortest::shortest_opposed;
 ghost use mathlib.Core.Path.{_≡_};
 ghost use Rattle.formula.specs.Formula.{clauses};
 ghost use Rattle.walk.specs.Branching.{fewest};
-ghost use Rattle.opposed.specs.Opposed.{sizeOf};
+ghost use Rattle.opposed.specs.Opposed.{sizeOf, NoneShort};
 
 // The fewest unassigned literals of an opposed clause, where there is one.
 pub enum Fewest {
@@ -16,6 +16,7 @@ pub enum Fewest {
 
 // Counts the unassigned literals of the shortest opposed clause.
 pub fn fewest_opposed(list: &[i32], row: &[u8], assignment: &[u8]) -> Fewest
+    requires { ⌜ NoneShort (now row) (now assignment) (clauses (now list)) ⌝ }
     ensures { λ r. ⌜ sizeOf r ≡ fewest (now (row .entry)) (now (assignment .entry)) (clauses (now (list .entry))) ⌝ }
 {
     match find_opposed(list, row, assignment) {

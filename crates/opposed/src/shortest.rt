@@ -1,5 +1,6 @@
 // The shortest opposed clause of a list.
 use crate::pair::shorter;
+use crate::pair::unassigned_in;
 ghost use mathlib.Core.Path.{_≡_};
 ghost use mathlib.Core.Bool.{true};
 ghost use mathlib.Core.Option.{some};
@@ -8,7 +9,7 @@ ghost use lib.ListN.{length, drop};
 ghost use Rattle.formula.specs.Formula.{clauses};
 ghost use Rattle.walk.specs.Branching.{isOpposed, shortest};
 ghost use Rattle.clause_standing.specs.Clause.{clauseAt};
-ghost use Rattle.opposed.specs.Opposed.{KeepsShortest};
+ghost use Rattle.opposed.specs.Opposed.{KeepsShortest, NoneShort};
 
 // Where an opposed clause begins, if there is one.
 pub enum Begins {
@@ -32,7 +33,8 @@ pub fn find_opposed(list: &[i32], row: &[u8], assignment: &[u8]) -> Begins
     Begins::Nothing
 }
 
-// The shortest opposed clause, handed back as itself, given where one begins that it is not before.
+// The shortest opposed clause, handed back as itself, given where one begins that it is not before. None has
+// less than two unassigned literals, so the list is read on only while the clause kept has more than two.
 pub fn shortest_opposed<'a>(
     list: &'a [i32],
     first: usize,
@@ -40,17 +42,23 @@ pub fn shortest_opposed<'a>(
     assignment: &[u8],
 ) -> &'a [i32]
     requires { ⌜ (first < length (now list)) × (isOpposed (now row) (now assignment) (clauseAt first (now list)) ≡ true) ⌝ }
+    requires { ⌜ NoneShort (now row) (now assignment) (clauses (drop first (now list))) ⌝ }
     ensures { λ r. ⌜ some (now r) ≡ shortest (now (row .entry)) (now (assignment .entry)) (clauses (drop first (now (list .entry)))) ⌝ }
 {
     let first_end = formula::clause_end(list, first);
     let mut kept = &list[first..first_end];
+    let mut size = unassigned_in(kept, assignment);
     let mut from = first_end + 1;
     while from < list.len() {
+        if size < 3 {
+            return kept;
+        }
         let reading = opposed_clause::read_opposed(list, from, row, assignment);
         let end = reading.end;
         if reading.opposed {
             let best = shorter(kept, &list[from..end], assignment);
             kept = best;
+            size = unassigned_in(kept, assignment);
         }
         from = end + 1;
     }

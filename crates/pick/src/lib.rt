@@ -10,7 +10,7 @@ ghost use lib.ListN.{length};
 ghost use Rattle.formula.specs.Formula.{clauses};
 ghost use Rattle.distance.specs.Distance.{disagreement};
 ghost use Rattle.rule_list.specs.Sound.{SoundList};
-ghost use Rattle.opposed.specs.Opposed.{sizeOf, someOpposed};
+ghost use Rattle.opposed.specs.Opposed.{sizeOf, someOpposed, NoneShort};
 ghost use Rattle.walk.specs.Walk.{firstValue};
 ghost use Rattle.pick.specs.Pick.{pickOf};
 
@@ -33,6 +33,7 @@ pub fn pick_branch(
 ) -> Pick
     requires { ⌜ (broken ≡ disagreement (now row) (now a)) × (SoundList (length (now a)) (now list)) ⌝ }
     requires { ⌜ (2 * length (now a) + 1 < length (now weights)) × (length (now a) < length (now marks)) ⌝ }
+    requires { ⌜ NoneShort (now row) (now a) (clauses (now list)) ⌝ }
     ensures { λ r. ⌜ r ≡ pickOf (clauses (now (list .entry))) (now (row .entry)) d (now (a .entry)) ⌝ }
 {
     let size = opposed::fewest_opposed(list, row, a);

@@ -1,17 +1,24 @@
 -- A state of the search as the code keeps it: the assignment, the trail, and the running tally of assigned variables and broken wishes (document 01, step 1).
-use mathlib.Core.Path.{_≡_, refl, sym, ap, _∙_}
+use mathlib.Core.Path.{_≡_, sym, ap, _∙_}
 use mathlib.Core.List.{List}
 use Prim.Native.Nat.{ℕ, _+_, _-_, _*_, _≤_, _<_}
+use native.Mathlib.Decide.{ℕ-discrete}
 use native.Mathlib.Omega.{arith}
-use lib.ListN.{length, getD, set, length-set}
+use lib.ListN.{length, getD, set, take, length-set}
+use lib.Seq.{getD-set-same, getD-set-other, getD-take}
 use Rattle.literal.specs.Literal.{value}
-use Rattle.literal.specs.Laws.{value-at}
 use Rattle.wish.specs.Wish.{maxWeight, cost}
 use Rattle.wish.specs.Laws.{cost-most}
 use Rattle.distance.specs.Distance.{disagreement}
+use Rattle.walk.specs.Extension.{keeps-value}
 use Rattle.walk.specs.State.{State, unassigned, assign}
-use Rattle.walk.specs.Assignment.{assign-set, assign-state, assign-fewer, assign-cost}
-use Rattle.propagation.specs.Trail.{undone, undone-assigned, undone-none, undone-twice}
+use Rattle.walk.specs.Assignment.{assign-state, assign-fewer, assign-cost, assign-value, assign-extends}
+
+-- a variable of 1 to n that has a value
+pub record Assigned (n : ℕ) (a : List ℕ) (v : ℕ) : Type 0 where
+  pub above : 0 < v
+  pub upTo : v ≤ n
+  pub bit : value a v < 2
 
 pub record Searching (n : ℕ) (row a trail : List ℕ) (settled broken : ℕ) : Type 0 where
   pub state : State n a
@@ -19,62 +26,57 @@ pub record Searching (n : ℕ) (row a trail : List ℕ) (settled broken : ℕ) :
   pub assigned-and-not : settled + unassigned a ≡ n
   pub breaks : broken ≡ disagreement row a
   pub few : broken ≤ maxWeight * settled
-  pub kept : undone settled trail a ≡ a
+  pub traced : (j : ℕ) → j < settled → Assigned n a (getD trail j 0)
 
--- what was assigned before is undone alike: from one state to a later one, s variables being assigned in the first
-abbrev pub Later : ℕ → List ℕ → List ℕ → List ℕ → List ℕ → Type 0
-Later s trail a trail′ a′ = (t : ℕ) → t ≤ s → undone t trail′ a′ ≡ undone t trail a
-
-pub later-none : (s : ℕ) (trail a : List ℕ) → Later s trail a trail a
-later-none s trail a t h = refl
-
-pub later-more : (s k : ℕ) (trail a trail′ a′ trail″ a″ : List ℕ) → s ≤ k → Later s trail a trail′ a′ → Later k trail′ a′ trail″ a″ → Later s trail a trail″ a″
-later-more s k trail a trail′ a′ trail″ a″ h p q t l = q t (omega arith) ∙ p t l
+-- the trail matters only as far as variables are assigned
+pub searching-kept : {n : ℕ} {row a trail : List ℕ} {settled broken : ℕ} → Searching n row a trail settled broken
+    → (trail′ : List ℕ) → length trail′ ≡ length trail → take settled trail′ ≡ take settled trail → Searching n row a trail′ settled broken
+searching-kept {n} {row} {a} {trail} {settled} s trail′ l e =
+    record {
+      state = s .state;
+      long = l ∙ s .long;
+      assigned-and-not = s .assigned-and-not;
+      breaks = s .breaks;
+      few = s .few;
+      traced = λ j h. rw (same j h) (s .traced j h);
+    }
+  where
+    same : (j : ℕ) → j < settled → getD trail′ j 0 ≡ getD trail j 0
+    same j h = sym (getD-take settled trail′ j 0 h) ∙ ap (λ (l : List ℕ). getD l j 0) e ∙ getD-take settled trail j 0 h
 
 -- a variable is assigned
 module _ (n : ℕ) (row a trail : List ℕ) (settled broken : ℕ) (s : Searching n row a trail settled broken)
     (v b : ℕ) (low : 0 < v) (high : v ≤ n) (free : value a v ≡ 2) (bit : b < 2) where
-  free-at : getD a (v - 1) 2 ≡ 2
-  free-at = sym (value-at a v low) ∙ free
-
-  pub assigned : Searching n row (assign a v b) (set trail (v - 1) settled) (settled + 1) (broken + cost (value row v) b)
-  assigned =
-      record {
-        state = assign-state (s .state) v b (omega arith);
-        long = length-set trail (v - 1) settled ∙ s .long;
-        assigned-and-not = omega (arith, s .assigned-and-not, assign-fewer (s .state) v b low high free bit);
-        breaks = omega (arith, s .breaks, assign-cost (s .state) row v b low high free);
-        few = omega (arith, s .few, cost-most (value row v) b);
-        kept =
-            ap (undone (settled + 1) (set trail (v - 1) settled)) (assign-set a v b low)
-            ∙ undone-none settled trail a (v - 1) b (s .kept)
-            ∙ sym (assign-set a v b low);
-      }
-
-  pub assigned-later : Later settled trail a (set trail (v - 1) settled) (assign a v b)
-  assigned-later t h =
-      ap (undone t (set trail (v - 1) settled)) (assign-set a v b low) ∙ undone-assigned t settled trail a (v - 1) b h free-at
-
   -- there is room for one more
   pub not-all : settled < n
   not-all = omega (arith, s .assigned-and-not, assign-fewer (s .state) v b low high free bit)
 
--- after a search that found nothing, what was assigned since is taken away
-module _ (n : ℕ) (row a trail : List ℕ) (settled broken : ℕ) (s : Searching n row a trail settled broken)
-    (a′ trail′ : List ℕ) (later : Later settled trail a trail′ a′) (long : length trail′ ≡ length trail) where
-  pub restored : undone settled trail′ a′ ≡ a
-  restored = later settled (omega arith) ∙ s .kept
+  still : (u : ℕ) → Assigned n a u → Assigned n (assign a v b) u
+  still u h =
+      record { above = h .above; upTo = h .upTo; bit = omega (arith, h .bit, keeps-value (assign-extends a v b free) u (λ e. omega (arith, h .bit))) }
 
-  pub restored-later : Later settled trail a trail′ a
-  restored-later t h = ap (undone t trail′) (sym restored) ∙ undone-twice t settled trail′ a′ h ∙ later t h
+  trace : (j : ℕ) → j < settled + 1 → Assigned n (assign a v b) (getD (set trail settled v) j 0)
+  trace j h =
+      elim (ℕ-discrete j settled) [
+        | yes e ↦ rw (e, getD-set-same trail settled v 0 (omega (arith, not-all, s .long))) (record { above = low; upTo = high; bit = omega (arith, assign-value (s .state) v b low high) })
+        | no e ↦ rw (getD-set-other trail settled j v 0 e) (still (getD trail j 0) (s .traced j (omega arith)))
+      ]
 
-  pub restored-searching : Searching n row a trail′ settled broken
-  restored-searching =
+  pub assigned : Searching n row (assign a v b) (set trail settled v) (settled + 1) (broken + cost (value row v) b)
+  assigned =
       record {
-        state = s .state;
-        long = long ∙ s .long;
-        assigned-and-not = s .assigned-and-not;
-        breaks = s .breaks;
-        few = s .few;
-        kept = restored-later settled (omega arith) ∙ s .kept;
+        state = assign-state (s .state) v b (omega arith);
+        long = length-set trail settled v ∙ s .long;
+        assigned-and-not = omega (arith, s .assigned-and-not, assign-fewer (s .state) v b low high free bit);
+        breaks = omega (arith, s .breaks, assign-cost (s .state) row v b low high free);
+        few = omega (arith, s .few, cost-most (value row v) b);
+        traced = trace;
       }
+
+-- as many are assigned as there are variables, at most
+pub settled-most : {n : ℕ} {row a trail : List ℕ} {settled broken : ℕ} → Searching n row a trail settled broken → settled ≤ n
+settled-most s = omega (arith, s .assigned-and-not)
+
+-- so much of the trail can be undone, whatever stands behind it
+pub undoable : {n : ℕ} {row a trail : List ℕ} {settled broken : ℕ} → Searching n row a trail settled broken → (settled ≤ length trail) × ((j : ℕ) → j < settled → (0 < getD trail j 0) × (getD trail j 0 ≤ n))
+undoable s = (omega (arith, settled-most s, s .long), λ j h. (s .traced j h .above, s .traced j h .upTo))

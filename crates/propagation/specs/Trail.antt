@@ -1,101 +1,99 @@
--- The trail: for each variable how many others were assigned before it was. A state is brought back to an earlier one by taking away what was assigned since.
-use mathlib.Core.Path.{_≡_, refl, sym, ap, ap₂, _∙_}
-use mathlib.Core.Bool.{Bool, true, false, cond}
-use mathlib.Core.List.{List, [], _∷_, _++_, append-nil}
-use Prim.Native.Nat.{ℕ, zero, suc, _+_, _≤_, _<_}
-use native.Mathlib.Nat.{le-refl}
-use native.Mathlib.Decide.{decLt}
+-- The trail: the assigned variables, in the order in which they were assigned. A state is brought back to an earlier one by unassigning those that came since, the last one first, at the cost of what was assigned.
+use mathlib.Core.Path.{_≡_, refl, sym, ap, _∙_}
+use mathlib.Core.List.{List, [], _∷_, _++_}
+use Prim.Native.Nat.{ℕ, zero, suc, _+_, _-_, _≤_, _<_}
 use native.Mathlib.Numerals.{add-one}
 use native.Mathlib.Omega.{arith}
-use lib.Dec.{ltb}
-use lib.ListN.{length, getD, set, take, drop, drop-of-length-le}
-use lib.Seq.{append-snoc, drop-cons, drop-set-lt, take-all, take-suc-set}
-use borrow.Author.Tests.{lt-ltb, le-ltb, ltb-true}
+use lib.ListN.{length, getD, set, take, drop, length-set, length-take, take-append-drop, drop-of-length-le}
+use lib.Seq.{slice, slice-empty, set-set, set-getD, take-suc, take-suc-set, take-set-le, take-take, drop-append-le, length-take-le}
+use Rattle.literal.specs.Literal.{value}
+use Rattle.walk.specs.Assignment.{assign-set}
+use Rattle.walk.specs.State.{assign}
 
--- the state a, without what was assigned after s others
-abbrev pub undone : ℕ → List ℕ → List ℕ → List ℕ
-undone s [] a = []
-undone s (t ∷ trail) [] = []
-undone s (t ∷ trail) (b ∷ a) = cond (ltb t s) b 2 ∷ undone s trail a
+-- the state a without the values of the variables vs
+abbrev pub undone : List ℕ → List ℕ → List ℕ
+undone [] a = a
+undone (v ∷ vs) a = assign (undone vs a) v 2
 
--- what was unassigned and is assigned now, after k others, is taken away by every s up to k
-late : (k s b : ℕ) → s ≤ k → cond (ltb k s) b 2 ≡ 2
-late k s b h = rw (le-ltb k s h)
+pub undone-append : (us vs a : List ℕ) → undone (us ++ vs) a ≡ undone us (undone vs a)
+undone-append [] vs a = refl
+undone-append (u ∷ us) vs a = ap (λ (l : List ℕ). assign l u 2) (undone-append us vs a)
 
-same : (t : Bool) → _≡_ {A = ℕ} (cond t 2 2) 2
-same true = refl
-same false = refl
+-- a variable that was unassigned is so again
+pub undone-one : (a : List ℕ) (v b : ℕ) → value a v ≡ 2 → assign (assign a v b) v 2 ≡ a
+undone-one a zero b e = refl
+undone-one a (suc i) b e = set-set a i b 2 ∙ ap (set a i) (sym e) ∙ set-getD a i 2
 
-pub undone-assigned : (s k : ℕ) (trail a : List ℕ) (i b : ℕ) → s ≤ k → getD a i 2 ≡ 2
-    → undone s (set trail i k) (set a i b) ≡ undone s trail a
-undone-assigned s k [] a i b h e = refl
-undone-assigned s k (t ∷ trail) [] zero b h e = refl
-undone-assigned s k (t ∷ trail) [] (suc i) b h e = refl
-undone-assigned s k (t ∷ trail) (c ∷ a) zero b h e =
-    ap (λ (x : ℕ). x ∷ undone s trail a) (late k s b h ∙ sym (ap (λ (x : ℕ). cond (ltb t s) x 2) e ∙ same (ltb t s)))
-undone-assigned s k (t ∷ trail) (c ∷ a) (suc i) b h e = ap (λ (l : List ℕ). cond (ltb t s) c 2 ∷ l) (undone-assigned s k trail a i b h e)
+-- a part of the trail, and the place after it
+pub slice-more : (l : List ℕ) (i k : ℕ) → i ≤ k → k < length l → slice i (k + 1) l ≡ slice i k l ++ (getD l k 0 ∷ [])
+slice-more l i k h q =
+    ap (λ (m : ℕ). slice i m l) (add-one k) ∙ ap (drop i) (take-suc l k 0 q)
+    ∙ drop-append-le i (take k l) (getD l k 0 ∷ []) (omega (arith, length-take-le k l (omega arith)))
 
--- and nothing is taken away by k + 1, if nothing was by k before
-kept : (t k c : ℕ) → cond (ltb t k) c 2 ≡ c → cond (ltb t (k + 1)) c 2 ≡ c
-kept t k c e = elim (decLt t k) [ yes h ↦ early h | no h ↦ at-two (ltb t k) refl h ]
-  where
-    early : t < k → cond (ltb t (k + 1)) c 2 ≡ c
-    early h = rw (lt-ltb t (k + 1) (omega arith))
+pub slice-stored : (l : List ℕ) (i k v : ℕ) → i ≤ k → k < length l → slice i (k + 1) (set l k v) ≡ slice i k l ++ (v ∷ [])
+slice-stored l i k v h q =
+    ap (λ (m : ℕ). slice i m (set l k v)) (add-one k) ∙ ap (drop i) (take-suc-set l k v q)
+    ∙ drop-append-le i (take k l) (v ∷ []) (omega (arith, length-take-le k l (omega arith)))
 
-    at-two : (u : Bool) → ltb t k ≡ u → ¬ (t < k) → cond (ltb t (k + 1)) c 2 ≡ c
-    at-two true q h = absurd (h (ltb-true t k q))
-    at-two false q h =
-        let two : 2 ≡ c = sym (ap (λ (v : Bool). cond v c 2) q) ∙ e in
-        ap (λ (x : ℕ). cond (ltb t (k + 1)) x 2) (sym two) ∙ same (ltb t (k + 1)) ∙ two
+-- two parts side by side
+pub slice-join : (l : List ℕ) (i k m : ℕ) → i ≤ k → k ≤ m → m ≤ length l → slice i m l ≡ slice i k l ++ slice k m l
+slice-join l i k m h q r =
+    ap (drop i) (sym (take-append-drop k (take m l)) ∙ ap (λ (x : List ℕ). x ++ drop k (take m l)) (take-take k m l q))
+    ∙ drop-append-le i (take k l) (drop k (take m l)) (omega (arith, length-take-le k l (omega arith)))
 
-head-of : (x y : ℕ) (l m : List ℕ) → _≡_ {A = List ℕ} (x ∷ l) (y ∷ m) → x ≡ y
-head-of x y l m e = cc
+-- From the state a with s variables on its trail to a′ with k: the first s are as they were, and without the rest it is the state a again.
+pub record Grown (s : ℕ) (a trail : List ℕ) (k : ℕ) (a′ trail′ : List ℕ) : Type 0 where
+  pub more : s ≤ k
+  pub kept : take s trail′ ≡ take s trail
+  pub back : undone (slice s k trail′) a′ ≡ a
+  pub long : length trail′ ≡ length trail
 
-tail-of : (x y : ℕ) (l m : List ℕ) → _≡_ {A = List ℕ} (x ∷ l) (y ∷ m) → l ≡ m
-tail-of x y l m e = cc
+pub grown-none : (s : ℕ) (a trail : List ℕ) → Grown s a trail s a trail
+grown-none s a trail =
+    record { more = omega arith; kept = refl; back = ap (λ (vs : List ℕ). undone vs a) (slice-empty s trail); long = refl }
 
-raised : (k : ℕ) (trail a : List ℕ) → undone k trail a ≡ a → undone (k + 1) trail a ≡ a
-raised k [] a e = e
-raised k (t ∷ trail) [] e = refl
-raised k (t ∷ trail) (c ∷ a) e = ap₂ _∷_ (kept t k c (head-of _ _ _ _ e)) (raised k trail a (tail-of _ _ _ _ e))
+pub grown-assigned : (s : ℕ) (a trail : List ℕ) (v b : ℕ) → s < length trail → value a v ≡ 2 → Grown s a trail (s + 1) (assign a v b) (set trail s v)
+grown-assigned s a trail v b h e =
+    record {
+      more = omega arith;
+      kept = take-set-le s trail s v (omega arith);
+      back =
+          ap (λ (vs : List ℕ). undone vs (assign a v b)) (slice-stored trail s s v (omega arith) h ∙ ap (λ (vs : List ℕ). vs ++ (v ∷ [])) (slice-empty s trail))
+          ∙ undone-one a v b e;
+      long = length-set trail s v;
+    }
 
-pub undone-none : (k : ℕ) (trail a : List ℕ) (i b : ℕ) → undone k trail a ≡ a → undone (k + 1) (set trail i k) (set a i b) ≡ set a i b
-undone-none k [] [] i b e = refl
-undone-none k [] (c ∷ a) i b e = absurd (nothing e)
-  where
-    nothing : _≡_ {A = List ℕ} [] (c ∷ a) → ⊥
-    nothing e = let z : _≡_ {A = ℕ} 0 1 = cc in omega arith
-undone-none k (t ∷ trail) [] zero b e = refl
-undone-none k (t ∷ trail) [] (suc i) b e = refl
-undone-none k (t ∷ trail) (c ∷ a) zero b e =
-    ap₂ _∷_ (ap (λ (u : Bool). cond u b 2) (lt-ltb k (k + 1) (omega arith))) (raised k trail a (tail-of _ _ _ _ e))
-undone-none k (t ∷ trail) (c ∷ a) (suc i) b e =
-    ap₂ _∷_ (kept t k c (head-of _ _ _ _ e)) (undone-none k trail a i b (tail-of _ _ _ _ e))
+pub grown-more : {s k m : ℕ} {a trail a′ trail′ a″ trail″ : List ℕ} → m ≤ length trail″ → Grown s a trail k a′ trail′ → Grown k a′ trail′ m a″ trail″ → Grown s a trail m a″ trail″
+grown-more {s} {k} {m} {a} {trail} {a′} {trail′} {a″} {trail″} inside p q =
+    record {
+      more = omega (arith, p .more, q .more);
+      kept = sym (take-take s k trail″ (p .more)) ∙ ap (take s) (q .kept) ∙ take-take s k trail′ (p .more) ∙ p .kept;
+      back =
+          ap (λ (vs : List ℕ). undone vs a″) (slice-join trail″ s k m (p .more) (q .more) inside)
+          ∙ undone-append (slice s k trail″) (slice k m trail″) a″
+          ∙ ap (undone (slice s k trail″)) (q .back)
+          ∙ ap (λ (l : List ℕ). undone (drop s l) a′) (q .kept)
+          ∙ p .back;
+      long = q .long ∙ p .long;
+    }
 
--- one variable after the other: what is undone so far, and what is still to be
-pub undone-step : (s : ℕ) (trail a whole : List ℕ) (i x : ℕ) → i < length trail → i < length a → x ≡ cond (ltb (getD trail i 0) s) (getD a i 0) 2
-    → whole ≡ take i a ++ undone s (drop i trail) (drop i a) → whole ≡ take (i + 1) (set a i x) ++ undone s (drop (i + 1) trail) (drop (i + 1) (set a i x))
-undone-step s trail a whole i x h k e w =
-    w
-    ∙ ap (λ (l : List ℕ). take i a ++ l) (ap₂ (undone s) (drop-cons trail i 0 h) (drop-cons a i 0 k) ∙ ap (λ (y : ℕ). y ∷ undone s (drop (suc i) trail) (drop (suc i) a)) (sym e))
-    ∙ sym (append-snoc (take i a) x (undone s (drop (suc i) trail) (drop (suc i) a)))
-    ∙ ap₂ (λ (l r : List ℕ). l ++ undone s (drop (suc i) trail) r) (sym (take-suc-set a i x k)) (sym (drop-set-lt (suc i) a i x (le-refl (suc i))))
-    ∙ ap (λ (j : ℕ). take j (set a i x) ++ undone s (drop j trail) (drop j (set a i x))) (sym (add-one i))
+-- taking away from before s on: the same of the later state as of the earlier one
+pub grown-undone : {s k : ℕ} {a trail a′ trail′ : List ℕ} → k ≤ length trail′ → Grown s a trail k a′ trail′ → (i : ℕ) → i ≤ s → undone (slice i k trail′) a′ ≡ undone (slice i s trail) a
+grown-undone {s} {k} {a} {trail} {a′} {trail′} inside p i h =
+    ap (λ (vs : List ℕ). undone vs a′) (slice-join trail′ i s k h (p .more) inside)
+    ∙ undone-append (slice i s trail′) (slice s k trail′) a′
+    ∙ ap (undone (slice i s trail′)) (p .back)
+    ∙ ap (λ (l : List ℕ). undone (drop i l) a) (p .kept)
 
-pub undone-end : (s : ℕ) (trail a whole : List ℕ) (i : ℕ) → length a ≡ i → length trail ≡ i → whole ≡ take i a ++ undone s (drop i trail) (drop i a) → a ≡ whole
-undone-end s trail a whole i k h w =
-    let past : length trail ≤ i = omega arith in
-    sym (w ∙ ap₂ (λ (l r : List ℕ). l ++ undone s r (drop i a)) (take-all i a (omega arith)) (drop-of-length-le trail past) ∙ append-nil a)
+-- The loop that undoes a part of the trail: its last place, and none.
+pub undone-step : (l : List ℕ) (i k : ℕ) (a : List ℕ) → i < k → k - 1 < length l → 0 < getD l (k - 1) 0
+    → undone (slice i k l) a ≡ undone (slice i (k - 1) l) (set a (getD l (k - 1) 0 - 1) 2)
+undone-step l i k a h q z =
+    let e : k ≡ k - 1 + 1 = omega arith in
+    ap (λ (m : ℕ). undone (slice i m l) a) e
+    ∙ ap (λ (vs : List ℕ). undone vs a) (slice-more l i (k - 1) (omega arith) q)
+    ∙ undone-append (slice i (k - 1) l) (getD l (k - 1) 0 ∷ []) a
+    ∙ ap (undone (slice i (k - 1) l)) (assign-set a (getD l (k - 1) 0) 2 z)
 
--- what an earlier s takes away is gone whether or not a later one took its part first
-twice : (t s r b : ℕ) → t ≤ s → cond (ltb r t) (cond (ltb r s) b 2) 2 ≡ cond (ltb r t) b 2
-twice t s r b h = go (ltb r t) refl
-  where
-    go : (u : Bool) → ltb r t ≡ u → cond u (cond (ltb r s) b 2) 2 ≡ cond u b 2
-    go true q = rw (lt-ltb r s (omega (arith, ltb-true r t q)))
-    go false q = refl
-
-pub undone-twice : (t s : ℕ) (trail a : List ℕ) → t ≤ s → undone t trail (undone s trail a) ≡ undone t trail a
-undone-twice t s [] a h = refl
-undone-twice t s (r ∷ trail) [] h = refl
-undone-twice t s (r ∷ trail) (b ∷ a) h = ap₂ _∷_ (twice t s r b h) (undone-twice t s trail a h)
+pub undone-end : (l : List ℕ) (i k : ℕ) (a : List ℕ) → k ≤ i → undone (slice i k l) a ≡ a
+undone-end l i k a h = ap (λ (vs : List ℕ). undone vs a) (drop-of-length-le (take k l) {i = i} (omega (arith, length-take k l)))

@@ -1,12 +1,14 @@
-// Unit propagation, and its undoing.
+// Unit propagation by occurrence lists, and its undoing.
+mod assign;
+mod look;
 mod propagate;
-mod settle;
+mod propagated;
+mod queue;
 mod trail;
 mod unit;
 
-pub use propagate::Propagated;
+pub use assign::assign_to;
+pub use propagate::propagate_all;
 pub use propagate::propagate_units;
-pub use settle::assign_to;
+pub use propagated::Propagated;
 pub use trail::undo;
-pub use unit::Unit;
-pub use unit::find_unit;

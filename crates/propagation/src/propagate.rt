@@ -1,56 +1,70 @@
 // Unit propagation (document 01, step 1: settle).
-use crate::settle::assign_to;
-use crate::unit::Unit;
-use crate::unit::find_unit;
+use crate::look::look_at_all;
+use crate::propagated::Propagated;
+use crate::queue::follow_queue;
 use tally::Tally;
-ghost use mathlib.Core.Path.{_≡_};
-ghost use mathlib.Core.Bool.{true};
 ghost use Prim.Native.Nat.{_≤_};
 ghost use lib.ListN.{length};
 ghost use Rattle.formula.specs.Formula.{clauses};
-ghost use Rattle.limits.specs.Limits.{maxVariables};
-ghost use Rattle.walk.specs.State.{fits};
-ghost use Rattle.propagation.specs.Propagated.{PropagatedBy};
-ghost use Rattle.propagation.specs.Searching.{Searching};
+ghost use Rattle.unit_queue.specs.Queue.{follow, settle};
+ghost use Rattle.propagation.specs.Looked.{ComesTo, pending};
+ghost use Rattle.propagation.specs.Looking.{Following};
 
-// A dead end, or the tally of the propagated state.
-pub enum Propagated {
-    Dead,
-    Settled(Tally),
-}
-
-// Makes the literals of unit clauses hold, the lowest numbered clause first, until there is none. It
-// stops at the first sign of a dead end, since what follows cannot mend it.
+// Propagates a state in which only the clauses of variables from a place of the trail on can ask for
+// anything, as after a fork. It stops at the first sign of a dead end, since what follows cannot mend it.
 pub fn propagate_units(
     list: &[i32],
+    ends: &[u16],
+    numbers: &[u16],
+    begins: &[u16],
+    row: &[u8],
+    d: usize,
+    from: usize,
+    tally: Tally,
+    a: &mut [u8],
+    trail: &mut [u16],
+) -> Propagated
+    requires { ⌜ Following (now list) (now ends) (now numbers) (now begins) (now row) tally (now a) (now trail) × (from ≤ tally .settled) ⌝ }
+    ensures { λ r. ⌜ ComesTo (length (now (a .entry))) (now (row .entry)) (follow (clauses (now (list .entry))) (now (row .entry)) d (pending from tally (now (a .entry)) (now (trail .entry)))) tally (now (a .entry)) (now (trail .entry)) (now (a .exit)) (now (trail .exit)) r ⌝ }
+{
+    if d < tally.broken {
+        return Propagated::Dead(tally);
+    }
+    follow_queue(list, ends, numbers, begins, row, d, from, tally, a, trail)
+}
+
+// Propagates any state: each clause is looked at once, and then the queue is followed.
+pub fn propagate_all(
+    list: &[i32],
+    ends: &[u16],
+    numbers: &[u16],
+    begins: &[u16],
     row: &[u8],
     d: usize,
     tally: Tally,
     a: &mut [u8],
     trail: &mut [u16],
 ) -> Propagated
-    requires { ⌜ Searching (length (now a)) (now row) (now a) (now trail) (tally .settled) (tally .broken) ⌝ }
-    requires { ⌜ (fits (length (now a)) (clauses (now list)) ≡ true) × (length (now a) ≤ maxVariables) ⌝ }
-    ensures { λ r. ⌜ PropagatedBy (length (now (a .entry))) (clauses (now (list .entry))) (now (row .entry)) d (tally .settled) (now (a .entry)) (now (trail .entry)) (now (a .exit)) (now (trail .exit)) r ⌝ }
+    requires { ⌜ Following (now list) (now ends) (now numbers) (now begins) (now row) tally (now a) (now trail) ⌝ }
+    ensures { λ r. ⌜ ComesTo (length (now (a .entry))) (now (row .entry)) (settle (clauses (now (list .entry))) (now (row .entry)) d (now (a .entry))) tally (now (a .entry)) (now (trail .entry)) (now (a .exit)) (now (trail .exit)) r ⌝ }
 {
-    let mut present = tally;
-    loop {
-        if d < present.broken {
-            return Propagated::Dead;
-        }
-        match find_unit(list, a) {
-            Unit::Conflict => return Propagated::Dead,
-            Unit::Nothing => return Propagated::Settled(present),
-            Unit::Literal(x) => {
-                present = assign_to(
-                    present,
-                    row,
-                    literal::variable_of(x),
-                    literal::wanted_by(x),
-                    a,
-                    trail,
-                );
-            }
-        }
+    if d < tally.broken {
+        return Propagated::Dead(tally);
+    }
+    let end = ends[1] as usize;
+    match look_at_all(list, begins, &numbers[..end], row, d, tally, a, trail) {
+        Propagated::Dead(t) => Propagated::Dead(t),
+        Propagated::Settled(t) => follow_queue(
+            list,
+            ends,
+            numbers,
+            begins,
+            row,
+            d,
+            tally.settled,
+            t,
+            a,
+            trail,
+        ),
     }
 }

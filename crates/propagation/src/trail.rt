@@ -1,29 +1,19 @@
 // Back to an earlier state.
 ghost use mathlib.Core.Path.{_≡_};
-ghost use mathlib.Core.Bool.{cond};
-ghost use lib.Dec.{ltb};
-ghost use lib.ListN.{length};
+ghost use Prim.Native.Nat.{ℕ, _≤_, _<_};
+ghost use lib.ListN.{length, getD};
+ghost use lib.Seq.{slice};
 ghost use Rattle.propagation.specs.Trail.{undone};
 
-// Takes away what was assigned after the first `settled` variables. It goes through all variables,
-// once for each value that failed, so that nothing has to be kept in order.
-pub fn undo(settled: usize, trail: &[u16], a: &mut [u8])
-    requires { ⌜ length (now trail) ≡ length (now a) ⌝ }
-    ensures { λ _. ⌜ now (a .exit) ≡ undone settled (now (trail .entry)) (now (a .entry)) ⌝ }
+// Unassigns the variables of a part of the trail, the last one first.
+pub fn undo(from: usize, to: usize, trail: &[u16], a: &mut [u8])
+    requires { ⌜ (to ≤ length (now trail)) × ((j : ℕ) → j < to → (0 < getD (now trail) j 0) × (getD (now trail) j 0 ≤ length (now a))) ⌝ }
+    ensures { λ _. ⌜ now (a .exit) ≡ undone (slice from to (now (trail .entry))) (now (a .entry)) ⌝ }
 {
-    let mut i = 0;
-    while i < a.len() {
-        a[i] = undo_byte(settled, trail[i], a[i]);
-        i += 1;
-    }
-}
-
-fn undo_byte(settled: usize, before: u16, value: u8) -> u8
-    ensures { λ r. ⌜ r ≡ cond (ltb before settled) value 2 ⌝ }
-{
-    if (before as usize) < settled {
-        value
-    } else {
-        2
+    let mut k = to;
+    while from < k {
+        k -= 1;
+        let number = trail[k] as usize;
+        a[number - 1] = 2;
     }
 }

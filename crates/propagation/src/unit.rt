@@ -1,11 +1,9 @@
-// The next unit clause.
-use clause_standing::Standing;
+// What a clause asks for.
 ghost use mathlib.Core.Path.{_≡_};
-ghost use Prim.Native.Nat.{_<_};
-ghost use lib.IntN.{pos};
-ghost use lib.ListN.{length, getD};
-ghost use Rattle.formula.specs.Formula.{clauses};
-ghost use Rattle.propagation.specs.Unit.{scan, unitBy};
+ghost use mathlib.Core.Bool.{cond};
+ghost use lib.Dec.{eqb};
+ghost use Rattle.clause_standing.specs.Clause.{clauseAt};
+ghost use Rattle.propagation.specs.Unit.{asks};
 
 // A falsified clause, the one unassigned literal of a unit clause, or neither.
 pub enum Unit {
@@ -14,39 +12,41 @@ pub enum Unit {
     Nothing,
 }
 
-// The first clause that is falsified or unit.
-pub fn find_unit(list: &[i32], a: &[u8]) -> Unit
-    ensures { λ r. ⌜ r ≡ scan (now (a .entry)) (clauses (now (list .entry))) ⌝ }
+// Reads the clause that begins at an index, up to a literal that holds or to the second one that is
+// unassigned: it asks for nothing then.
+pub fn unit_at(list: &[i32], from: usize, a: &[u8]) -> Unit
+    ensures { λ r. ⌜ r ≡ asks (now (a .entry)) (clauseAt from (now (list .entry))) ⌝ }
 {
-    let mut from = 0;
-    while from < list.len() {
-        let reading = clause_standing::read_clause(list, from, a);
-        let standing = reading.standing;
-        let next = reading.end + 1;
-        match unit_by(list, standing, reading.last) {
-            Unit::Conflict => return Unit::Conflict,
-            Unit::Literal(x) => return Unit::Literal(x),
-            Unit::Nothing => from = next,
+    let mut count: usize = 0;
+    let mut found: i32 = 0;
+    let mut i = from;
+    while i < list.len() {
+        let x = list[i];
+        if literal::closes(x) {
+            return unit_by(count, found);
         }
+        if literal::holds_in(x, a) {
+            return Unit::Nothing;
+        }
+        if clause_standing::is_unassigned(x, a) {
+            if count != 0 {
+                return Unit::Nothing;
+            }
+            count = 1;
+            found = x;
+        }
+        i += 1;
     }
-    Unit::Nothing
+    unit_by(count, found)
 }
 
-// The same of one clause, by how it stands and where its last unassigned literal is.
-fn unit_by(list: &[i32], standing: Standing, last: usize) -> Unit
-    requires { ⌜ (standing ≡ Standing.Open 1 → last < length (now list)) ⌝ }
-    ensures { λ r. ⌜ r ≡ unitBy standing (getD (now (list .entry)) last (pos 0)) ⌝ }
+// At the end of an open clause with so many unassigned literals, none or one.
+fn unit_by(count: usize, found: i32) -> Unit
+    ensures { λ r. ⌜ r ≡ cond (eqb count 0) Unit.Conflict (Unit.Literal found) ⌝ }
 {
-    match standing {
-        Standing::Satisfied => Unit::Nothing,
-        Standing::Open(k) => {
-            if k == 0 {
-                return Unit::Conflict;
-            }
-            if k == 1 {
-                return Unit::Literal(list[last]);
-            }
-            Unit::Nothing
-        }
+    if count == 0 {
+        Unit::Conflict
+    } else {
+        Unit::Literal(found)
     }
 }

@@ -1,14 +1,47 @@
-// A walk in space of its own, whose answer goes to a lent choice.
+// Walks in space of their own, whose answer goes to a lent choice.
 use crate::walk_from_root;
 use walk_result::Tried;
 ghost use lib.ListN.{length};
 ghost use Rattle.formula.specs.Formula.{clauses};
 ghost use Rattle.walk.specs.Walk.{walk};
+ghost use Rattle.occurrences.specs.Table.{Beside};
 ghost use Rattle.root_walk.specs.Into.{Startable, Reaches};
 
-// Walks from the root; where that finds an answer, it stands in the first n bytes of the choice.
+// Arranges the clauses, and walks from the root; where that finds an answer, it stands in the first n
+// bytes of the choice.
 pub fn walk_into(n: usize, list: &[i32], row: &[u8], d: usize, choice: &mut [u8]) -> Tried
     requires { ⌜ Startable n (now list) (length (now choice)) ⌝ }
+    ensures { λ r. ⌜ Reaches (walk n (clauses (now (list .entry))) (now (row .entry)) d) n (now (choice .entry)) (now (choice .exit)) r ⌝ }
+{
+    let mut ends = walk_tables::no_ends();
+    let mut numbers = walk_tables::no_numbers();
+    let mut begins = walk_tables::no_begins();
+    let literals = 2 * n + 2;
+    occurrences::arrange(n, list, &mut ends[..literals], &mut numbers, &mut begins);
+    walk_with(
+        n,
+        list,
+        &ends[..literals],
+        &numbers,
+        &begins,
+        row,
+        d,
+        choice,
+    )
+}
+
+// The same with the arrangement beside the list.
+pub fn walk_with(
+    n: usize,
+    list: &[i32],
+    ends: &[u16],
+    numbers: &[u16],
+    begins: &[u16],
+    row: &[u8],
+    d: usize,
+    choice: &mut [u8],
+) -> Tried
+    requires { ⌜ Startable n (now list) (length (now choice)) × Beside n (now list) (now ends) (now numbers) (now begins) ⌝ }
     ensures { λ r. ⌜ Reaches (walk n (clauses (now (list .entry))) (now (row .entry)) d) n (now (choice .entry)) (now (choice .exit)) r ⌝ }
 {
     let mut a = walk_tables::no_values();
@@ -20,6 +53,9 @@ pub fn walk_into(n: usize, list: &[i32], row: &[u8], d: usize, choice: &mut [u8]
     let variables = n + 1;
     match walk_from_root(
         list,
+        ends,
+        numbers,
+        begins,
         row,
         d,
         &mut a[..n],

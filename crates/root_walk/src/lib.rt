@@ -1,6 +1,7 @@
 // The walk from its root: every variable unassigned.
 mod into;
 
+use propagation::Propagated;
 use tally::Tally;
 use walk_result::Tried;
 ghost use mathlib.Core.Path.{_≡_};
@@ -10,10 +11,14 @@ ghost use Rattle.walk.specs.Walk.{walk};
 ghost use Rattle.try_and_fork.specs.Ready.{Ready};
 ghost use Rattle.root_walk.specs.Root.{RootSays};
 pub use into::walk_into;
+pub use into::walk_with;
 
 // Walks from the root in lent space, whatever it holds.
 pub fn walk_from_root(
     list: &[i32],
+    ends: &[u16],
+    numbers: &[u16],
+    begins: &[u16],
     row: &[u8],
     d: usize,
     a: &mut [u8],
@@ -21,7 +26,7 @@ pub fn walk_from_root(
     weights: &mut [u64],
     marks: &mut [u64],
 ) -> Tried
-    requires { ⌜ (length (now trail) ≡ length (now a)) × Ready (now list) (length (now a)) (length (now weights)) (length (now marks)) ⌝ }
+    requires { ⌜ (length (now trail) ≡ length (now a)) × Ready (now list) (now ends) (now numbers) (now begins) (length (now a)) (length (now weights)) (length (now marks)) ⌝ }
     ensures { λ r. ⌜ RootSays (walk (length (now (a .entry))) (clauses (now (list .entry))) (now (row .entry)) d) (now (a .exit)) r ⌝ }
 {
     walk_tables::unassign_all(a);
@@ -29,5 +34,20 @@ pub fn walk_from_root(
         settled: 0,
         broken: 0,
     };
-    try_and_fork::attempt(list, row, d, tally, a, trail, weights, marks)
+    match propagation::propagate_all(list, ends, numbers, begins, row, d, tally, a, trail) {
+        Propagated::Dead(_) => Tried::Nothing(0),
+        Propagated::Settled(t) => try_and_fork::attempt(
+            list,
+            ends,
+            numbers,
+            begins,
+            row,
+            d,
+            t,
+            a,
+            trail,
+            weights,
+            marks,
+        ),
+    }
 }

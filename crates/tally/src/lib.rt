@@ -10,31 +10,23 @@ pub struct Tally {
     pub broken: usize,
 }
 
-// Assigns the variable at a place: its value goes to the assignment and the number of variables
-// assigned before it to the trail, and the running tally counts it, at a cost in broken wishes.
-pub fn assign(tally: &mut Tally, at: usize, bit: u8, cost: usize, a: &mut [u8], trail: &mut [u16])
-    requires { ⌜ MayAssign at cost (now a) (now trail) (now tally) ⌝ }
-    ensures { λ _. ⌜ HasAssigned at bit cost (now (a .entry)) (now (trail .entry)) (now (tally .entry)) (now (a .exit)) (now (trail .exit)) (now (tally .exit)) ⌝ }
+// Assigns the variable at a place: its value goes to the assignment, and the running tally counts it,
+// at a cost in broken wishes.
+pub fn assign(tally: &mut Tally, at: usize, bit: u8, cost: usize, a: &mut [u8])
+    requires { ⌜ MayAssign at cost (now a) (now tally) ⌝ }
+    ensures { λ _. ⌜ HasAssigned at bit cost (now (a .entry)) (now (tally .entry)) (now (a .exit)) (now (tally .exit)) ⌝ }
 {
     a[at] = bit;
-    trail[at] = tally.settled as u16;
     tally.settled += 1;
     tally.broken += cost;
 }
 
 // The same with the tally by value, so that a caller of this one is covered and needs no walk.
-pub fn assigned(
-    tally: Tally,
-    at: usize,
-    bit: u8,
-    cost: usize,
-    a: &mut [u8],
-    trail: &mut [u16],
-) -> Tally
-    requires { ⌜ MayAssign at cost (now a) (now trail) tally ⌝ }
-    ensures { λ r. ⌜ HasAssigned at bit cost (now (a .entry)) (now (trail .entry)) tally (now (a .exit)) (now (trail .exit)) r ⌝ }
+pub fn assigned(tally: Tally, at: usize, bit: u8, cost: usize, a: &mut [u8]) -> Tally
+    requires { ⌜ MayAssign at cost (now a) tally ⌝ }
+    ensures { λ r. ⌜ HasAssigned at bit cost (now (a .entry)) tally (now (a .exit)) r ⌝ }
 {
     let mut running = tally;
-    assign(&mut running, at, bit, cost, a, trail);
+    assign(&mut running, at, bit, cost, a);
     running
 }

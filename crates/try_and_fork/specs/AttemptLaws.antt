@@ -1,71 +1,104 @@
 -- Trying a state: propagation, completion, and what is left to a fork (document 01, steps 1 to 4).
-use mathlib.Core.Path.{_≡_, sym, ap, subst, _∙_}
+use mathlib.Core.Path.{_≡_, sym, ap, ap₂, _∙_}
 use mathlib.Core.Bool.{true, false}
 use mathlib.Core.List.{List}
-use Prim.Native.Nat.{ℕ, _≤_, _<_}
+use Prim.Native.Nat.{ℕ, _-_, _≤_, _<_}
 use native.Mathlib.Omega.{arith}
 use lib.IntN.{ℤ}
+use lib.ListN.{length, take, drop}
+use lib.Seq.{slice, take-take}
 use Rattle.literal.specs.declared.Variable.{Variable}
 use Rattle.formula.specs.Formula.{models}
+use Rattle.opposed.specs.Opposed.{NoneShort}
+use Rattle.walk.specs.BranchingLaws.{opposed-open}
 use Rattle.walk.specs.Completion.{complete-cost}
 use Rattle.walk.specs.Promises.{Branches}
 use Rattle.walk.specs.Propagation.{propagate}
 use Rattle.walk.specs.PropagationLaws.{propagate-fewer}
-use Rattle.walk.specs.State.{fits, unassigned}
-use Rattle.walk.specs.Walk.{Outcome, deadEnd, complete, completed, decide, fork, walkFrom}
+use Rattle.walk.specs.State.{fits, unassigned, unassignedIn}
+use Rattle.walk.specs.Walk.{Outcome, deadEnd, complete, completed, decide, fork, walkFrom, isDeadEnd}
 use Rattle.walk.specs.WalkLaws.{walk-step, decide-dead, decide-complete}
 use Rattle.pick.specs.declared.Pick.the-variants.{DeadEnd, Branch}
 use Rattle.pick.specs.Pick.{pickOf, pick-none, pick-fork}
 use Rattle.tally.specs.declared.Tally.{Tally}
-use Rattle.propagation.specs.declared.propagate.Propagated.the-variants.{Dead, Settled}
+use Rattle.propagation.specs.declared.propagated.Propagated.the-variants.{Dead, Settled}
+use Rattle.propagation.specs.Looked.{Moved}
 use Rattle.propagation.specs.Propagated.{PropagatedBy}
-use Rattle.propagation.specs.Searching.{Searching, Later, later-more}
+use Rattle.propagation.specs.Searching.{Searching, settled-most}
+use Rattle.propagation.specs.Trail.{undone, grown-undone}
+use Rattle.unit_queue.specs.Theorems.{settled-none-due}
 use Rattle.walk_result.specs.declared.Tried.{Tried}
 use Rattle.walk_result.specs.declared.Tried.the-variants.{Found, Nothing}
 use Rattle.walk_result.specs.Tried.{clip}
-use Rattle.try_and_fork.specs.Tried.{TriedBy}
+use Rattle.unit_queue.specs.Due.{NoneDue}
+use Rattle.try_and_fork.specs.Tried.{TriedBy, unwound}
+
+-- where the newest variable stands on the trail: a state is tried after a fork assigned one, or at the root
+abbrev pub newest : Tally → ℕ
+newest t = t .settled - 1
+
+-- the state before it was assigned
+abbrev pub before : Tally → List ℕ → List ℕ → List ℕ
+before t a trail = undone (slice (newest t) (t .settled) trail) a
 
 -- the walk from a state is the decision of the propagated one
-module _ {n : ℕ} {row : List ℕ} {s b : ℕ} {a trail : List ℕ} (given : Searching n row a trail s b) (f : List (List ℤ)) (fit : fits n f ≡ true) (d : ℕ) where
+module _ {n : ℕ} {row : List ℕ} {t : Tally} {a trail : List ℕ} (given : Searching n row a trail (t .settled) (t .broken)) (f : List (List ℤ)) (fit : fits n f ≡ true) (d : ℕ) where
   step : walkFrom f row d a ≡ decide f row d (walkFrom f row d) (propagate f a)
   step = walk-step n f fit row d a (given .state)
 
-  ended : (trail′ a′ : List ℕ) → Later s trail a trail′ a′ → walkFrom f row d a ≡ deadEnd → TriedBy (walkFrom f row d a) s trail a trail′ a′ (Nothing 0)
-  ended trail′ a′ later e = (ap (λ (o : Outcome). o .answer) e, sym (ap (λ (o : Outcome). clip (o .forks)) e), later)
+  -- a dead end in a later state, which is undone
+  ended : {t′ : Tally} {a′ trail′ : List ℕ} → Moved n row t a trail t′ a′ trail′ → walkFrom f row d a ≡ deadEnd → (a″ : List ℕ) → a″ ≡ undone (slice (newest t) (t′ .settled) trail′) a′
+      → TriedBy (walkFrom f row d a) (newest t) (before t a trail) trail trail′ a″ (Nothing 0)
+  ended {t′} {a′} {trail′} m e a″ q = (
+    ap (λ (o : Outcome). o .answer) e,
+    sym (ap (λ (o : Outcome). clip (o .forks)) e),
+    q ∙ grown-undone (omega (arith, settled-most (m .searching), m .searching .long)) (m .grown) (newest t) (omega arith),
+    sym (take-take (newest t) (t .settled) trail′ (omega arith)) ∙ ap (take (newest t)) (m .grown .kept) ∙ take-take (newest t) (t .settled) trail (omega arith),
+  )
 
   -- step 1: a dead end
-  pub by-propagation : (trail′ a′ : List ℕ) → PropagatedBy n f row d s a trail a′ trail′ Dead → TriedBy (walkFrom f row d a) s trail a trail′ a′ (Nothing 0)
-  by-propagation trail′ a′ told = ended trail′ a′ (told .1) (step ∙ decide-dead f row d (walkFrom f row d) (propagate f a) (told .0))
+  pub by-propagation : {t′ : Tally} {a′ trail′ : List ℕ} → PropagatedBy n f row d t a trail a′ trail′ (Dead t′) → (a″ : List ℕ) → a″ ≡ undone (slice (newest t) (t′ .settled) trail′) a′
+      → TriedBy (walkFrom f row d a) (newest t) (before t a trail) trail trail′ a″ (Nothing 0)
+  by-propagation told a″ q = ended (told .1) (step ∙ decide-dead f row d (walkFrom f row d) (propagate f a) (told .0)) a″ q
 
--- from the state a, with s variables assigned, to the propagated state a′ with its tally t, which is no dead end
-pub record Alive (n : ℕ) (f : List (List ℤ)) (row : List ℕ) (d s b : ℕ) (a trail a′ trail′ : List ℕ) (t : Tally) : Type 0 where
-  pub given : Searching n row a trail s b
+-- from the state a with its tally t to the propagated state a′ with its tally t′, which is no dead end
+pub record Alive (n : ℕ) (f : List (List ℤ)) (row : List ℕ) (d : ℕ) (t : Tally) (a trail : List ℕ) (t′ : Tally) (a′ trail′ : List ℕ) : Type 0 where
+  pub given : Searching n row a trail (t .settled) (t .broken)
   pub fit : fits n f ≡ true
-  pub told : PropagatedBy n f row d s a trail a′ trail′ (Settled t)
+  pub told : PropagatedBy n f row d t a trail a′ trail′ (Settled t′)
 
-module _ {n : ℕ} {f : List (List ℤ)} {row : List ℕ} {d s b : ℕ} {a trail a′ trail′ : List ℕ} {t : Tally} (p : Alive n f row d s b a trail a′ trail′ t) where
+module _ {n : ℕ} {f : List (List ℤ)} {row : List ℕ} {d : ℕ} {t : Tally} {a trail : List ℕ} {t′ : Tally} {a′ trail′ : List ℕ} (p : Alive n f row d t a trail t′ a′ trail′) where
   abbrev try : List ℕ → Outcome
   try = walkFrom f row d
 
   decided : try a ≡ decide f row d try a′
   decided = step (p .given) f (p .fit) d ∙ ap (decide f row d try) (sym (p .told .0))
 
-  pub propagated : Searching n row a′ trail′ (t .settled) (t .broken)
-  propagated = p .told .3
+  pub propagated : Searching n row a′ trail′ (t′ .settled) (t′ .broken)
+  propagated = p .told .2 .searching
 
   pub propagated-fewer : unassigned a′ ≤ unassigned a
   propagated-fewer = omega (arith, ap unassigned (p .told .0), propagate-fewer n f (p .fit) (p .given .state))
 
+  pub propagated-none-due : NoneDue f a′
+  propagated-none-due = rw (p .told .0) (settled-none-due n f (p .fit) row d (p .given .state) (ap (isDeadEnd f row d) (sym (p .told .0)) ∙ p .told .1))
+
+  -- so an opposed clause, which is open, has at least two unassigned literals
+  pub propagated-none-short : NoneShort row a′ f
+  propagated-none-short c m e =
+      let long : unassignedIn a′ c < 2 → ⊥ = λ l. propagated-none-due c m (record { unmet = opposed-open row a′ c e; short = l }) in
+      omega (arith, long)
+
   -- step 2: the completion is the answer
-  pub by-completion : (a″ : List ℕ) → a″ ≡ complete row a′ → models (complete row a′) f ≡ true → TriedBy (try a) s trail a trail′ a″ (Found (t .broken) 0)
+  pub by-completion : (a″ : List ℕ) → a″ ≡ complete row a′ → models (complete row a′) f ≡ true → TriedBy (try a) (newest t) (before t a trail) trail trail′ a″ (Found (t′ .broken) 0)
   by-completion a″ q m =
       let o : try a ≡ completed row a′ = decided ∙ decide-complete f row d try a′ (p .told .1) m in
       (ap (λ (o : Outcome). o .answer) o ∙ rw (q, propagated .breaks, complete-cost row a′), sym (ap (λ (o : Outcome). clip (o .forks)) o))
 
   module _ (incomplete : models (complete row a′) f ≡ false) where
     -- steps 3 and 4: a dead end
-    pub by-exhaustion : pickOf f row d a′ ≡ DeadEnd → TriedBy (try a) s trail a trail′ a′ (Nothing 0)
-    by-exhaustion e = ended (p .given) f (p .fit) d trail′ a′ (p .told .2) (decided ∙ pick-none f row d try a′ (p .told .1) incomplete e)
+    pub by-exhaustion : pickOf f row d a′ ≡ DeadEnd → (a″ : List ℕ) → a″ ≡ undone (slice (newest t) (t′ .settled) trail′) a′ → TriedBy (try a) (newest t) (before t a trail) trail trail′ a″ (Nothing 0)
+    by-exhaustion e a″ q = ended (p .given) f (p .fit) d (p .told .2) (decided ∙ pick-none f row d try a′ (p .told .1) incomplete e) a″ q
 
     -- or a variable v to branch on, with the value c first
     module _ (v : Variable) (c : ℕ) (e : pickOf f row d a′ ≡ Branch v c) where
@@ -75,9 +108,15 @@ module _ {n : ℕ} {f : List (List ℤ)} {row : List ℕ} {d s b : ℕ} {a trail
       pub branches : Branches a′ n (v .0) × (c < 2)
       branches = (branched .1, branched .2)
 
-      -- step 5: what the fork says
-      pub by-fork : (trail″ a″ : List ℕ) (r : Tried) → TriedBy (fork try a′ (v .0) c) (t .settled) trail′ a′ trail″ a″ r → TriedBy (try a) s trail a trail″ a″ r
-      by-fork trail″ a″ (Found k g) w = subst (λ (o : Outcome). TriedBy o s trail a trail″ a″ (Found k g)) (sym (decided ∙ branched .0)) w
-      by-fork trail″ a″ (Nothing g) w =
-          subst (λ (o : Outcome). TriedBy o s trail a trail″ a″ (Nothing g)) (sym (decided ∙ branched .0))
-          (w .0, w .1, later-more s (t .settled) trail a trail′ a′ trail″ a″ (p .told .4) (p .told .2) (w .2))
+      -- step 5: what the fork says, undone where it found nothing
+      pub by-fork : (trail″ a″ a‴ : List ℕ) (r : Tried) → TriedBy (fork try a′ (v .0) c) (t′ .settled) a′ trail′ trail″ a″ r → length trail″ ≡ length trail′
+          → a‴ ≡ unwound r (slice (newest t) (t′ .settled) trail″) a″ → TriedBy (try a) (newest t) (before t a trail) trail trail″ a‴ r
+      by-fork trail″ a″ a‴ (Found k g) w l q = rw (q, decided ∙ branched .0) w
+      by-fork trail″ a″ a‴ (Nothing g) w l q =
+          let same : slice (newest t) (t′ .settled) trail″ ≡ slice (newest t) (t′ .settled) trail′ = ap (drop (newest t)) (w .3) in (
+            ap (λ (o : Outcome). o .answer) (decided ∙ branched .0) ∙ w .0,
+            w .1 ∙ sym (ap (λ (o : Outcome). clip (o .forks)) (decided ∙ branched .0)),
+            q ∙ ap₂ undone same (w .2) ∙ grown-undone (omega (arith, settled-most propagated, propagated .long)) (p .told .2 .grown) (newest t) (omega arith),
+            sym (take-take (newest t) (t′ .settled) trail″ (omega (arith, p .told .2 .grown .more))) ∙ ap (take (newest t)) (w .3) ∙ take-take (newest t) (t′ .settled) trail′ (omega (arith, p .told .2 .grown .more))
+                ∙ sym (take-take (newest t) (t .settled) trail′ (omega arith)) ∙ ap (take (newest t)) (p .told .2 .grown .kept) ∙ take-take (newest t) (t .settled) trail (omega arith),
+          )

@@ -1,15 +1,26 @@
--- What trying a state promises: the walk's answer from it, in the lent assignment, or nothing, with the earlier states to be had again.
+-- What trying a state promises: the walk's answer from it, in the lent assignment, or nothing, with an earlier state in it again.
 use mathlib.Core.Path.{_≡_}
 use mathlib.Core.List.{List}
 use mathlib.Core.Option.{none, some}
-use Prim.Native.Nat.{ℕ}
+use Prim.Native.Nat.{ℕ, _≤_, _<_}
+use lib.ListN.{length, getD, take}
 use Rattle.walk.specs.Walk.{Outcome}
-use Rattle.propagation.specs.Searching.{Later}
 use Rattle.walk_result.specs.declared.Tried.{Tried}
 use Rattle.walk_result.specs.declared.Tried.the-variants.{Found, Nothing}
 use Rattle.walk_result.specs.Tried.{clip}
+use Rattle.propagation.specs.Trail.{undone}
 
--- from the state a with its trail, s variables assigned, to a′ and trail′, where the walk comes to o
+-- Where the walk comes to o. If that is nothing, the assignment is the state `back` again, and the first k places of the trail are as they were.
 abbrev pub TriedBy : Outcome → ℕ → List ℕ → List ℕ → List ℕ → List ℕ → Tried → Type 0
-TriedBy o s trail a trail′ a′ (Found broken forks) = (o .answer ≡ some (record { choice = a′; broken = broken })) × (forks ≡ clip (o .forks))
-TriedBy o s trail a trail′ a′ (Nothing forks) = (o .answer ≡ none) × (forks ≡ clip (o .forks)) × Later s trail a trail′ a′
+TriedBy o k back trail trail′ a′ (Found broken forks) = (o .answer ≡ some (record { choice = a′; broken = broken })) × (forks ≡ clip (o .forks))
+TriedBy o k back trail trail′ a′ (Nothing forks) = (o .answer ≡ none) × (forks ≡ clip (o .forks)) × (a′ ≡ back) × (take k trail′ ≡ take k trail)
+
+-- after nothing was found, the variables vs are unassigned
+abbrev pub unwound : Tried → List ℕ → List ℕ → List ℕ
+unwound (Found broken forks) vs a = a
+unwound (Nothing forks) vs a = undone vs a
+
+-- what that asks for: these are the first variables of the trail, up to a place
+abbrev pub MayUnwind : Tried → ℕ → List ℕ → ℕ → Type 0
+MayUnwind (Found broken forks) to trail n = Unit {0}
+MayUnwind (Nothing forks) to trail n = (to ≤ length trail) × ((j : ℕ) → j < to → (0 < getD trail j 0) × (getD trail j 0 ≤ n))

@@ -20,7 +20,7 @@ use Rattle.walk.specs.Fits.{fits-at}
 use Rattle.walk.specs.Assignment.{assign-fewer, extends-satisfy, satisfy-extends, satisfy-state}
 
 -- the unit clause that gives the literal; and where there is none, no clause is unit
-unit-clause : (a : List ℕ) (f : List (List ℤ)) {x : ℤ} → unitLiteral a f ≡ some x
+pub unit-clause : (a : List ℕ) (f : List (List ℤ)) {x : ℤ} → unitLiteral a f ≡ some x
     → (c : List ℤ) × List·Memᴰ c f × (isUnit a c ≡ true) × (find (isUnassigned a) c ≡ some x)
 unit-clause a [] {x} e = absurd (Option·none-ne-some x e)
 unit-clause a (c ∷ f) {x} e = go (isUnit a c) refl e (λ q. unit-clause a f q)
@@ -31,7 +31,7 @@ unit-clause a (c ∷ f) {x} e = go (isUnit a c) refl e (λ q. unit-clause a f q)
     go true t q ih = (c, List·Memᴰ·head refl, t, q)
     go false t q ih = let r = ih q in (r .0, List·Memᴰ·tail (r .1), r .2, r .3)
 
-unit-one : (a : List ℕ) (c : List ℤ) → isUnit a c ≡ true → (satisfied a c ≡ false) × (unassignedIn a c ≡ 1)
+pub unit-one : (a : List ℕ) (c : List ℤ) → isUnit a c ≡ true → (satisfied a c ≡ false) × (unassignedIn a c ≡ 1)
 unit-one a c h = let r = and-eq-true-iff (isOpen a c) (eqb (unassignedIn a c) 1) .0 h in (not-true (satisfied a c) (r .0), eqb-true (unassignedIn a c) 1 (r .1))
 
 pub unit-none : (a : List ℕ) (f : List (List ℤ)) → unitLiteral a f ≡ none → (c : List ℤ) → List·Memᴰ c f → isUnit a c ≡ false
@@ -50,10 +50,10 @@ unit-none a (g ∷ f) e c m = go (isUnit a g) refl e (λ q w. unit-none a f q c 
     go false t q ih w = at t (ih q) w
 
 -- the literal is unassigned, its variable is one of the formula's, and every model that extends the state makes it hold
-pub unit-unassigned : (a : List ℕ) (f : List (List ℤ)) {x : ℤ} → unitLiteral a f ≡ some x → isUnassigned a x ≡ true
+unit-unassigned : (a : List ℕ) (f : List (List ℤ)) {x : ℤ} → unitLiteral a f ≡ some x → isUnassigned a x ≡ true
 unit-unassigned a f e = let r = unit-clause a f e in find-member (isUnassigned a) (r .0) (r .3) .1
 
-pub unit-within : (n : ℕ) (a : List ℕ) (f : List (List ℤ)) → fits n f ≡ true → {x : ℤ} → unitLiteral a f ≡ some x → (0 < variable x) × (variable x ≤ n)
+unit-within : (n : ℕ) (a : List ℕ) (f : List (List ℤ)) → fits n f ≡ true → {x : ℤ} → unitLiteral a f ≡ some x → (0 < variable x) × (variable x ≤ n)
 unit-within n a f h e = let r = unit-clause a f e in fits-at n f h (r .1) (find-member (isUnassigned a) (r .0) (r .3) .0)
 
 pub unit-forced : {b a : List ℕ} → Extends b a → (f : List (List ℤ)) → models b f ≡ true → {x : ℤ} → unitLiteral a f ≡ some x → holds b x ≡ true
@@ -123,7 +123,7 @@ module _ (n : ℕ) (f : List (List ℤ)) (fit : fits n f ≡ true) where
   propagate-quiet {a} h = quiet-from (unassigned a) h (omega arith)
 
   -- one round
-  pub propagate-round : {a : List ℕ} → State n a → {x : ℤ} → unitLiteral a f ≡ some x → propagate f a ≡ propagate f (satisfy a x)
+  propagate-round : {a : List ℕ} → State n a → {x : ℤ} → unitLiteral a f ≡ some x → propagate f a ≡ propagate f (satisfy a x)
   propagate-round {a} h {x} e = rw (← round-fewer h e, e)
 
   -- it never unassigns a variable

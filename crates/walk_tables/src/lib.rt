@@ -33,6 +33,27 @@ pub fn no_trail() -> [u16; 640]
     [0; 640]
 }
 
+// Of the arrangement: where each part ends.
+pub fn no_ends() -> [u16; 1282]
+    ensures { λ r. ⌜ length r ≡ 1282 ⌝ }
+{
+    [0; 1282]
+}
+
+// Of the arrangement: a number for each element of a rule list.
+pub fn no_numbers() -> [u16; 40000]
+    ensures { λ r. ⌜ length r ≡ 40000 ⌝ }
+{
+    [0; 40000]
+}
+
+// Of the arrangement: where each clause begins.
+pub fn no_begins() -> [u16; 9000]
+    ensures { λ r. ⌜ length r ≡ 9000 ⌝ }
+{
+    [0; 9000]
+}
+
 // Copies values to the front of a list of bytes.
 pub fn copy_to(values: &[u8], choice: &mut [u8])
     requires { ⌜ length (now values) ≤ length (now choice) ⌝ }

@@ -13,10 +13,10 @@ use Rattle.clause_standing.proofs.read_clause.Statement.{statement}
 use Rattle.clause_standing.proofs.read_clause.Tie as tie
 
 abbrev Inv-loop : tie.InvT-loop
-Inv-loop list from assignment count₀ last₀ i₀ count last i = Reads assignment list from i count last
+Inv-loop list from assignment count₀ i₀ count i = Reads assignment list from i count
 
 abbrev μ-loop : tie.MeasureT-loop
-μ-loop list from assignment count₀ last₀ i₀ count last i = length list - i
+μ-loop list from assignment count₀ i₀ count i = length list - i
 
 -- Points of the program: the entry; the loop's head; the number there tested for the closing 0; the literal tested for holding; and for being unassigned.
 abbrev entry : tie.At-loop Inv-loop μ-loop → tie.Start Inv-loop μ-loop
@@ -54,7 +54,7 @@ returns c =
     let now = c .before in
     let top = head now in
     let args = entry top .args in
-    reads-closed (args .assignment .now) (args .list .now) (args .from) (top .loop .i) (top .loop .count) (top .loop .last) (top .loop .inv) (now .before .before .loop-test .taken) (sym (number now) ∙ c .if1 .taken)
+    reads-closed (args .assignment .now) (args .list .now) (args .from) (top .loop .i) (top .loop .count) (top .loop .inv) (now .before .before .loop-test .taken) (sym (number now) ∙ c .if1 .taken)
 
 mul-holds-in : tie.Need-mul-holds-in Inv-loop μ-loop
 mul-holds-in c = search needs
@@ -83,7 +83,7 @@ returns-2 c =
     let now = told tested in
     let top = head now in
     let args = entry top .args in
-    reads-satisfied (args .assignment .now) (args .list .now) (args .from) (top .loop .i) (top .loop .count) (top .loop .last) (top .loop .inv) (now .before .before .loop-test .taken) (sym (number now) ∙ tested .before .before .if1 .left)
+    reads-satisfied (args .assignment .now) (args .list .now) (args .from) (top .loop .i) (top .loop .count) (top .loop .inv) (now .before .before .loop-test .taken) (sym (number now) ∙ tested .before .before .if1 .left)
     (sym (held tested) ∙ c .before .if2 .taken) (c .clause-end .result) (c .clause-end .ensures)
 
 mul-is-unassigned : tie.Need-mul-is-unassigned Inv-loop μ-loop
@@ -124,15 +124,15 @@ loop-again c =
     let literal = sym (number now) ∙ tested .before .before .if1 .left in
     let fails = sym (held tested) ∙ last-test .before .before .if2 .left in
     ⊎-elim
-    (λ w. rw (w .1, w .2) (reads-unassigned a l (args .from) (top .loop .i) (top .loop .count) (top .loop .last) (top .loop .inv) inside literal fails (sym (free last-test) ∙ w .0 .taken)))
-    (λ w. rw (w .1, w .2) (reads-assigned a l (args .from) (top .loop .i) (top .loop .count) (top .loop .last) (top .loop .inv) inside literal fails (sym (free last-test) ∙ w .0 .left)))
+    (λ w. rw (w .1) (reads-unassigned a l (args .from) (top .loop .i) (top .loop .count) (top .loop .inv) inside literal fails (sym (free last-test) ∙ w .0 .taken)))
+    (λ w. rw (w .1) (reads-assigned a l (args .from) (top .loop .i) (top .loop .count) (top .loop .inv) inside literal fails (sym (free last-test) ∙ w .0 .left)))
     (c .if3 .came)
 
 returns-3 : tie.Need-returns-3 Inv-loop μ-loop
 returns-3 c =
     let top = c .before in
     let args = entry top .args in
-    reads-past (args .assignment .now) (args .list .now) (args .from) (top .loop .i) (top .loop .count) (top .loop .last) (top .loop .inv) (c .loop-test .left)
+    reads-past (args .assignment .now) (args .list .now) (args .from) (top .loop .i) (top .loop .count) (top .loop .inv) (c .loop-test .left)
 
 pub read-clause-spec : {M : Type 1} → statement M
 read-clause-spec =

@@ -18,31 +18,31 @@ use Rattle.nearest_search.proofs.climb.Statement.{statement}
 use Rattle.nearest_search.proofs.climb.Tie as tie
 
 abbrev Inv-loop : tie.InvT-loop
-Inv-loop n rules row last choice₀ d₀ choice d = (d ≤ last) × (choice ≡ choice₀) × (nearestWalk n (clauses rules) row ≡ walks n (clauses rules) row (last - d) d)
+Inv-loop n rules ends numbers begins row last choice₀ d₀ choice d = (d ≤ last) × (choice ≡ choice₀) × (nearestWalk n (clauses rules) row ≡ walks n (clauses rules) row (last - d) d)
 
 abbrev μ-loop : tie.MeasureT-loop
-μ-loop n rules row last choice₀ d₀ choice d = last - d
+μ-loop n rules ends numbers begins row last choice₀ d₀ choice d = last - d
 
 -- Points of the program: the entry; the loop's head; after the walk of a turn; after the last walk.
 abbrev entry : tie.At-loop Inv-loop μ-loop → tie.Start Inv-loop μ-loop
-entry c = c .before .before .before
+entry c = c .before .before .before .before .before .before
 
-abbrev head : tie.After-walk-into Inv-loop μ-loop → tie.At-loop Inv-loop μ-loop
+abbrev head : tie.After-walk-with Inv-loop μ-loop → tie.At-loop Inv-loop μ-loop
 head c = c .before .before .before
 
-abbrev past : tie.After-walk-into2 Inv-loop μ-loop → tie.At-loop Inv-loop μ-loop
+abbrev past : tie.After-walk-with2 Inv-loop μ-loop → tie.At-loop Inv-loop μ-loop
 past c = c .before .before .before
 
 loop-holds : tie.Need-loop-holds Inv-loop μ-loop
 loop-holds c =
-    let g = c .before .before in
+    let g = c .before .before .before .before .before in
     (zero-le, refl, climb-start (g .args .n) (clauses (g .args .rules .now)) (g .args .row .now) (g .args .last) (g .pre .1))
 
-walk-into-requires : tie.Need-walk-into-requires Inv-loop μ-loop
-walk-into-requires c κs =
+walk-with-requires : tie.Need-walk-with-requires Inv-loop μ-loop
+walk-with-requires c κs =
     let top = c .before .before in
     let g = entry top in
-    subst (λ (l : List ℕ). Startable (g .args .n) (g .args .rules .now) (length l)) (sym (top .loop .inv .1)) (g .pre .0)
+    (subst (λ (l : List ℕ). Startable (g .args .n) (g .args .rules .now) (length l)) (sym (top .loop .inv .1)) (g .pre .0), g .pre .2)
 
 enum-known-broken : tie.Need-enum-known-broken Inv-loop μ-loop
 enum-known-broken c = search needs
@@ -50,7 +50,7 @@ enum-known-broken c = search needs
 same-length : tie.Need-same-length Inv-loop μ-loop
 same-length c =
     let walked = c .before .before .before .before .before in
-    walked .walk-into .kept .1 .1 .1 .1 .0 ∙ ap length (head walked .loop .inv .1)
+    walked .walk-with .kept .1 .1 .1 .1 .1 .1 .1 .0 ∙ ap length (head walked .loop .inv .1)
 
 returns : tie.Need-returns Inv-loop μ-loop
 returns c =
@@ -58,7 +58,7 @@ returns c =
     let args = entry (head walked) .args in
     let f = clauses (args .rules .now) in
     let at = head walked .loop in
-    let call = walked .walk-into in
+    let call = walked .walk-with in
     let answered : some (c .before .broken .given .0 .0) ≡ brokenBy (walk (args .n) f (args .row .now) (at .d) .answer) = ap brokenIn (sym (c .before .broken .given .1)) ∙ call .ensures .answered in
     let same = climb-found (args .n) f (args .row .now) (args .last) (at .d) (at .inv .2) (walked .before .before .loop-test .taken) (c .before .broken .given .0 .0) answered in (
       ap searchedOf (answered ∙ ap brokenBy (sym same)),
@@ -80,19 +80,19 @@ loop-again c =
     let args = entry (head walked) .args in
     let f = clauses (args .rules .now) in
     let at = head walked .loop in
-    let call = walked .walk-into in
+    let call = walked .walk-with in
     let below = walked .before .before .loop-test .taken in
     let answered : none ≡ brokenBy (walk (args .n) f (args .row .now) (at .d) .answer) = ap brokenIn (sym (c .enum-told .given .1)) ∙ call .ensures .answered in (
       omega (arith, below),
-      left-alone (walk (args .n) f (args .row .now) (at .d) .answer) (args .n) (at .choice) (call .last .1 .1 .1 .1 .0) answered (call .ensures .output) ∙ at .inv .1,
+      left-alone (walk (args .n) f (args .row .now) (at .d) .answer) (args .n) (at .choice) (call .last .1 .1 .1 .1 .1 .1 .1 .0) answered (call .ensures .output) ∙ at .inv .1,
       climb-on (args .n) f (args .row .now) (args .last) (at .d) (at .inv .2) below answered,
     )
 
-walk-into-requires-2 : tie.Need-walk-into-requires-2 Inv-loop μ-loop
-walk-into-requires-2 c κs =
+walk-with-requires-2 : tie.Need-walk-with-requires-2 Inv-loop μ-loop
+walk-with-requires-2 c κs =
     let top = c .before .before in
     let g = entry top in
-    subst (λ (l : List ℕ). Startable (g .args .n) (g .args .rules .now) (length l)) (sym (top .loop .inv .1)) (g .pre .0)
+    (subst (λ (l : List ℕ). Startable (g .args .n) (g .args .rules .now) (length l)) (sym (top .loop .inv .1)) (g .pre .0), g .pre .2)
 
 answer-of-requires : tie.Need-answer-of-requires Inv-loop μ-loop
 answer-of-requires c κs = search needs
@@ -100,7 +100,7 @@ answer-of-requires c κs = search needs
 same-length-2 : tie.Need-same-length-2 Inv-loop μ-loop
 same-length-2 c =
     let walked = c .before .before .before in
-    walked .walk-into2 .kept .1 .1 .1 .1 .0 ∙ ap length (past walked .loop .inv .1)
+    walked .walk-with2 .kept .1 .1 .1 .1 .1 .1 .1 .0 ∙ ap length (past walked .loop .inv .1)
 
 returns-2 : tie.Need-returns-2 Inv-loop μ-loop
 returns-2 c =
@@ -108,7 +108,7 @@ returns-2 c =
     let args = entry (past walked) .args in
     let f = clauses (args .rules .now) in
     let at = past walked .loop in
-    let call = walked .walk-into2 in
+    let call = walked .walk-with2 in
     let same = climb-last (args .n) f (args .row .now) (args .last) (at .d) (at .inv .2) (walked .before .before .loop-test .left) in (
       c .answer-of .ensures ∙ ap searchedOf (call .ensures .answered ∙ ap brokenBy (sym same)),
       call .ensures .output ∙ ap₂ (λ (o : Option Answer) (l : List ℕ). choiceAfter none o (args .n) l) (sym same) (at .inv .1),
@@ -121,7 +121,7 @@ climb-spec =
     Inv-loop
     μ-loop
     loop-holds
-    walk-into-requires
+    walk-with-requires
     enum-known-broken
     same-length
     returns
@@ -129,7 +129,7 @@ climb-spec =
     add-d
     loop-less
     loop-again
-    walk-into-requires-2
+    walk-with-requires-2
     answer-of-requires
     same-length-2
     returns-2)

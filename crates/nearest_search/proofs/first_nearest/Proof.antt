@@ -1,105 +1,133 @@
--- `nearest_search::first_nearest` meets its contract: the climb finds the count, and the first choice within it is the first nearest.
-use mathlib.Core.Path.{_≡_, refl, sym, ap, _∙_}
-use mathlib.Core.Logic.{⊎-elim}
-use mathlib.Core.List.{List, [], _∷_}
-use mathlib.Core.Option.{Option, none, some}
-use Prim.Native.Nat.{ℕ}
+-- `nearest_search::first_nearest` meets its contract: the arrangement is made in its own space.
+use mathlib.Core.Path.{_≡_, sym, ap, subst, _∙_}
+use mathlib.Core.List.{List, _++_}
+use Prim.Native.Nat.{ℕ, _+_, _*_}
 use native.Mathlib.Omega.{arith}
-use denote.Enum.Declared.{tagOf}
-use types.Run.{OneOf}
+use lib.ListN.{length, take, drop, length-append}
+use lib.Seq.{length-take-le, take-at}
 use borrow.Author.Needs.{needs}
-use Rattle.formula.specs.Formula.{clauses}
-use Rattle.searches.proofs.Searched.{the-type}
-use Rattle.searches.specs.declared.Searched.{Searched}
-use Rattle.searches.specs.declared.Searched.the-variants.{Found}
-use Rattle.searches.specs.Answers.{searchedOf}
-use Rattle.searches.specs.Searches.{brokenBy}
-use Rattle.walk.specs.Nearest.{nearestWalk}
-use Rattle.nearest_search.specs.First.{counted, same-count, none-written, found-model, first-written}
+use Rattle.occurrences.specs.KeyLaws.{list-short}
+use Rattle.soundness.specs.Soundness.{sound}
+use Rattle.occurrences.specs.Table.{Beside}
 use Rattle.nearest_search.proofs.first_nearest.Statement.{statement}
 use Rattle.nearest_search.proofs.first_nearest.Tie as tie
 
--- an answer with another tag than that of `Found` is not found
-unfound : (s : Searched) (o : Option ℕ) → s ≡ searchedOf o → OneOf (0 ∷ 2 ∷ []) (tagOf the-type s) → none ≡ o
-unfound s none e k = refl
-unfound s (some b) e k =
-    let one : tagOf the-type s ≡ 1 = ap (tagOf the-type) e in
-    absurd (⊎-elim (λ (z : tagOf the-type s ≡ 0). omega (arith, z, one)) (λ (z : tagOf the-type s ≡ 2). omega (arith, z, one)) k)
-
--- after the climb: the call
-module _ (c : tie.After-climb) where
+-- the space is there: what is lent of the ends for n variables is as long as it should be
+module _ (c : tie.After-no-begins) where
   abbrev call : tie.Start
-  call = c .before .before .before .before
+  call = c .before .before .before .before .before
 
-  abbrev after : List ℕ
-  after = c .climb .last .1 .1 .1 .1 .0
+  abbrev literals : ℕ
+  literals = 2 * call .args .n + 2
 
--- it found k
-module _ (c : tie.After-known-told) where
-  abbrev from : tie.After-climb
-  from = c .before .before .before .before .before
+  abbrev ends-space : List ℕ
+  ends-space = c .before .before .no-ends .result
 
-  abbrev k : ℕ
-  k = c .before .answer .given .0 .0
+  ends-long : length (take literals ends-space) ≡ literals
+  ends-long = length-take-le literals ends-space (omega (arith, call .pre .0 .few, c .before .before .no-ends .ensures))
 
-  found : some k ≡ brokenBy (nearestWalk (call from .args .n) (clauses (call from .args .rules .now)) (call from .args .row .now))
-  found =
-      counted (Found k) (brokenBy (nearestWalk (call from .args .n) (clauses (call from .args .rules .now)) (call from .args .row .now)))
-      (sym (c .before .answer .given .1) ∙ from .climb .ensures .0)
+-- after the clauses are arranged
+module _ (c : tie.After-arrange) where
+  abbrev space : tie.After-no-begins
+  space = c .before .before .before .before
 
-climb-requires : tie.Need-climb-requires
-climb-requires c κs = search needs
+  abbrev ends : List ℕ
+  ends = c .arrange .last .1 .1 .0
 
-enum-known-answer : tie.Need-enum-known-answer
-enum-known-answer c = search needs
+  made-long : length ends ≡ literals space
+  made-long = c .arrange .kept .1 .1 .0 ∙ ends-long space
 
-make-first-requires : tie.Need-make-first-requires
-make-first-requires c κs =
-    let climbed = from (c .before) in
-    let args = call climbed .args in
-    let given = call climbed .pre .0 in (
-      (given .few, given .sound, omega (arith, given .wide, climbed .climb .kept .1 .1 .1 .1 .0)),
-      found-model (args .n) (args .rules .now) (given .sound) (args .row .now) (args .choice .now) (after climbed) (climbed .climb .ensures .1) (k (c .before)) (found (c .before)),
+  front : take (literals space) (ends ++ drop (literals space) (ends-space space)) ≡ ends
+  front = take-at ends (drop (literals space) (ends-space space)) (literals space) made-long
+
+no-ends-requires : tie.Need-no-ends-requires
+no-ends-requires c κs = search needs
+
+no-numbers-requires : tie.Need-no-numbers-requires
+no-numbers-requires c κs = search needs
+
+no-begins-requires : tie.Need-no-begins-requires
+no-begins-requires c κs = search needs
+
+mul-literals : tie.Need-mul-literals
+mul-literals c = search needs
+
+add-literals : tie.Need-add-literals
+add-literals c = search needs
+
+array-borrow-prefix-ends : tie.Need-array-borrow-prefix-ends
+array-borrow-prefix-ends c = search needs
+
+slice-aggregate-arrange : tie.Need-slice-aggregate-arrange
+slice-aggregate-arrange c = sym (ends-long (c .before))
+
+slice-aggregate-arrange-2 : tie.Need-slice-aggregate-arrange-2
+slice-aggregate-arrange-2 c = search needs
+
+slice-aggregate-arrange-3 : tie.Need-slice-aggregate-arrange-3
+slice-aggregate-arrange-3 c = search needs
+
+arrange-requires : tie.Need-arrange-requires
+arrange-requires c κs =
+    let space = c .before .before .before in
+    let given = call space in (
+      (given .pre .0 .sound, ends-long space),
+      (
+        omega (arith, list-short (given .args .n) (given .args .rules .now) (given .pre .0 .sound), space .before .no-numbers .ensures),
+        omega (arith, sound (given .args .n) (given .args .rules .now) (given .pre .0 .sound) .few, space .no-begins .ensures),
+      ),
+    )
+
+array-share-prefix-ends : tie.Need-array-share-prefix-ends
+array-share-prefix-ends c =
+    let arranged = c .before .before .before in
+    omega (arith, length-append (ends arranged) (drop (literals (space arranged)) (ends-space (space arranged))), made-long arranged)
+
+slice-aggregate-nearest-with : tie.Need-slice-aggregate-nearest-with
+slice-aggregate-nearest-with c =
+    let arranged = c .before .before .before .before in
+    sym (ap length (front arranged) ∙ made-long arranged)
+
+slice-aggregate-nearest-with-2 : tie.Need-slice-aggregate-nearest-with-2
+slice-aggregate-nearest-with-2 c = search needs
+
+slice-aggregate-nearest-with-3 : tie.Need-slice-aggregate-nearest-with-3
+slice-aggregate-nearest-with-3 c = search needs
+
+nearest-with-requires : tie.Need-nearest-with-requires
+nearest-with-requires c κs =
+    let arranged = c .before .before .before .before .before .before .before in
+    let given = call (space arranged) in (
+      given .pre .0,
+      given .pre .1,
+      subst (λ (l : List ℕ). Beside (given .args .n) (given .args .rules .now) l (arranged .arrange .last .1 .1 .1 .0) (arranged .arrange .last .1 .1 .1 .1 .0)) (sym (front arranged))
+          (record { arranged = arranged .arrange .ensures; wide = omega (arith, made-long arranged) }),
     )
 
 same-length : tie.Need-same-length
 same-length c = search needs
 
 returns : tie.Need-returns
-returns c =
-    let made = c .before .before in
-    let known = made .before .before in
-    let climbed = from known in
-    let args = call climbed .args in
-    let sound = call climbed .pre .0 .sound in (
-      sym (known .before .answer .given .1) ∙ climbed .climb .ensures .0 ∙ ap searchedOf (same-count (args .n) (args .rules .now) sound (args .row .now)),
-      first-written (args .n) (args .rules .now) sound (args .row .now) (args .choice .now) (after climbed) (climbed .climb .ensures .1) (k known) (found known) (made .make-first .last .1 .1 .1 .1 .0)
-          (made .make-first .ensures),
-    )
-
-same-length-2 : tie.Need-same-length-2
-same-length-2 c = search needs
-
--- it found none
-returns-2 : tie.Need-returns-2
-returns-2 c =
-    let climbed = c .before .before .before in
-    let args = call climbed .args in
-    let sound = call climbed .pre .0 .sound in
-    let told = climbed .climb .ensures in
-    let walks = brokenBy (nearestWalk (args .n) (clauses (args .rules .now)) (args .row .now)) in (
-      told .0 ∙ ap searchedOf (same-count (args .n) (args .rules .now) sound (args .row .now)),
-      none-written (args .n) (args .rules .now) sound (args .row .now) (args .choice .now) (after climbed) (told .1) (unfound (climbed .climb .result) walks (told .0) (c .match .keys2)),
-    )
+returns c = search needs
 
 pub first-nearest-spec : {M : Type 1} → statement M
 first-nearest-spec =
     tie.close
     (tie.spec
-    climb-requires
-    enum-known-answer
-    make-first-requires
+    no-ends-requires
+    no-numbers-requires
+    no-begins-requires
+    mul-literals
+    add-literals
+    array-borrow-prefix-ends
+    slice-aggregate-arrange
+    slice-aggregate-arrange-2
+    slice-aggregate-arrange-3
+    arrange-requires
+    array-share-prefix-ends
+    slice-aggregate-nearest-with
+    slice-aggregate-nearest-with-2
+    slice-aggregate-nearest-with-3
+    nearest-with-requires
     same-length
-    returns
-    same-length-2
-    returns-2)
+    returns)

@@ -1,4 +1,4 @@
--- `tally::assigned` meets its contract: a walk of its MIR, by hand. The struct is copied into a local, the local is lent by `&mut` to `assign` for a lifetime that is made for the call, and comes back at the struct's last value, which is returned. The two slices are passed on at their own lifetimes, and given up for good.
+-- `tally::assigned` meets its contract: a walk of its MIR, by hand. The struct is copied into a local, the local is lent by `&mut` to `assign` for a lifetime that is made for the call, and comes back at the struct's last value, which is returned. The slice is passed on at its own lifetime, and given up for good.
 -- All that the proof knows of `assign` is that it meets its contract.
 -- Assumes nothing.
 use mathlib.Core.Path.{_≡_, refl, sym, ap, subst}
@@ -30,7 +30,7 @@ use denote.Laws.{Is, shows}
 use denote.Lend.{lends-ref, ref-back}
 use denote.Memory.{mem, partAt}
 use denote.Plain.{Nothing, uint-vals, uint-tells, uint-makes}
-use denote.Builtin.{u8, u16, usize}
+use denote.Builtin.{u8, usize}
 use denote.Ref.{RefT, MutRef}
 use denote.Signature.{plain}
 use denote.Slice.{sliceVal, MutSlice, Room, finally, slice-vals, mut-slice-tells}
@@ -57,39 +57,33 @@ use Rattle.tally.proofs.assigned as assigned
 use Rattle.tally.proofs.assigned.Statement as stated
 use Rattle.tally.proofs.assigned.Code as code
 
--- what the function still has of its parameters at exit: what is said of the two slices' last lists, and nothing of the struct and the numbers
+-- what the function still has of its parameters at exit: what is said of the slice's last list, and nothing of the struct and the numbers
 abbrev stayed : Stays (assigned.ended .signature .params) (assigned.ended .kept)
-stayed = (stay-none (λ _. T.the-row) yes, (stay-none (λ _. usize) yes, (stay-none (λ _. u8) yes, (stay-none (λ _. usize) yes, (gave-slice (0 ∷ []) tt (plain (λ _. u8)), (gave-slice (1 ∷ []) tt (plain (λ _. u16)), tt))))))
+stayed = (stay-none (λ _. T.the-row) yes, (stay-none (λ _. usize) yes, (stay-none (λ _. u8) yes, (stay-none (λ _. usize) yes, (gave-slice (0 ∷ []) tt (plain (λ _. u8)), tt)))))
 
 -- the contract that the proof cites
 abbrev Assign : {M : Type 1} (𝓤 : URA M) (H : Heap 𝓤) (A : Atoms 𝓤) (mem : Memory → SProp 𝓤) (run : Routine → Fun 𝓤) → Contract 𝓤
 Assign 𝓤 H A mem run = tripleOf 𝓤 H A assign.signature (assign.spec 𝓤 H A mem run)
 
-module _ {M : Type 1} (𝓤 : URA M) (H : Heap 𝓤) (A : Atoms 𝓤) (W : Given 𝓤 H A) (at-mem : Memory → SProp 𝓤) (run : Routine → Fun 𝓤) (κ₁ κ₂ : Lft) (q₁ q₂ : Share)
-    (h : Tally) (i v n : ℕ) (b₁ o₁ : ℕ) (γ₁ : GName) (ys : List ℕ) (b₂ o₂ : ℕ) (γ₂ : GName) (ts : List ℕ)
-    (is-h : Is T.the-row h (T′.lowered h ∷ [])) (i-fits : i < 2 ^ 64) (v-fits : v < 2 ^ 8) (n-fits : n < 2 ^ 64) (room₁ : Room u8 (length ys)) (room₂ : Room u16 (length ts)) (ok : MayAssign i n ys ts h) where
-  -- the two slices and their machine values
-  abbrev x₁ : RefT (List ℕ)
-  x₁ = record { ptr = (b₁, o₁); name = γ₁; now = ys }
+module _ {M : Type 1} (𝓤 : URA M) (H : Heap 𝓤) (A : Atoms 𝓤) (W : Given 𝓤 H A) (at-mem : Memory → SProp 𝓤) (run : Routine → Fun 𝓤) (κ : Lft) (q : Share)
+    (h : Tally) (i v n : ℕ) (b o : ℕ) (γ : GName) (ys : List ℕ)
+    (is-h : Is T.the-row h (T′.lowered h ∷ [])) (i-fits : i < 2 ^ 64) (v-fits : v < 2 ^ 8) (n-fits : n < 2 ^ 64) (room : Room u8 (length ys)) (ok : MayAssign i n ys h) where
+  -- the slice and its machine value
+  abbrev xs : RefT (List ℕ)
+  xs = record { ptr = (b, o); name = γ; now = ys }
 
-  abbrev x₂ : RefT (List ℕ)
-  x₂ = record { ptr = (b₂, o₂); name = γ₂; now = ts }
-
-  abbrev s₁ : Val
-  s₁ = sliceVal (b₁, o₁) (length ys)
-
-  abbrev s₂ : Val
-  s₂ = sliceVal (b₂, o₂) (length ts)
+  abbrev s : Val
+  s = sliceVal (b, o) (length ys)
 
   -- the arguments and their machine values
-  abbrev a : Tally × (ℕ × (ℕ × (ℕ × (RefT (List ℕ) × (RefT (List ℕ) × Unit {0})))))
-  a = (h, (i, (v, (n, (x₁, (x₂, tt))))))
+  abbrev a : Tally × (ℕ × (ℕ × (ℕ × (RefT (List ℕ) × Unit {0}))))
+  a = (h, (i, (v, (n, (xs, tt)))))
 
-  abbrev at : List Val × (List Val × (List Val × (List Val × (List Val × (List Val × Unit {0})))))
-  at = (T′.lowered h ∷ [], (vint w64 i ∷ [], (vint w8 v ∷ [], (vint w64 n ∷ [], (s₁ ∷ [], (s₂ ∷ [], tt))))))
+  abbrev at : List Val × (List Val × (List Val × (List Val × (List Val × Unit {0}))))
+  at = (T′.lowered h ∷ [], (vint w64 i ∷ [], (vint w8 v ∷ [], (vint w64 n ∷ [], (s ∷ [], tt)))))
 
   abbrev vals : List Val
-  vals = T′.lowered h ∷ vint w64 i ∷ vint w8 v ∷ vint w64 n ∷ s₁ ∷ s₂ ∷ []
+  vals = T′.lowered h ∷ vint w64 i ∷ vint w8 v ∷ vint w64 n ∷ s ∷ []
 
   -- the local at l, lent for the lifetime α under the name δ: the reference, what it owns, and the lender's part
   abbrev x : ℕ → GName → RefT Tally
@@ -101,115 +95,112 @@ module _ {M : Type 1} (𝓤 : URA M) (H : Heap 𝓤) (A : Atoms 𝓤) (W : Given
   abbrev lent-at : ℕ → ℕ → GName → Fml
   lent-at l α δ = flent (α ∷ []) (Body (mem T.the-row) l 0 δ)
 
-  -- what `assign` says of the last values of the struct, the assignment and the trail
-  abbrev Told : Tally → List ℕ → List ℕ → Type 0
-  Told t zs us = HasAssigned i v n ys ts h zs us t
+  -- what `assign` says of the last values of the struct and the assignment
+  abbrev Told : Tally → List ℕ → Type 0
+  Told t zs = HasAssigned i v n ys h zs t
 
   abbrev Post : Val → SProp 𝓤
-  Post = walkOf 𝓤 H A assigned.ended stayed (assigned.clauses 𝓤 H A at-mem run) .post (((κ₁, (κ₂, tt)), (q₁, (q₂, tt)), tt, a, at), tt)
+  Post = walkOf 𝓤 H A assigned.ended stayed (assigned.clauses 𝓤 H A at-mem run) .post (((κ, tt), (q, tt), tt, a, at), tt)
 
   -- what `assign`'s triple binds outside, and that the caller has what it asks
-  abbrev args : ℕ → GName → RefT Tally × (ℕ × (ℕ × (ℕ × (RefT (List ℕ) × (RefT (List ℕ) × Unit {0})))))
-  args l δ = (x l δ, (i, (v, (n, (x₁, (x₂, tt))))))
+  abbrev args : ℕ → GName → RefT Tally × (ℕ × (ℕ × (ℕ × (RefT (List ℕ) × Unit {0}))))
+  args l δ = (x l δ, (i, (v, (n, (xs, tt)))))
 
-  abbrev args-at : ℕ → List Val × (List Val × (List Val × (List Val × (List Val × (List Val × Unit {0})))))
-  args-at l = (vptr l 0 ∷ [], (vint w64 i ∷ [], (vint w8 v ∷ [], (vint w64 n ∷ [], (s₁ ∷ [], (s₂ ∷ [], tt))))))
+  abbrev args-at : ℕ → List Val × (List Val × (List Val × (List Val × (List Val × Unit {0}))))
+  args-at l = (vptr l 0 ∷ [], (vint w64 i ∷ [], (vint w8 v ∷ [], (vint w64 n ∷ [], (s ∷ [], tt)))))
 
   abbrev to-assign : ℕ → ℕ → GName → Assign 𝓤 H A at-mem run .Ghost
-  to-assign l α δ = (((α ∷ [], (κ₁, (κ₂, tt))), (fullShare, (q₁, (q₂, tt))), tt, args l δ, args-at l), tt)
+  to-assign l α δ = (((α ∷ [], (κ, tt)), (fullShare, (q, tt)), tt, args l δ, args-at l), tt)
 
   abbrev owns-at : ℕ → ℕ → GName → Fml
-  owns-at l α δ = owns (MutRef (named 0) (α ∷ []) T.the-row ∷ usize ∷ u8 ∷ usize ∷ MutSlice (named 1) κ₁ u8 ∷ MutSlice (named 2) κ₂ u16 ∷ []) (args l δ) (args-at l)
+  owns-at l α δ = owns (MutRef (named 0) (α ∷ []) T.the-row ∷ usize ∷ u8 ∷ usize ∷ MutSlice (named 1) κ u8 ∷ []) (args l δ) (args-at l)
 
-  goes : (l α : ℕ) (δ : GName) → ent 𝓤 (sep 𝓤 (sep 𝓤 (A .lft (α ∷ []) fullShare) (sep 𝓤 (A .lft κ₁ q₁) (sep 𝓤 (A .lft κ₂ q₂) (sem 𝓤 H A ftrue)))) (sem 𝓤 H A (owns-at l α δ))) (Assign 𝓤 H A at-mem run .pre (to-assign l α δ))
-  goes l α δ = qed W ((‵ (flft (α ∷ []) fullShare) ⊛ ‵ (flft κ₁ q₁) ⊛ ‵ (flft κ₂ q₂) ⊛ ‵ ftrue) ∷ ‵ (owns-at l α δ) ∷ []) ∵ says ! ok $ frame ! $ done !
+  goes : (l α : ℕ) (δ : GName) → ent 𝓤 (sep 𝓤 (sep 𝓤 (A .lft (α ∷ []) fullShare) (sep 𝓤 (A .lft κ q) (sem 𝓤 H A ftrue))) (sem 𝓤 H A (owns-at l α δ))) (Assign 𝓤 H A at-mem run .pre (to-assign l α δ))
+  goes l α δ = qed W ((‵ (flft (α ∷ []) fullShare) ⊛ ‵ (flft κ q) ⊛ ‵ ftrue) ∷ ‵ (owns-at l α δ) ∷ []) ∵ says ! ok $ frame ! $ done !
 
-  -- the exit: the `ensures` at the last values, the tokens, what is said of the slices, and what the result, the struct and the numbers own
-  exits : (t : Tally) (w : Val) (zs us : List ℕ) → Told t zs us → length zs ≡ length ys → length us ≡ length ts
-      → ent 𝓤 (⋆ 𝓤 H A (‵ (T.the-row .own t (w ∷ [])) ∷ (‵ (flft κ₁ q₁) ⊛ ‵ (flft κ₂ q₂) ⊛ ‵ ftrue) ∷ ‵ (finally u16 γ₂ us) ∷ ‵ (finally u8 γ₁ zs) ∷ [])) (Post w)
-  exits t w zs us e l₁ l₂ =
-      qed W (‵ (T.the-row .own t (w ∷ [])) ∷ (‵ (flft κ₁ q₁) ⊛ ‵ (flft κ₂ q₂) ⊛ ‵ ftrue) ∷ ‵ (finally u16 γ₂ us) ∷ ‵ (finally u8 γ₁ zs) ∷ []) ∵
-      suffices ! _ (ends-at 𝓤 H A assigned.ended stayed (assigned.clauses 𝓤 H A at-mem run) W (((κ₁, (κ₂, tt)), (q₁, (q₂, tt)), tt, a, at), tt) w t (tt, (tt, (tt, (tt, (zs, (us, tt)))))) (tt, (tt, (tt, (tt, (l₁, (l₂, tt))))))) $ says ! e $
-      move ! (1 ∷ []) $ frame ! $ nothing ! $ move ! (2 ∷ 0 ∷ []) $ fjoin ! $ move ! (2 ∷ 0 ∷ []) $ fjoin ! $
+  -- the exit: the `ensures` at the last values, the token, what is said of the slice, and what the result, the struct and the numbers own
+  exits : (t : Tally) (w : Val) (zs : List ℕ) → Told t zs → length zs ≡ length ys
+      → ent 𝓤 (⋆ 𝓤 H A (‵ (T.the-row .own t (w ∷ [])) ∷ (‵ (flft κ q) ⊛ ‵ ftrue) ∷ ‵ (finally u8 γ zs) ∷ [])) (Post w)
+  exits t w zs e k =
+      qed W (‵ (T.the-row .own t (w ∷ [])) ∷ (‵ (flft κ q) ⊛ ‵ ftrue) ∷ ‵ (finally u8 γ zs) ∷ []) ∵
+      suffices ! _ (ends-at 𝓤 H A assigned.ended stayed (assigned.clauses 𝓤 H A at-mem run) W (((κ, tt), (q, tt), tt, a, at), tt) w t (tt, (tt, (tt, (tt, (zs, tt))))) (tt, (tt, (tt, (tt, (k, tt)))))) $ says ! e $
+      move ! (1 ∷ []) $ frame ! $ nothing ! $ move ! (2 ∷ 0 ∷ []) $ fjoin ! $
       owned ! usize (Is usize) (uint-makes 𝓤 H A W w64) n _ (refl, n-fits) $ fjoin ! $ owned ! u8 (Is u8) (uint-makes 𝓤 H A W w8) v _ (refl, v-fits) $ fjoin ! $ owned ! usize (Is usize) (uint-makes 𝓤 H A W w64) i _ (refl, i-fits) $ fjoin ! $
       owned ! T.the-row (Is T.the-row) (LL.makes T.the-type T′.the-plain 𝓤 H A) h _ is-h $ fjoin ! $ done !
 
   module _ (C : Calls 𝓤 H) (Λ : Loops 𝓤 H) (fm : FmC 𝓤 H (W .laws) C) (known : Triple 𝓤 (C #tally·assign) (Assign 𝓤 H A at-mem run)) where
-    walk : ent 𝓤 (onEntry 𝓤 H A assigned.signature (κ₁, (κ₂, tt)) (q₁, (q₂, tt)) a at) (WpFn 𝓤 H C Λ code.function vals Post)
+    walk : ent 𝓤 (onEntry 𝓤 H A assigned.signature (κ, tt) (q, tt) a at) (WpFn 𝓤 H C Λ code.function vals Post)
     walk =
-        -- the fourteen locals are made, and the six parameters are passed into theirs
-        qed W ((‵ (flft κ₁ q₁) ⊛ ‵ (flft κ₂ q₂) ⊛ ‵ ftrue) ∷ ‵ (owns (T.the-row ∷ usize ∷ u8 ∷ usize ∷ MutSlice (named 0) κ₁ u8 ∷ MutSlice (named 1) κ₂ u16 ∷ []) a at) ∷ []) ∵ enter ! C Λ code.function vals _ $
-        alloc1 ! (λ l₀. alloc1 ! (λ l₁. alloc1 ! (λ l₂. alloc1 ! (λ l₃. alloc1 ! (λ l₄. alloc1 ! (λ l₅. alloc1 ! (λ l₆. alloc1 ! (λ l₇. alloc1 ! (λ l₈. alloc1 ! (λ l₉. alloc1 ! (λ l₁₀. alloc1 ! (λ l₁₁. alloc1 ! (λ l₁₂. alloc1 ! (λ l₁₃. alloc0 ! $ params1 ! $
-        pass1 ! (init ! 24 refl (LL.lawful T.the-type T′.the-laws 𝓤 H A W .typed h _ is-h .0)) $ pass1 ! (init ! 22 refl (tt, record { fits = i-fits })) $ pass1 ! (init ! 20 refl (tt, record { fits = v-fits })) $ pass1 ! (init ! 18 refl (tt, record { fits = n-fits })) $
-        pass1 ! (init ! 16 refl (tt, (tt, (record { fits = room₁ .0 }, tt)))) $ pass1 ! (init ! 14 refl (tt, (tt, (record { fits = room₂ .0 }, tt)))) $ pass0 ! $
-        -- [_13; …; _12; …; _11; …; _10; …; _9; …; _8; …; _7; …; _6; …; _5; …; _4; …; _3; …; _2; …; _1; …; room for _0; …; the tokens; what the parameters own]
-        -- the struct is copied into _7 and its address put into _9; the two slices are lent on, in _11 and _13
-        assigns ! (of-opd ! (load ! (from ! (stop !)) (look ! 24 refl))) (from ! (stop !)) (init ! 12 refl (LL.lawful T.the-type T′.the-laws 𝓤 H A W .typed h _ is-h .0)) $
-        assigns ! (addr ! (from ! (stop !))) (from ! (stop !)) (init ! 8 refl (tt, tt)) $
-        assigns ! (addr ! (from ! (fld ! refl (hop ! (look-in ! 16 (sub ! 0 refl (whole !))) (stop !))))) (from ! (stop !)) (init ! 6 refl (tt, tt)) $
-        assigns ! (agg ! (and-then ! (load ! (from ! (stop !)) (look ! 6 refl)) (and-then ! (load ! (from ! (fld ! refl (stop !))) (look-in ! 16 (sub ! 1 refl (whole !)))) (no-more !)))) (from ! (stop !)) (init ! 4 refl (tt, (tt, (record { fits = room₁ .0 }, tt)))) $
-        assigns ! (addr ! (from ! (fld ! refl (hop ! (look-in ! 14 (sub ! 0 refl (whole !))) (stop !))))) (from ! (stop !)) (init ! 2 refl (tt, tt)) $
-        assigns ! (agg ! (and-then ! (load ! (from ! (stop !)) (look ! 2 refl)) (and-then ! (load ! (from ! (fld ! refl (stop !))) (look-in ! 14 (sub ! 1 refl (whole !)))) (no-more !)))) (from ! (stop !)) (init ! 0 refl (tt, (tt, (record { fits = room₂ .0 }, tt)))) $
+        -- the eleven locals are made, and the five parameters are passed into theirs
+        qed W ((‵ (flft κ q) ⊛ ‵ ftrue) ∷ ‵ (owns (T.the-row ∷ usize ∷ u8 ∷ usize ∷ MutSlice (named 0) κ u8 ∷ []) a at) ∷ []) ∵ enter ! C Λ code.function vals _ $
+        alloc1 ! (λ l₀. alloc1 ! (λ l₁. alloc1 ! (λ l₂. alloc1 ! (λ l₃. alloc1 ! (λ l₄. alloc1 ! (λ l₅. alloc1 ! (λ l₆. alloc1 ! (λ l₇. alloc1 ! (λ l₈. alloc1 ! (λ l₉. alloc1 ! (λ l₁₀. alloc0 ! $ params1 ! $
+        pass1 ! (init ! 18 refl (LL.lawful T.the-type T′.the-laws 𝓤 H A W .typed h _ is-h .0)) $ pass1 ! (init ! 16 refl (tt, record { fits = i-fits })) $ pass1 ! (init ! 14 refl (tt, record { fits = v-fits })) $ pass1 ! (init ! 12 refl (tt, record { fits = n-fits })) $
+        pass1 ! (init ! 10 refl (tt, (tt, (record { fits = room .0 }, tt)))) $ pass0 ! $
+        -- [_10; …; _9; …; _8; …; _7; …; _6; …; _5; …; _4; …; _3; …; _2; …; _1; …; room for _0; …; the token; what the parameters own]
+        -- the struct is copied into _6 and its address put into _8; the slice is lent on, in _10
+        assigns ! (of-opd ! (load ! (from ! (stop !)) (look ! 18 refl))) (from ! (stop !)) (init ! 8 refl (LL.lawful T.the-type T′.the-laws 𝓤 H A W .typed h _ is-h .0)) $
+        assigns ! (addr ! (from ! (stop !))) (from ! (stop !)) (init ! 4 refl (tt, tt)) $
+        assigns ! (addr ! (from ! (fld ! refl (hop ! (look-in ! 10 (sub ! 0 refl (whole !))) (stop !))))) (from ! (stop !)) (init ! 2 refl (tt, tt)) $
+        assigns ! (agg ! (and-then ! (load ! (from ! (stop !)) (look ! 2 refl)) (and-then ! (load ! (from ! (fld ! refl (stop !))) (look-in ! 10 (sub ! 1 refl (whole !)))) (no-more !)))) (from ! (stop !)) (init ! 0 refl (tt, (tt, (record { fits = room .0 }, tt)))) $
         -- what the parameters own is taken apart; what the struct and the numbers own is let go
-        move ! (29 ∷ []) $ fsplit ! $ drop ! $ fsplit ! $ drop ! $ fsplit ! $ drop ! $ fsplit ! $ drop ! $ fsplit ! $ move ! (1 ∷ []) $ fsplit ! $ move ! (1 ∷ []) $ drop ! $
-        -- [the trail's; the assignment's; _13; …]: _7's cell and what the struct owns are a Tally in memory, which is lent for a lifetime α of the call, under the name δ
-        move ! (14 ∷ []) $ owned ! T.the-row (Is T.the-row) (LL.makes T.the-type T′.the-plain 𝓤 H A) h _ is-h $ move ! (1 ∷ 0 ∷ []) $
-        use2 W (‵ (partAt T.the-row fullShare h l₇ 0)) (part-in 𝓤 H A W T.the-row refl fullShare h l₇ 0 (T′.lowered h)) $
+        move ! (23 ∷ []) $ fsplit ! $ drop ! $ fsplit ! $ drop ! $ fsplit ! $ drop ! $ fsplit ! $ drop ! $ fsplit ! $ move ! (1 ∷ []) $ drop ! $
+        -- [the assignment's; _10; …]: _6's cell and what the struct owns are a Tally in memory, which is lent for a lifetime α of the call, under the name δ
+        move ! (9 ∷ []) $ owned ! T.the-row (Is T.the-row) (LL.makes T.the-type T′.the-plain 𝓤 H A) h _ is-h $ move ! (1 ∷ 0 ∷ []) $
+        use2 W (‵ (partAt T.the-row fullShare h l₆ 0)) (part-in 𝓤 H A W T.the-row refl fullShare h l₆ 0 (T′.lowered h)) $
         lft-new ! tt (λ α. move ! (1 ∷ []) $
-        use1 W (later (some (λ (δ : GName). ‵ (own-at l₇ α δ) ⊛ ‵ (lent-at l₇ α δ)))) (lends-ref 𝓤 H A W T.the-row (named 0) (α ∷ []) h l₇ 0) $ await ! tt $ pick ! (λ δ. split ! $
-        -- [the reference; the lender's part; α's token; the trail's; the assignment's; _13; …]: what `assign` asks is put together
-        nothing ! $ move ! (4 ∷ 0 ∷ []) $ fjoin ! $ move ! (4 ∷ 0 ∷ []) $ fjoin ! $
+        use1 W (later (some (λ (δ : GName). ‵ (own-at l₆ α δ) ⊛ ‵ (lent-at l₆ α δ)))) (lends-ref 𝓤 H A W T.the-row (named 0) (α ∷ []) h l₆ 0) $ await ! tt $ pick ! (λ δ. split ! $
+        -- [the reference; the lender's part; α's token; the assignment's; _10; …]: what `assign` asks is put together
+        nothing ! $ move ! (4 ∷ 0 ∷ []) $ fjoin ! $
         owned ! usize (Is usize) (uint-makes 𝓤 H A W w64) n _ (refl, n-fits) $ fjoin ! $ owned ! u8 (Is u8) (uint-makes 𝓤 H A W w8) v _ (refl, v-fits) $ fjoin ! $ owned ! usize (Is usize) (uint-makes 𝓤 H A W w64) i _ (refl, i-fits) $ fjoin ! $
-        move ! (1 ∷ 0 ∷ []) $ fjoin ! $ move ! (2 ∷ 30 ∷ []) $ join ! $ use2 W (raw (Assign 𝓤 H A at-mem run .pre (to-assign l₇ α δ))) (goes l₇ α δ) $
-        -- [what `assign` asks; the lender's part; _13; …; _12; …; _11; …; _10; …; _9; …; room for _8; …; …; _6; …; _5; …; _4; …; _3; …; _2; …; _1; …; room for _0; …]
-        calls-at ! fm (Assign 𝓤 H A at-mem run) known (to-assign l₇ α δ) (and-then ! (load ! (from ! (stop !)) (look ! 10 refl)) (and-then ! (load ! (from ! (stop !)) (look ! 23 refl)) (and-then ! (load ! (from ! (stop !)) (look ! 21 refl)) (and-then ! (load ! (from ! (stop !)) (look ! 19 refl)) (and-then ! (load ! (from ! (stop !)) (look ! 6 refl)) (and-then ! (load ! (from ! (stop !)) (look ! 2 refl)) (no-more !))))))) (λ u.
-        use1 W (later (some (λ (r : Unit {0}). ((‵ (flft (α ∷ []) fullShare) ⊛ ‵ (flft κ₁ q₁) ⊛ ‵ (flft κ₂ q₂) ⊛ ‵ ftrue) ⊛ ‵ (Nothing .own r (u ∷ []))) ⊛ raw (ensured 𝓤 H A assign.ended (assign.clauses 𝓤 H A at-mem run) (α ∷ [], (κ₁, (κ₂, tt))) (args l₇ δ) tt r)))) (id⊢ 𝓤 _) $ await ! tt $ pick ! (λ r.
+        move ! (1 ∷ 0 ∷ []) $ fjoin ! $ move ! (2 ∷ 24 ∷ []) $ join ! $ use2 W (raw (Assign 𝓤 H A at-mem run .pre (to-assign l₆ α δ))) (goes l₆ α δ) $
+        -- [what `assign` asks; the lender's part; _10; …; _9; …; _8; …; room for _7; …; …; _5; …; _4; …; _3; …; _2; …; _1; …; room for _0; …]
+        calls-at ! fm (Assign 𝓤 H A at-mem run) known (to-assign l₆ α δ) (and-then ! (load ! (from ! (stop !)) (look ! 6 refl)) (and-then ! (load ! (from ! (stop !)) (look ! 17 refl)) (and-then ! (load ! (from ! (stop !)) (look ! 15 refl)) (and-then ! (load ! (from ! (stop !)) (look ! 13 refl)) (and-then ! (load ! (from ! (stop !)) (look ! 2 refl)) (no-more !)))))) (λ u.
+        use1 W (later (some (λ (r : Unit {0}). ((‵ (flft (α ∷ []) fullShare) ⊛ ‵ (flft κ q) ⊛ ‵ ftrue) ⊛ ‵ (Nothing .own r (u ∷ []))) ⊛ raw (ensured 𝓤 H A assign.ended (assign.clauses 𝓤 H A at-mem run) (α ∷ [], (κ, tt)) (args l₆ δ) tt r)))) (id⊢ 𝓤 _) $ await ! tt $ pick ! (λ r.
         -- what `assign` ensures, at some last values
-        split ! $ move ! (1 ∷ []) $ use1 W (some (λ (ws : Tally × (Unit {0} × (Unit {0} × (Unit {0} × (List ℕ × (List ℕ × Unit {0})))))). ‵ (lasts assign.ended (α ∷ [], (κ₁, (κ₂, tt))) (args l₇ δ) ws) ⊛ raw (fact 𝓤 (Told (ws .0) (ws .1 .1 .1 .1 .0) (ws .1 .1 .1 .1 .1 .0))))) (id⊢ 𝓤 _) $ pick ! (λ ws.
-        split ! $ move ! (1 ∷ []) $ heard ! (Told (ws .0) (ws .1 .1 .1 .1 .0) (ws .1 .1 .1 .1 .1 .0)) (λ e.
-        fsplit ! $ move ! (1 ∷ []) $ fsplit ! $ drop ! $ fsplit ! $ drop ! $ fsplit ! $ drop ! $ fsplit ! $ fsplit ! $ move ! (1 ∷ []) $ feqL ! (λ k₁. move ! (1 ∷ []) $ fsplit ! $ fsplit ! $ move ! (1 ∷ []) $ feqL ! (λ k₂. move ! (1 ∷ []) $ drop ! $
-        -- [the last trail; the last assignment; the struct's last value; the tokens and the result; the lender's part; _13; …]: the result, which is (), goes into _8
-        move ! (3 ∷ []) $ split ! $ move ! (1 ∷ []) $ feqL ! (λ y.
-        land ! (from ! (stop !)) (init ! 15 refl (subst (λ (z : Val). Holds (hasTy tyUnit z) × WT z) (sym (ap only y)) (tt, tt))) $
-        -- the lifetime is ended, and the struct comes back to _7 at its last value
-        split ! $ lft-end ! tt $ move ! (0 ∷ 5 ∷ 4 ∷ []) $
-        use3 W (later (‵ (partAt T.the-row fullShare (ws .0) l₇ 0))) (ref-back 𝓤 H A W T.the-row (α ∷ []) δ (ws .0) l₇ 0) $ await ! tt $
-        use1 W (some (λ (w : Val). ‵ (fat fullShare T′.mir l₇ 0 w) ⊛ ‵ (T.the-row .own (ws .0) (w ∷ [])))) (part-out 𝓤 H A W T.the-row refl fullShare (ws .0) l₇ 0) $ pick ! (λ w. split ! $
-        -- it is copied from _7 into _0
+        split ! $ move ! (1 ∷ []) $ use1 W (some (λ (ws : Tally × (Unit {0} × (Unit {0} × (Unit {0} × (List ℕ × Unit {0}))))). ‵ (lasts assign.ended (α ∷ [], (κ, tt)) (args l₆ δ) ws) ⊛ raw (fact 𝓤 (Told (ws .0) (ws .1 .1 .1 .1 .0))))) (id⊢ 𝓤 _) $ pick ! (λ ws.
+        split ! $ move ! (1 ∷ []) $ heard ! (Told (ws .0) (ws .1 .1 .1 .1 .0)) (λ e.
+        fsplit ! $ move ! (1 ∷ []) $ fsplit ! $ drop ! $ fsplit ! $ drop ! $ fsplit ! $ drop ! $ fsplit ! $ fsplit ! $ move ! (1 ∷ []) $ feqL ! (λ k. move ! (1 ∷ []) $ drop ! $
+        -- [the last assignment; the struct's last value; the tokens and the result; the lender's part; _10; …]: the result, which is (), goes into _7
+        move ! (2 ∷ []) $ split ! $ move ! (1 ∷ []) $ feqL ! (λ y.
+        land ! (from ! (stop !)) (init ! 10 refl (subst (λ (z : Val). Holds (hasTy tyUnit z) × WT z) (sym (ap only y)) (tt, tt))) $
+        -- the lifetime is ended, and the struct comes back to _6 at its last value
+        split ! $ lft-end ! tt $ move ! (0 ∷ 4 ∷ 3 ∷ []) $
+        use3 W (later (‵ (partAt T.the-row fullShare (ws .0) l₆ 0))) (ref-back 𝓤 H A W T.the-row (α ∷ []) δ (ws .0) l₆ 0) $ await ! tt $
+        use1 W (some (λ (w : Val). ‵ (fat fullShare T′.mir l₆ 0 w) ⊛ ‵ (T.the-row .own (ws .0) (w ∷ [])))) (part-out 𝓤 H A W T.the-row refl fullShare (ws .0) l₆ 0) $ pick ! (λ w. split ! $
+        -- it is copied from _6 into _0
         move ! (1 ∷ []) $ peeks ! T.the-row (Is T.the-row) (shows 𝓤 H A T.the-row) (ws .0) (w ∷ []) (λ is.
-        -- [what the struct owns; _7; the slices' tokens; the last trail; the last assignment; _13; …; _12; …; _11; …; _10; …; _9; …; _8; …; …; _6; …; _5; …; _4; …; _3; …; _2; …; _1; …; room for _0; …]
-        assigns ! (of-opd ! (load ! (from ! (stop !)) (look ! 1 refl))) (from ! (stop !)) (init ! 30 refl (LL.lawful T.the-type T′.the-laws 𝓤 H A W .typed (ws .0) _ is .0)) $
+        -- [what the struct owns; _6; the slice's token; the last assignment; _10; …; _9; …; _8; …; _7; …; …; _5; …; _4; …; _3; …; _2; …; _1; …; room for _0; …]
+        assigns ! (of-opd ! (load ! (from ! (stop !)) (look ! 1 refl))) (from ! (stop !)) (init ! 23 refl (LL.lawful T.the-type T′.the-laws 𝓤 H A W .typed (ws .0) _ is .0)) $
         -- the result is read, and the locals are freed
-        returns ! (look ! 30 refl) $ forget ! 1 refl $ forget ! 5 refl $ forget ! 7 refl $ forget ! 9 refl $ forget ! 11 refl $ forget ! 13 refl $ forget ! 15 refl $ forget ! 18 refl $ forget ! 20 refl $ forget ! 22 refl $ forget ! 24 refl $ forget ! 26 refl $ forget ! 28 refl $ forget ! 30 refl $
-        move ! (30 ∷ 31 ∷ []) $ free1 ! $ move ! (28 ∷ 29 ∷ []) $ free1 ! $ move ! (26 ∷ 27 ∷ []) $ free1 ! $ move ! (24 ∷ 25 ∷ []) $ free1 ! $ move ! (22 ∷ 23 ∷ []) $ free1 ! $ move ! (20 ∷ 21 ∷ []) $ free1 ! $ move ! (18 ∷ 19 ∷ []) $ free1 ! $
-        move ! (1 ∷ 17 ∷ []) $ free1 ! $ move ! (14 ∷ 15 ∷ []) $ free1 ! $ move ! (12 ∷ 13 ∷ []) $ free1 ! $ move ! (10 ∷ 11 ∷ []) $ free1 ! $ move ! (8 ∷ 9 ∷ []) $ free1 ! $ move ! (6 ∷ 7 ∷ []) $ free1 ! $ move ! (4 ∷ 5 ∷ []) $ free1 ! $ free0 ! $
-        keep ! (0 ∷ 1 ∷ 2 ∷ 3 ∷ []) $ by ! (exits (ws .0) w (ws .1 .1 .1 .1 .0) (ws .1 .1 .1 .1 .1 .0) e k₁ k₂))))))))))))))))))))))))))
+        returns ! (look ! 23 refl) $ forget ! 1 refl $ forget ! 4 refl $ forget ! 6 refl $ forget ! 8 refl $ forget ! 10 refl $ forget ! 13 refl $ forget ! 15 refl $ forget ! 17 refl $ forget ! 19 refl $ forget ! 21 refl $ forget ! 23 refl $
+        move ! (23 ∷ 24 ∷ []) $ free1 ! $ move ! (21 ∷ 22 ∷ []) $ free1 ! $ move ! (19 ∷ 20 ∷ []) $ free1 ! $ move ! (17 ∷ 18 ∷ []) $ free1 ! $ move ! (15 ∷ 16 ∷ []) $ free1 ! $ move ! (13 ∷ 14 ∷ []) $ free1 ! $
+        move ! (1 ∷ 12 ∷ []) $ free1 ! $ move ! (9 ∷ 10 ∷ []) $ free1 ! $ move ! (7 ∷ 8 ∷ []) $ free1 ! $ move ! (5 ∷ 6 ∷ []) $ free1 ! $ move ! (3 ∷ 4 ∷ []) $ free1 ! $ free0 ! $
+        keep ! (0 ∷ 1 ∷ 2 ∷ []) $ by ! (exits (ws .0) w (ws .1 .1 .1 .1 .0) e k))))))))))))))))))))))
 
 -- the walk, at every choice of the lifetimes, the shares and the arguments, from `assign`'s theorem
 module _ {M : Type 1} (𝓤 : URA M) (H : Heap 𝓤) (A : Atoms 𝓤) (W : Given 𝓤 H A) (at-mem : Memory → SProp 𝓤) (run : Routine → Fun 𝓤) where
   assigned-walks : (C : Calls 𝓤 H) (Λ : Loops 𝓤 H) → FmC 𝓤 H (W .laws) C → Triple 𝓤 (C #tally·assign) (Assign 𝓤 H A at-mem run) → Walks 𝓤 H A assigned.ended stayed (WpFn 𝓤 H C Λ code.function) (assigned.clauses 𝓤 H A at-mem run)
   assigned-walks C Λ fm known = walked 𝓤 H A assigned.ended stayed (assigned.clauses 𝓤 H A at-mem run) (WpFn 𝓤 H C Λ code.function)
-      (λ κs. (LL.vals T.the-type T′.the-laws, (uint-vals w64, (uint-vals w8, (uint-vals w64, (slice-vals, (slice-vals, tt)))))))
-      (λ κs. (LL.tells T.the-type T′.the-laws, (uint-tells w64, (uint-tells w8, (uint-tells w64, (mut-slice-tells (named 0) (κs .0) u8, (mut-slice-tells (named 1) (κs .1 .0) u16, tt)))))))
-      (λ κs qs bounds a _ are. needs 𝓤 (MayAssign (a .1 .0) (a .1 .1 .1 .0) (a .1 .1 .1 .1 .0 .now) (a .1 .1 .1 .1 .1 .0 .now) (a .0)) _ (λ ok.
-      walk 𝓤 H A W at-mem run (κs .0) (κs .1 .0) (qs .0) (qs .1 .0) (a .0) (a .1 .0) (a .1 .1 .0) (a .1 .1 .1 .0)
+      (λ κs. (LL.vals T.the-type T′.the-laws, (uint-vals w64, (uint-vals w8, (uint-vals w64, (slice-vals, tt))))))
+      (λ κs. (LL.tells T.the-type T′.the-laws, (uint-tells w64, (uint-tells w8, (uint-tells w64, (mut-slice-tells (named 0) (κs .0) u8, tt))))))
+      (λ κs qs bounds a _ are. needs 𝓤 (MayAssign (a .1 .0) (a .1 .1 .1 .0) (a .1 .1 .1 .1 .0 .now) (a .0)) _ (λ ok.
+      walk 𝓤 H A W at-mem run (κs .0) (qs .0) (a .0) (a .1 .0) (a .1 .1 .0) (a .1 .1 .1 .0)
       (a .1 .1 .1 .1 .0 .ptr .0) (a .1 .1 .1 .1 .0 .ptr .1) (a .1 .1 .1 .1 .0 .name) (a .1 .1 .1 .1 .0 .now)
-      (a .1 .1 .1 .1 .1 .0 .ptr .0) (a .1 .1 .1 .1 .1 .0 .ptr .1) (a .1 .1 .1 .1 .1 .0 .name) (a .1 .1 .1 .1 .1 .0 .now)
-      (are .0) (are .1 .0 .1) (are .1 .1 .0 .1) (are .1 .1 .1 .0 .1) (are .1 .1 .1 .1 .0 .0 .1) (are .1 .1 .1 .1 .1 .0 .0 .1) ok C Λ fm known))
+      (are .0) (are .1 .0 .1) (are .1 .1 .0 .1) (are .1 .1 .1 .0 .1) (are .1 .1 .1 .1 .0 .0 .1) ok C Λ fm known))
 
 -- the walk, taken to the contract
 assigned-meets : {M : Type 1} (𝓤 : URA M) (H : Heap 𝓤) (A : Atoms 𝓤) → Given 𝓤 H A → (at-mem : Memory → SProp 𝓤) (run : Routine → Fun 𝓤) (𝓣 : Tables 𝓤 H) → Triple 𝓤 (𝓣 .C #tally·assign) (Assign 𝓤 H A at-mem run)
     → Meets 𝓤 H A assigned.signature (WpFn 𝓤 H (𝓣 .C) (𝓣 .Λ) code.function) (assigned.spec 𝓤 H A at-mem run)
 assigned-meets 𝓤 H A W at-mem run 𝓣 known =
     walk-meets 𝓤 H A assigned.ended stayed W (
-      goes-none 𝓤 H A W 2 (λ _. T.the-row) yes (λ κs x f. refl),
+      goes-none 𝓤 H A W 1 (λ _. T.the-row) yes (λ κs x f. refl),
       (
-        goes-none 𝓤 H A W 2 (λ _. usize) yes (λ κs x f. refl),
+        goes-none 𝓤 H A W 1 (λ _. usize) yes (λ κs x f. refl),
         (
-          goes-none 𝓤 H A W 2 (λ _. u8) yes (λ κs x f. refl),
+          goes-none 𝓤 H A W 1 (λ _. u8) yes (λ κs x f. refl),
           (
-            goes-none 𝓤 H A W 2 (λ _. usize) yes (λ κs x f. refl),
-            (goes-gave-slice 𝓤 H A W 2 0 tt (plain (λ _. u8)), (goes-gave-slice 𝓤 H A W 2 1 tt (plain (λ _. u16)), tt)),
+            goes-none 𝓤 H A W 1 (λ _. usize) yes (λ κs x f. refl),
+            (goes-gave-slice 𝓤 H A W 1 0 tt (plain (λ _. u8)), tt),
           ),
         ),
       ),

@@ -12,7 +12,7 @@ use Rattle.first_choice.proofs.from_state.value_by_walk.Tie as tie
 -- of each part, what is lent for n variables is as long as it should be
 module _ (c : tie.After-no-marks) where
   abbrev call : tie.Start
-  call = c .before .before .before .before .before .before .before .before
+  call = c .before .before .before .before .before .before .before .before .before .before .before
 
   abbrev n : ℕ
   n = length (call .args .a .now)
@@ -30,16 +30,16 @@ module _ (c : tie.After-no-marks) where
   marks = c .no-marks .result
 
   values-long : length (take n values) ≡ n
-  values-long = length-take-le n values (omega (arith, call .pre .1 .1, c .before .before .before .no-values .ensures))
+  values-long = length-take-le n values (omega (arith, call .pre .1 .2, c .before .before .before .no-values .ensures))
 
   trace-long : length (take n trace) ≡ n
-  trace-long = length-take-le n trace (omega (arith, call .pre .1 .1, c .before .before .no-trail .ensures))
+  trace-long = length-take-le n trace (omega (arith, call .pre .1 .2, c .before .before .no-trail .ensures))
 
   weights-long : length (take (2 * n + 2) weights) ≡ 2 * n + 2
-  weights-long = length-take-le (2 * n + 2) weights (omega (arith, call .pre .1 .1, c .before .no-weights .ensures))
+  weights-long = length-take-le (2 * n + 2) weights (omega (arith, call .pre .1 .2, c .before .no-weights .ensures))
 
   marks-long : length (take (n + 1) marks) ≡ n + 1
-  marks-long = length-take-le (n + 1) marks (omega (arith, call .pre .1 .1, c .no-marks .ensures))
+  marks-long = length-take-le (n + 1) marks (omega (arith, call .pre .1 .2, c .no-marks .ensures))
 
 no-values-requires : tie.Need-no-values-requires
 no-values-requires c κs = search needs
@@ -92,8 +92,14 @@ value-in-requires c κs =
     let given = call space .pre in (
       given .0,
       (
-        record { few = given .1 .1; sound = given .1 .0; weighs = omega (arith, weights-long space); mark = omega (arith, marks-long space) },
-        (values-long space, trace-long space, given .1 .2),
+        record {
+          few = given .1 .2;
+          sound = given .1 .0;
+          beside = given .1 .1;
+          weighs = omega (arith, weights-long space);
+          mark = omega (arith, marks-long space);
+        },
+        (values-long space, trace-long space, given .1 .3),
       ),
     )
 

@@ -9,22 +9,22 @@ use borrow.Author.Needs.{needs}
 use Rattle.choices.specs.Order.{FirstWithin}
 use Rattle.formula.specs.Formula.{clauses}
 use Rattle.root_walk.specs.Root.{root-searching}
-use Rattle.first_choice.specs.Fixing.{Fixing, fixing-of, may-settle, settled}
+use Rattle.first_choice.specs.Fixing.{Fixed, Fixing, fixed-of, may-settle, settled}
 use Rattle.first_choice.specs.Refining.{Refining, refining-start, refining-end}
 use Rattle.first_choice.proofs.refine.refine.Statement.{statement}
 use Rattle.first_choice.proofs.refine.refine.Tie as tie
 
 abbrev Inv-loop : tie.InvT-loop
-Inv-loop list row d a₀ trail₀ choice₀ tally₀ i₀ a trail choice tally i =
-    (i ≤ length a₀) × (length a ≡ length a₀) × (length trail ≡ length trail₀) × (length choice ≡ length choice₀) × Fixing list row d i tally a trail choice
+Inv-loop list ends numbers begins row d a₀ trail₀ choice₀ tally₀ i₀ a trail choice tally i =
+    (i ≤ length a₀) × (length a ≡ length a₀) × (length trail ≡ length trail₀) × (length choice ≡ length choice₀) × Fixing list ends numbers begins row d i tally a trail choice
 
 abbrev μ-loop : tie.MeasureT-loop
-μ-loop list row d a₀ trail₀ choice₀ tally₀ i₀ a trail choice tally i = length a₀ - i
+μ-loop list ends numbers begins row d a₀ trail₀ choice₀ tally₀ i₀ a trail choice tally i = length a₀ - i
 
 -- where every variable is unassigned
 module _ (c : tie.After-unassign-all Inv-loop μ-loop) where
   abbrev call : tie.Start Inv-loop μ-loop
-  call = c .before .before .before .before .before .before
+  call = c .before .before .before .before .before .before .before .before .before
 
   abbrev n : ℕ
   n = length (call .args .a .now)
@@ -39,30 +39,30 @@ module _ (c : tie.After-unassign-all Inv-loop μ-loop) where
   start = c .unassign-all .ensures
 
   -- no variable is fixed yet
-  unfixed : Fixing (call .args .list .now) (call .args .row .now) (call .args .d) 0 (record { settled = 0; broken = 0 }) a (call .args .trail .now) (call .args .choice .now)
+  unfixed : Fixed (call .args .list .now) (call .args .ends .now) (call .args .numbers .now) (call .args .begins .now) (call .args .row .now) (call .args .d) 0 (record { settled = 0; broken = 0 }) a (call .args .trail .now) (call .args .choice .now)
   unfixed =
-      fixing-of n (call .pre .0 .0) (call .pre .0 .1) (root-searching n (call .args .row .now) (call .args .trail .now) a (call .pre .0 .2) start)
+      fixed-of n (call .pre .0 .0) (call .pre .0 .1) (call .pre .0 .2) (root-searching n (call .args .row .now) (call .args .trail .now) a (call .pre .0 .3) start)
       (subst (λ (l : List ℕ). Refining n f (call .args .row .now) (call .args .d) 0 l (call .args .choice .now)) (sym start)
       (refining-start n f (call .args .row .now) (call .args .d) (call .args .choice .now) (call .pre .1 .0) (call .pre .1 .1)))
 
 -- after propagation: as many variables as before
-module _ (c : tie.After-settle Inv-loop μ-loop) where
+module _ (c : tie.After-settle-all Inv-loop μ-loop) where
   abbrev cleared : tie.After-unassign-all Inv-loop μ-loop
   cleared = c .before .before .before .before .before
 
-  still : length (c .settle .last .1 .1 .1 .1 .0) ≡ n cleared
-  still = c .settle .kept .1 .1 .1 .1 .0 ∙ cleared .unassign-all .kept .0
+  still : length (c .settle-all .last .1 .1 .1 .1 .1 .1 .1 .0) ≡ n cleared
+  still = c .settle-all .kept .1 .1 .1 .1 .1 .1 .1 .0 ∙ cleared .unassign-all .kept .0
 
 unassign-all-requires : tie.Need-unassign-all-requires Inv-loop μ-loop
 unassign-all-requires c κs = search needs
 
-settle-requires : tie.Need-settle-requires Inv-loop μ-loop
-settle-requires c κs = may-settle (unfixed (c .before .before .before .before))
+settle-all-requires : tie.Need-settle-all-requires Inv-loop μ-loop
+settle-all-requires c κs = may-settle (unfixed (c .before .before .before .before))
 
 loop-holds : tie.Need-loop-holds Inv-loop μ-loop
 loop-holds c =
     let propagated = c .before .before .before .before in
-    (omega arith, refl, refl, refl, settled (unfixed (cleared propagated)) (propagated .settle .ensures .0) (propagated .settle .ensures .1))
+    (omega arith, refl, refl, refl, settled (unfixed (cleared propagated)) (propagated .settle-all .ensures .0) (propagated .settle-all .ensures .1))
 
 fix-requires : tie.Need-fix-requires Inv-loop μ-loop
 fix-requires c κs =
@@ -82,9 +82,9 @@ loop-again c =
     let more = c .before .before .before .before .before .before .before .before .before .before .loop-test .taken in
     let inv = head .inv in (
       omega (arith, more, inv .1),
-      fixed .kept .1 .1 .1 .1 .1 .0 ∙ inv .1,
-      fixed .kept .1 .1 .1 .1 .1 .1 .0 ∙ inv .2,
-      fixed .kept .1 .1 .1 .1 .1 .1 .1 .0 ∙ inv .3,
+      fixed .kept .1 .1 .1 .1 .1 .1 .1 .1 .0 ∙ inv .1,
+      fixed .kept .1 .1 .1 .1 .1 .1 .1 .1 .1 .0 ∙ inv .2,
+      fixed .kept .1 .1 .1 .1 .1 .1 .1 .1 .1 .1 .0 ∙ inv .3,
       fixed .ensures,
     )
 
@@ -92,7 +92,7 @@ same-length : tie.Need-same-length Inv-loop μ-loop
 same-length c = c .before .loop .inv .1 ∙ still (c .before .before .before .before .before .before)
 
 same-length-2 : tie.Need-same-length-2 Inv-loop μ-loop
-same-length-2 c = c .before .loop .inv .2 ∙ c .before .before .before .before .before .before .settle .kept .1 .1 .1 .1 .1 .0
+same-length-2 c = c .before .loop .inv .2 ∙ c .before .before .before .before .before .before .settle-all .kept .1 .1 .1 .1 .1 .1 .1 .1 .0
 
 same-length-3 : tie.Need-same-length-3 Inv-loop μ-loop
 same-length-3 c = c .before .loop .inv .3
@@ -100,10 +100,10 @@ same-length-3 c = c .before .loop .inv .3
 returns : tie.Need-returns Inv-loop μ-loop
 returns c =
     let head = c .before .loop in
-    let call = c .before .before .before .before .before .before .before .before .before .before .before .before .before .before .before .before .before in
+    let call = c .before .before .before .before .before .before .before .before .before .before .before .before .before .before .before .before .before .before .before .before in
     let inv = head .inv in
     subst (λ (k : ℕ). FirstWithin k (clauses (call .args .list .now)) (call .args .row .now) (call .args .d) (head .choice)) (inv .1 ∙ still (c .before .before .before .before .before .before))
-    (refining-end (inv .4 .refining) (omega (arith, inv .0, inv .1, c .loop-test .left)))
+    (refining-end (inv .4 .fixed .refining) (omega (arith, inv .0, inv .1, c .loop-test .left)))
 
 pub refine-spec : {M : Type 1} → statement M
 refine-spec =
@@ -112,7 +112,7 @@ refine-spec =
     Inv-loop
     μ-loop
     unassign-all-requires
-    settle-requires
+    settle-all-requires
     loop-holds
     fix-requires
     add-i

@@ -2,8 +2,11 @@
 use mathlib.Core.Path.{sym, ap, subst, _∙_}
 use mathlib.Core.Option.{Option, some, Option·map}
 use Prim.Native.Nat.{ℕ}
+use lib.ListN.{drop}
+use Rattle.formula.specs.Formula.{clauses}
 use Rattle.walk.specs.State.{unassignedIn}
 use Rattle.opposed.specs.declared.shortest.Begins.the-variants.{At}
+use Rattle.opposed.specs.Laws.{none-short-same}
 use Rattle.opposed.specs.Opposed.{KeepsShortest}
 use borrow.Author.Needs.{needs}
 use Rattle.opposed.proofs.fewest.fewest_opposed.Statement.{statement}
@@ -26,7 +29,10 @@ first c =
     subst (KeepsShortest (args .row .now) (args .assignment .now) (args .list .now)) (c .before .from .given .1) (c .before .before .before .find-opposed .ensures)
 
 shortest-opposed-requires : tie.Need-shortest-opposed-requires
-shortest-opposed-requires c κs = (first c .0, first c .1)
+shortest-opposed-requires c κs =
+    let start = c .before .before .before .before .before .before in
+    let l = start .args .list .now in
+    ((first c .0, first c .1), none-short-same (start .args .row .now) (start .args .assignment .now) (clauses l) (clauses (drop (c .before .from .given .0 .0) l)) (first c .2) (start .pre))
 
 unassigned-in-requires : tie.Need-unassigned-in-requires
 unassigned-in-requires c κs = search needs

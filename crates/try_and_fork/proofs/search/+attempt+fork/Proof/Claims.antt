@@ -8,7 +8,8 @@ use Rattle.completion.proofs.completes.Reads as completes-reads
 use Rattle.pick.proofs.pick_branch.Reads as pick-branch-reads
 use Rattle.propagation.proofs.propagate_units.Reads as propagate-units-reads
 use Rattle.propagation.proofs.assign_to.Reads as assign-to-reads
-use Rattle.propagation.proofs.undo.Reads as undo-reads
+use Rattle.try_and_fork.proofs.unwind.newest_of.Reads as newest-of-reads
+use Rattle.try_and_fork.proofs.unwind.unwind.Reads as unwind-reads
 use Rattle.walk_result.proofs.add_forks.Reads as add-forks-reads
 use Rattle.walk_result.proofs.with_forks.Reads as with-forks-reads
 use Rattle.try_and_fork.proofs.search.attempt.Reads as attempt
@@ -18,27 +19,27 @@ use Rattle.try_and_fork.proofs.search.fork.Reads as fork
 use Rattle.try_and_fork.proofs.search.fork.Kinds as fork-kinds
 use Rattle.try_and_fork.proofs.search.+attempt+fork.Lts-fork as fork-lts
 
-abbrev pub μ-attempt : Measures 6 attempt-kinds.ps ℕ
-μ-attempt κs a = 2 * unassigned (a .1 .1 .1 .1 .0 .now) + 1
+abbrev pub μ-attempt : Measures 9 attempt-kinds.ps ℕ
+μ-attempt κs a = 2 * unassigned (a .1 .1 .1 .1 .1 .1 .1 .0 .now) + 1
 
-abbrev pub μ-fork : Measures 6 fork-kinds.ps ℕ
-μ-fork κs a = 2 * unassigned (a .1 .1 .1 .1 .1 .1 .0 .now)
+abbrev pub μ-fork : Measures 9 fork-kinds.ps ℕ
+μ-fork κs a = 2 * unassigned (a .1 .1 .1 .1 .1 .1 .1 .1 .1 .0 .now)
 
 -- what each is given at the measure t, and what a call of it asks below t
-abbrev pub attempt-at : ℕ → In 6 attempt-kinds.ps
-attempt-at t = and 6 attempt-kinds.ps (is 6 attempt-kinds.ps μ-attempt t) attempt.Pre
+abbrev pub attempt-at : ℕ → In 9 attempt-kinds.ps
+attempt-at t = and 9 attempt-kinds.ps (is 9 attempt-kinds.ps μ-attempt t) attempt.Pre
 
-abbrev pub attempt-below : ℕ → In 6 attempt-kinds.ps
-attempt-below t = and 6 attempt-kinds.ps (falls 6 attempt-kinds.ps _<_ μ-attempt t) attempt.Pre
+abbrev pub attempt-below : ℕ → In 9 attempt-kinds.ps
+attempt-below t = and 9 attempt-kinds.ps (falls 9 attempt-kinds.ps _<_ μ-attempt t) attempt.Pre
 
-abbrev pub fork-at : ℕ → In 6 fork-kinds.ps
-fork-at t = and 6 fork-kinds.ps (is 6 fork-kinds.ps μ-fork t) fork.Pre
+abbrev pub fork-at : ℕ → In 9 fork-kinds.ps
+fork-at t = and 9 fork-kinds.ps (is 9 fork-kinds.ps μ-fork t) fork.Pre
 
-abbrev pub fork-below : ℕ → In 6 fork-kinds.ps
-fork-below t = and 6 fork-kinds.ps (falls 6 fork-kinds.ps _<_ μ-fork t) fork.Pre
+abbrev pub fork-below : ℕ → In 9 fork-kinds.ps
+fork-below t = and 9 fork-kinds.ps (falls 9 fork-kinds.ps _<_ μ-fork t) fork.Pre
 
 abbrev pub attempt-claims : ℕ → attempt-lts.Claims
-attempt-claims t = (propagate-units-reads.Asked, propagate-units-reads.Learnt, completes-reads.Asked, completes-reads.Learnt, fill-completion-reads.Asked, fill-completion-reads.Learnt, pick-branch-reads.Asked, pick-branch-reads.Learnt, fork-below t, fork.Post)
+attempt-claims t = (newest-of-reads.Asked, newest-of-reads.Learnt, propagate-units-reads.Asked, propagate-units-reads.Learnt, unwind-reads.Asked, unwind-reads.Learnt, completes-reads.Asked, completes-reads.Learnt, fill-completion-reads.Asked, fill-completion-reads.Learnt, pick-branch-reads.Asked, pick-branch-reads.Learnt, fork-below t, fork.Post)
 
 abbrev pub fork-claims : ℕ → fork-lts.Claims
-fork-claims t = (assign-to-reads.Asked, assign-to-reads.Learnt, attempt-below t, attempt.Post, add-forks-reads.Asked, add-forks-reads.Learnt, undo-reads.Asked, undo-reads.Learnt, with-forks-reads.Asked, with-forks-reads.Learnt)
+fork-claims t = (assign-to-reads.Asked, assign-to-reads.Learnt, attempt-below t, attempt.Post, add-forks-reads.Asked, add-forks-reads.Learnt, with-forks-reads.Asked, with-forks-reads.Learnt)

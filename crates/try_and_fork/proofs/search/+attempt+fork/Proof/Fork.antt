@@ -1,15 +1,18 @@
--- The needs of `fork`, at the measure t: it tries the state with the first value, undoes it, and tries the state with the other (`ForkLaws`).
-use mathlib.Core.Path.{_≡_, refl, sym, subst, _∙_}
+-- The needs of `fork`, at the measure t: it tries the state with the first value, and where that finds nothing the state with the other (`ForkLaws`).
+use mathlib.Core.Path.{_≡_, refl, sym, ap, subst, _∙_}
 use mathlib.Core.List.{List}
 use Prim.Native.Nat.{ℕ}
 use native.Mathlib.Omega.{arith}
+use lib.IntN.{ℤ}
 use lib.ListN.{length}
 use borrow.Author.Needs.{needs}
 use Rattle.formula.specs.Formula.{clauses}
+use Rattle.walk.specs.State.{unassigned}
 use Rattle.walk.specs.Walk.{Outcome, walkFrom, fork as forkOf}
 use Rattle.propagation.specs.Searching.{Searching}
 use Rattle.walk_result.specs.declared.Tried.{Tried}
 use Rattle.walk_result.specs.declared.Tried.the-variants.{Found, Nothing}
+use Rattle.try_and_fork.specs.AttemptLaws.{newest, before}
 use Rattle.try_and_fork.specs.ForkLaws as laws
 use Rattle.try_and_fork.specs.Ready.{Ready, ready-still, long-searching}
 use Rattle.try_and_fork.specs.Tried.{TriedBy}
@@ -18,36 +21,21 @@ use Rattle.try_and_fork.proofs.search.+attempt+fork.Lts-fork as lts
 use Rattle.try_and_fork.proofs.search.+attempt+fork.Proof.Claims.{fork-at, fork-claims}
 
 module _ (t : ℕ) where
-  -- The points of the program: the call; its parameters known; with the first value; what it was lent back again; after that value was tried; the loans back; nothing found; undone; with the other value; its loans back; after that was tried; and at the end.
+  -- The points of the program: the call; with the first value; after that was tried; nothing found; with the other value; after that was tried; and at the end.
   abbrev Call : Type 0
   Call = lts.Start (fork-claims t) (fork-at t) fork.Post
-
-  abbrev Known : Type 0
-  Known = lts.After-slice-known4 (fork-claims t) (fork-at t) fork.Post
 
   abbrev First : Type 0
   First = lts.After-assign-to (fork-claims t) (fork-at t) fork.Post
 
-  abbrev FirstBack : Type 0
-  FirstBack = lts.After-slice-known6 (fork-claims t) (fork-at t) fork.Post
-
   abbrev FirstTried : Type 0
   FirstTried = lts.After-attempt (fork-claims t) (fork-at t) fork.Post
-
-  abbrev FirstTriedBack : Type 0
-  FirstTriedBack = lts.After-slice-known10 (fork-claims t) (fork-at t) fork.Post
 
   abbrev Fruitless : Type 0
   Fruitless = lts.After-known-told2 (fork-claims t) (fork-at t) fork.Post
 
-  abbrev Undone : Type 0
-  Undone = lts.After-undo (fork-claims t) (fork-at t) fork.Post
-
   abbrev Second : Type 0
   Second = lts.After-assign-to2 (fork-claims t) (fork-at t) fork.Post
-
-  abbrev SecondBack : Type 0
-  SecondBack = lts.After-slice-known13 (fork-claims t) (fork-at t) fork.Post
 
   abbrev SecondTried : Type 0
   SecondTried = lts.After-attempt2 (fork-claims t) (fork-at t) fork.Post
@@ -56,35 +44,20 @@ module _ (t : ℕ) where
   End = lts.After-with-forks (fork-claims t) (fork-at t) fork.Post
 
   -- The way back from each.
-  abbrev entry : Known → Call
-  entry c = c .before .before .before .before .before
-
   abbrev call : First → Call
-  call c = entry (c .before .before .before)
-
-  abbrev assigned : FirstBack → First
-  assigned c = c .before .before .before .before
+  call c = c .before .before .before .before .before .before .before .before .before .before .before
 
   abbrev first : FirstTried → First
-  first c = assigned (c .before .before .before .before .before)
-
-  abbrev tried-first : FirstTriedBack → FirstTried
-  tried-first c = c .before .before .before .before .before .before .before .before
+  first c = c .before .before .before .before .before .before .before .before .before
 
   abbrev fruitless : Fruitless → FirstTried
-  fruitless c = tried-first (c .before .before .before)
+  fruitless c = c .before .before .before .before .before .before .before .before .before .before .before
 
-  abbrev first-tried : Undone → FirstTried
-  first-tried c = fruitless (c .before .before .before)
-
-  abbrev undone : Second → Undone
-  undone c = c .before .before .before .before .before
-
-  abbrev assigned-other : SecondBack → Second
-  assigned-other c = c .before .before .before .before
+  abbrev first-tried : Second → Fruitless
+  first-tried c = c .before .before .before
 
   abbrev second : SecondTried → Second
-  second c = assigned-other (c .before .before .before .before .before)
+  second c = c .before .before .before .before .before .before .before .before .before
 
   abbrev second-tried : End → SecondTried
   second-tried c = c .before .before .before .before .before .before .before .before .before
@@ -94,22 +67,25 @@ module _ (t : ℕ) where
     abbrev n : ℕ
     n = length (c .args .a .now)
 
+    abbrev f : List (List ℤ)
+    f = clauses (c .args .list .now)
+
     abbrev try : List ℕ → Outcome
-    try = walkFrom (clauses (c .args .list .now)) (c .args .row .now) (c .args .d)
+    try = walkFrom f (c .args .row .now) (c .args .d)
 
     given : Searching n (c .args .row .now) (c .args .a .now) (c .args .trail .now) (c .args .tally .settled) (c .args .tally .broken)
     given = c .pre .1 .0
 
-    ready : Ready (c .args .list .now) n (length (c .args .weights .now)) (length (c .args .marks .now))
+    ready : Ready (c .args .list .now) (c .args .ends .now) (c .args .numbers .now) (c .args .begins .now) n (length (c .args .weights .now)) (length (c .args .marks .now))
     ready = c .pre .1 .1 .0
 
-    forks : laws.Forks n (c .args .row .now) (c .args .a .now) (c .args .trail .now) (c .args .tally) (c .args .v .0) (c .args .value)
-    forks = record { state = given; branch = c .pre .1 .1 .1 .0; bit = c .pre .1 .1 .1 .1 }
+    forks : laws.Forks n f (c .args .row .now) (c .args .a .now) (c .args .trail .now) (c .args .tally) (c .args .v .0) (c .args .value)
+    forks = record { state = given; branch = c .pre .1 .1 .1 .0; bit = c .pre .1 .1 .1 .1; quiet = c .pre .1 .1 .1 .2 }
 
   -- the first value
   module _ (c : First) where
     first-state : Searching (n (call c)) (call c .args .row .now) (c .assign-to .last .1 .1 .1 .1 .0) (c .assign-to .last .1 .1 .1 .1 .1 .0) (c .assign-to .result .settled) (c .assign-to .result .broken)
-    first-state = laws.first-searching (forks (call c)) (c .assign-to .ensures)
+    first-state = laws.branch-searching (forks (call c)) (forks (call c) .bit) (c .assign-to .ensures)
 
   -- tried
   module _ (c : FirstTried) where
@@ -117,81 +93,78 @@ module _ (t : ℕ) where
     start = call (first c)
 
     abbrev tried-a : List ℕ
-    tried-a = c .attempt .last .1 .1 .1 .1 .0
+    tried-a = c .attempt .last .1 .1 .1 .1 .1 .1 .1 .0
 
     abbrev tried-trail : List ℕ
-    tried-trail = c .attempt .last .1 .1 .1 .1 .1 .0
+    tried-trail = c .attempt .last .1 .1 .1 .1 .1 .1 .1 .1 .0
 
     said : (r : Tried) → c .attempt .result ≡ r
-        → TriedBy (try start (first c .assign-to .last .1 .1 .1 .1 .0)) (first c .assign-to .result .settled) (first c .assign-to .last .1 .1 .1 .1 .1 .0) (first c .assign-to .last .1 .1 .1 .1 .0) tried-trail tried-a r
+        → TriedBy (try start (first c .assign-to .last .1 .1 .1 .1 .0)) (newest (first c .assign-to .result)) (before (first c .assign-to .result) (first c .assign-to .last .1 .1 .1 .1 .0) (first c .assign-to .last .1 .1 .1 .1 .1 .0)) (first c .assign-to .last .1 .1 .1 .1 .1 .0) tried-trail tried-a r
     said r e =
-        subst (TriedBy (try start (first c .assign-to .last .1 .1 .1 .1 .0)) (first c .assign-to .result .settled) (first c .assign-to .last .1 .1 .1 .1 .1 .0) (first c .assign-to .last .1 .1 .1 .1 .0) tried-trail tried-a) e
+        subst (TriedBy (try start (first c .assign-to .last .1 .1 .1 .1 .0)) (newest (first c .assign-to .result)) (before (first c .assign-to .result) (first c .assign-to .last .1 .1 .1 .1 .0) (first c .assign-to .last .1 .1 .1 .1 .1 .0)) (first c .assign-to .last .1 .1 .1 .1 .1 .0) tried-trail tried-a) e
         (c .attempt .ensures)
 
     tried-long : length tried-trail ≡ length (start .args .trail .now)
-    tried-long = c .attempt .kept .1 .1 .1 .1 .1 .0 ∙ first c .assign-to .kept .1 .1 .1 .1 .1 .0
+    tried-long = c .attempt .kept .1 .1 .1 .1 .1 .1 .1 .1 .0 ∙ first c .assign-to .kept .1 .1 .1 .1 .1 .0
 
-  -- nothing was found, and it is undone: the state before the fork again
-  module _ (c : Undone) where
-    abbrev before : Call
-    before = start (first-tried c)
+  -- nothing was found, and the state before the fork is there again
+  module _ (c : Fruitless) where
+    abbrev root : Call
+    root = start (fruitless c)
 
     abbrev forks-before : ℕ
-    forks-before = c .before .before .before .before .before2 .given .0 .0
+    forks-before = c .before .before2 .given .0 .0
 
-    undoes : laws.Undone (try before) (n before) (before .args .row .now) (before .args .a .now) (before .args .trail .now) (before .args .tally) (before .args .v .0) (before .args .value) (tried-trail (first-tried c)) (c .undo .last .1 .1 .0) forks-before
+    undoes : laws.Undone (try root) (n root) (f root) (root .args .row .now) (root .args .a .now) (root .args .trail .now) (root .args .tally) (root .args .v .0) (root .args .value) (tried-trail (fruitless c)) (tried-a (fruitless c)) forks-before
     undoes =
-        laws.first-undone (forks before) (first (first-tried c) .assign-to .ensures) (try before) (tried-trail (first-tried c)) (tried-a (first-tried c)) (c .undo .last .1 .1 .0) forks-before
-        (said (first-tried c) (Nothing forks-before) (c .before .before .before .before .before2 .given .1)) (tried-long (first-tried c)) (c .undo .ensures)
+        laws.first-undone (forks root) (first (fruitless c) .assign-to .ensures) (try root) (tried-trail (fruitless c)) (tried-a (fruitless c)) forks-before
+        (said (fruitless c) (Nothing forks-before) (c .before .before2 .given .1)) (tried-long (fruitless c))
 
   -- the other value
   module _ (c : Second) where
     abbrev origin : Call
-    origin = before (undone c)
-
-    abbrev one : FirstTried
-    one = first-tried (undone c)
+    origin = root (first-tried c)
 
     second-state : Searching (n origin) (origin .args .row .now) (c .assign-to2 .last .1 .1 .1 .1 .0) (c .assign-to2 .last .1 .1 .1 .1 .1 .0) (c .assign-to2 .result .settled) (c .assign-to2 .result .broken)
-    second-state = laws.second-searching (undoes (undone c)) (c .assign-to2 .ensures)
+    second-state = laws.branch-searching (undoes (first-tried c) .again) (laws.other (undoes (first-tried c)) (c .assign-to2 .ensures)) (c .assign-to2 .ensures)
 
   -- tried
   module _ (c : SecondTried) where
-    abbrev root : Call
-    root = origin (second c)
+    abbrev begun : Call
+    begun = origin (second c)
 
     abbrev last-a : List ℕ
-    last-a = c .attempt2 .last .1 .1 .1 .1 .0
+    last-a = c .attempt2 .last .1 .1 .1 .1 .1 .1 .1 .0
 
     abbrev last-trail : List ℕ
-    last-trail = c .attempt2 .last .1 .1 .1 .1 .1 .0
+    last-trail = c .attempt2 .last .1 .1 .1 .1 .1 .1 .1 .1 .0
 
-    a-long : length last-a ≡ length (root .args .a .now)
-    a-long = c .attempt2 .kept .1 .1 .1 .1 .0 ∙ second-state (second c) .state .size
+    a-long : length last-a ≡ length (begun .args .a .now)
+    a-long = c .attempt2 .kept .1 .1 .1 .1 .1 .1 .1 .0 ∙ second-state (second c) .state .size
 
-    trail-long : length last-trail ≡ length (root .args .trail .now)
-    trail-long = c .attempt2 .kept .1 .1 .1 .1 .1 .0 ∙ second-state (second c) .long ∙ sym (given root .long)
+    trail-long : length last-trail ≡ length (begun .args .trail .now)
+    trail-long = c .attempt2 .kept .1 .1 .1 .1 .1 .1 .1 .1 .0 ∙ second-state (second c) .long ∙ sym (given begun .long)
 
-    weights-long : length (c .attempt2 .last .1 .1 .1 .1 .1 .1 .0) ≡ length (root .args .weights .now)
-    weights-long = c .attempt2 .kept .1 .1 .1 .1 .1 .1 .0 ∙ one (second c) .attempt .kept .1 .1 .1 .1 .1 .1 .0
+    weights-long : length (c .attempt2 .last .1 .1 .1 .1 .1 .1 .1 .1 .1 .0) ≡ length (begun .args .weights .now)
+    weights-long = c .attempt2 .kept .1 .1 .1 .1 .1 .1 .1 .1 .1 .0 ∙ fruitless (first-tried (second c)) .attempt .kept .1 .1 .1 .1 .1 .1 .1 .1 .1 .0
 
-    marks-long : length (c .attempt2 .last .1 .1 .1 .1 .1 .1 .1 .0) ≡ length (root .args .marks .now)
-    marks-long = c .attempt2 .kept .1 .1 .1 .1 .1 .1 .1 .0 ∙ one (second c) .attempt .kept .1 .1 .1 .1 .1 .1 .1 .0
+    marks-long : length (c .attempt2 .last .1 .1 .1 .1 .1 .1 .1 .1 .1 .1 .0) ≡ length (begun .args .marks .now)
+    marks-long = c .attempt2 .kept .1 .1 .1 .1 .1 .1 .1 .1 .1 .1 .0 ∙ fruitless (first-tried (second c)) .attempt .kept .1 .1 .1 .1 .1 .1 .1 .1 .1 .1 .0
 
   pub assign-to-requires : lts.Need-assign-to-requires (fork-claims t) (fork-at t) fork.Post
   assign-to-requires c κs =
-      let call = entry (c .before .before) in
+      let call = c .before .before .before .before .before .before .before .before .before .before in
       let h = given call in
       let k = forks call .branch in
       let room = laws.branch-room (forks call) in
-      ((k .above, k .upTo, h .long), (omega (arith, room, ready call .few), omega (arith, h .few, room, ready call .few)))
+      ((k .above, k .upTo, omega (arith, k .upTo, ready call .few)), (omega (arith, room, h .long), omega (arith, room, ready call .few), omega (arith, h .few, room, ready call .few)))
 
   pub attempt-requires : lts.Need-attempt-requires (fork-claims t) (fork-at t) fork.Post
   attempt-requires c κs =
-      let first = assigned (c .before .before .before .before) in
+      let first = c .before .before .before .before .before .before .before .before in
       let call = call first in (
-        omega (arith, laws.first-fewer (forks call) (first .assign-to .ensures), call .pre .0),
-        (long-searching (first-state first), ready-still (first-state first .state .size) refl refl (ready call)),
+        omega (arith, laws.branch-fewer (forks call) (forks call .bit) (first .assign-to .ensures), call .pre .0),
+        (long-searching (first-state first), (ready-still (first-state first .state .size) refl refl (ready call), laws.branch-covers (forks call) (forks call .bit) (first .assign-to .ensures))),
       )
 
   pub enum-known-broken : lts.Need-enum-known-broken (fork-claims t) (fork-at t) fork.Post
@@ -203,30 +176,30 @@ module _ (t : ℕ) where
   pub enum-known-before : lts.Need-enum-known-before (fork-claims t) (fork-at t) fork.Post
   enum-known-before c = search needs
 
-  pub undo-requires : lts.Need-undo-requires (fork-claims t) (fork-at t) fork.Post
-  undo-requires c κs =
-      let tried = fruitless (c .before .before) in
-      tried-long tried ∙ given (start tried) .long ∙ sym (tried .attempt .kept .1 .1 .1 .1 .0 ∙ first-state (first tried) .state .size)
-
   pub sub-assign-to : lts.Need-sub-assign-to (fork-claims t) (fork-at t) fork.Post
-  sub-assign-to c = omega (arith, forks (before (c .before .before)) .bit)
+  sub-assign-to c = omega (arith, forks (root c) .bit)
 
   pub assign-to-requires-2 : lts.Need-assign-to-requires-2 (fork-claims t) (fork-at t) fork.Post
   assign-to-requires-2 c κs =
-      let undone = c .before .before .before .before in
-      let call = before undone in
-      let h = undoes undone .state in
-      let k = undoes undone .branch in
+      let fruitless = c .before .before in
+      let call = root fruitless in
+      let h = undoes fruitless .again .state in
+      let k = undoes fruitless .again .branch in
       let room = laws.branch-room (forks call) in
-      ((k .above, omega (arith, k .upTo, h .state .size), h .long ∙ sym (h .state .size)), (omega (arith, room, ready call .few), omega (arith, h .few, room, ready call .few)))
+      ((k .above, omega (arith, k .upTo, h .state .size), omega (arith, k .upTo, ready call .few)), (omega (arith, room, h .long), omega (arith, room, ready call .few), omega (arith, h .few, room, ready call .few)))
 
   pub attempt-requires-2 : lts.Need-attempt-requires-2 (fork-claims t) (fork-at t) fork.Post
   attempt-requires-2 c κs =
-      let second = assigned-other (c .before .before .before .before) in
+      let second = c .before .before .before .before .before .before .before .before in
       let call = origin second in
-      let kept = one second .attempt .kept in (
-        omega (arith, laws.second-fewer (undoes (undone second)) (second .assign-to2 .ensures), call .pre .0),
-        (long-searching (second-state second), ready-still (second-state second .state .size) (kept .1 .1 .1 .1 .1 .1 .0) (kept .1 .1 .1 .1 .1 .1 .1 .0) (ready call)),
+      let u = undoes (first-tried second) in
+      let other = laws.other u (second .assign-to2 .ensures) in
+      let kept = fruitless (first-tried second) .attempt .kept in (
+        omega (arith, laws.branch-fewer (u .again) other (second .assign-to2 .ensures), ap unassigned (u .back), call .pre .0),
+        (
+          long-searching (second-state second),
+          (ready-still (second-state second .state .size) (kept .1 .1 .1 .1 .1 .1 .1 .1 .1 .0) (kept .1 .1 .1 .1 .1 .1 .1 .1 .1 .1 .0) (ready call), laws.branch-covers (u .again) other (second .assign-to2 .ensures)),
+        ),
       )
 
   pub with-forks-requires : lts.Need-with-forks-requires (fork-claims t) (fork-at t) fork.Post
@@ -247,10 +220,10 @@ module _ (t : ℕ) where
   -- the first value has the answer
   pub returns : lts.Need-returns (fork-claims t) (fork-at t) fork.Post
   returns c =
-      let tried = tried-first (c .before .before .before .before) in
+      let tried = c .before .before .before .before .before .before .before .before .before .before .before .before in
       let call = start tried in
       let found = c .before .before .broken .given in
-      laws.first-found (forks call) (first tried .assign-to .ensures) (try call) (tried-trail tried) (tried-a tried) (found .0 .0) (found .0 .1 .0) (c .add-forks .result)
+      laws.first-found (forks call) (forks call .bit) (first tried .assign-to .ensures) (try call) (tried-trail tried) (tried-a tried) refl (found .0 .0) (found .0 .1 .0) (c .add-forks .result)
       (said tried (Found (found .0 .0) (found .0 .1 .0)) (found .1)) (c .add-forks .ensures)
 
   pub same-length-5 : lts.Need-same-length-5 (fork-claims t) (fork-at t) fork.Post
@@ -269,6 +242,6 @@ module _ (t : ℕ) where
   pub returns-2 : lts.Need-returns-2 (fork-claims t) (fork-at t) fork.Post
   returns-2 c =
       let tried = second-tried c in
-      let call = root tried in
-      subst (TriedBy (forkOf (try call) (call .args .a .now) (call .args .v .0) (call .args .value)) (call .args .tally .settled) (call .args .trail .now) (call .args .a .now) (last-trail tried) (last-a tried)) (sym (c .with-forks .ensures))
-      (laws.second-said (undoes (undone (second tried))) (second tried .assign-to2 .ensures) (last-trail tried) (last-a tried) (tried .attempt2 .result) (tried .attempt2 .ensures))
+      let call = begun tried in
+      subst (TriedBy (forkOf (try call) (call .args .a .now) (call .args .v .0) (call .args .value)) (call .args .tally .settled) (call .args .a .now) (call .args .trail .now) (last-trail tried) (last-a tried)) (sym (c .with-forks .ensures))
+      (laws.second-said (undoes (first-tried (second tried))) (second tried .assign-to2 .ensures) (last-trail tried) (last-a tried) (tried .attempt2 .result) (tried .attempt2 .ensures))

@@ -1,0 +1,15 @@
+pub mod Arranging
+pub mod Begins
+pub mod Fillable
+pub mod Filling
+pub mod KeyLaws
+pub mod Keys
+pub mod Members
+pub mod Numbered
+pub mod Occurrences
+pub mod Parts
+pub mod SameRules
+pub mod Sorting
+pub mod Stages
+pub mod Table
+pub mod Theorems

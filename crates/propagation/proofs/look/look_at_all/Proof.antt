@@ -1,0 +1,146 @@
+-- `propagation::look::look_at_all` meets its contract: each turn is one of the laws of `Passing`.
+use mathlib.Core.Path.{_≡_, subst, _∙_}
+use mathlib.Core.List.{[]}
+use Prim.Native.Nat.{ℕ, _-_}
+use native.Mathlib.Omega.{arith}
+use lib.ListN.{length, getD}
+use borrow.Author.Needs.{needs}
+use Rattle.formula.specs.Formula.{clauses}
+use Rattle.unit_queue.specs.Queue.{look}
+use Rattle.propagation.specs.Looked.{pending, LookedBy}
+use Rattle.propagation.specs.Looking.{looking-moved}
+use Rattle.propagation.specs.Loops.{Passing, passing-start, passing-dead, passing-next, passing-end}
+use Rattle.propagation.specs.declared.propagated.Propagated.{Propagated}
+use Rattle.propagation.specs.declared.propagated.Propagated.the-variants.{Dead, Settled}
+use Rattle.propagation.proofs.look.look_at_all.Statement.{statement}
+use Rattle.propagation.proofs.look.look_at_all.Tie as tie
+
+abbrev Inv-loop : tie.InvT-loop
+Inv-loop list begins numbers row d a₀ trail₀ present₀ i₀ a trail present i = Passing (length a₀) (clauses list) row d numbers present₀ a₀ trail₀ i present a trail
+
+abbrev μ-loop : tie.MeasureT-loop
+μ-loop list begins numbers row d a₀ trail₀ present₀ i₀ a trail present i = length numbers - i
+
+-- The points of the program: the call, the head of a turn, and after a clause is looked at.
+abbrev Call : Type 0
+Call = tie.Start Inv-loop μ-loop
+
+abbrev Turn : Type 0
+Turn = tie.At-loop Inv-loop μ-loop
+
+abbrev Looked : Type 0
+Looked = tie.After-look-at Inv-loop μ-loop
+
+abbrev call : Turn → Call
+call c = c .before .before .before .before .before .before
+
+abbrev turn : Looked → Turn
+turn c = c .before .before .before .before .before
+
+-- both slices are as long as at the call
+a-long : (c : Turn) → length (c .loop .a) ≡ length (call c .args .a .now)
+a-long c = c .loop .inv .moved .searching .state .size
+
+trail-long : (c : Turn) → length (c .loop .trail) ≡ length (call c .args .trail .now)
+trail-long c = c .loop .inv .moved .grown .long
+
+-- what looking at the clause came to
+said : (c : Looked) (r : Propagated) → c .look-at .result ≡ r
+    → LookedBy (length (call (turn c) .args .a .now)) (call (turn c) .args .row .now)
+    (λ (head : ℕ). look (call (turn c) .args .row .now) (call (turn c) .args .d) (pending head (turn c .loop .present) (turn c .loop .a) (turn c .loop .trail)) (getD (clauses (call (turn c) .args .list .now)) (getD (call (turn c) .args .numbers .now) (turn c .loop .i) 0 - 1) []))
+    (turn c .loop .present) (turn c .loop .a) (turn c .loop .trail) (c .look-at .last .1 .1 .1 .1 .1 .1 .0) (c .look-at .last .1 .1 .1 .1 .1 .1 .1 .0) r
+said c r e =
+    subst (λ (n : ℕ). LookedBy n (call (turn c) .args .row .now)
+    (λ (head : ℕ). look (call (turn c) .args .row .now) (call (turn c) .args .d) (pending head (turn c .loop .present) (turn c .loop .a) (turn c .loop .trail)) (getD (clauses (call (turn c) .args .list .now)) (getD (call (turn c) .args .numbers .now) (turn c .loop .i) 0 - 1) []))
+    (turn c .loop .present) (turn c .loop .a) (turn c .loop .trail) (c .look-at .last .1 .1 .1 .1 .1 .1 .0) (c .look-at .last .1 .1 .1 .1 .1 .1 .1 .0) r) (a-long (turn c))
+    (subst (λ (q : Propagated). LookedBy (length (turn c .loop .a)) (call (turn c) .args .row .now)
+    (λ (head : ℕ). look (call (turn c) .args .row .now) (call (turn c) .args .d) (pending head (turn c .loop .present) (turn c .loop .a) (turn c .loop .trail)) (getD (clauses (call (turn c) .args .list .now)) (getD (call (turn c) .args .numbers .now) (turn c .loop .i) 0 - 1) []))
+    (turn c .loop .present) (turn c .loop .a) (turn c .loop .trail) (c .look-at .last .1 .1 .1 .1 .1 .1 .0) (c .look-at .last .1 .1 .1 .1 .1 .1 .1 .0) q) e (c .look-at .ensures))
+
+loop-holds : tie.Need-loop-holds Inv-loop μ-loop
+loop-holds c =
+    let call = c .before .before .before .before .before in
+    passing-start (clauses (call .args .list .now)) (call .args .d) (call .args .numbers .now) (call .pre .0 .searching)
+
+mul-t14 : tie.Need-mul-t14 Inv-loop μ-loop
+mul-t14 c = search needs
+
+shared-slice-read-t17 : tie.Need-shared-slice-read-t17 Inv-loop μ-loop
+shared-slice-read-t17 c = search needs
+
+cast-t18 : tie.Need-cast-t18 Inv-loop μ-loop
+cast-t18 c = record { fits = omega (arith, c .shared-slice-known4 .given (c .before .before .loop .i) .fits) }
+
+look-at-requires : tie.Need-look-at-requires Inv-loop μ-loop
+look-at-requires c κs =
+    let tested = c .before .before .before in
+    let turn = tested .before in
+    let call = call turn in
+    let k = call .pre .1 (turn .loop .i) (tested .loop-test .taken) in
+    (looking-moved (call .pre .0) (turn .loop .inv .moved), k)
+
+enum-known-t : tie.Need-enum-known-t Inv-loop μ-loop
+enum-known-t c = search needs
+
+same-length : tie.Need-same-length Inv-loop μ-loop
+same-length c =
+    let looked = c .before .before .before .before .before .before .before in
+    looked .look-at .kept .1 .1 .1 .1 .1 .1 .0 ∙ a-long (turn looked)
+
+same-length-2 : tie.Need-same-length-2 Inv-loop μ-loop
+same-length-2 c =
+    let looked = c .before .before .before .before .before .before .before in
+    looked .look-at .kept .1 .1 .1 .1 .1 .1 .1 .0 ∙ trail-long (turn looked)
+
+returns : tie.Need-returns Inv-loop μ-loop
+returns c =
+    let looked = c .before .before .before .before .before .before .before in
+    let turn = turn looked in
+    passing-dead (turn .loop .inv) (looked .before .before .before .before .loop-test .taken) (said looked (Dead (c .before .t .given .0 .0)) (c .before .t .given .1))
+
+enum-known-t-2 : tie.Need-enum-known-t-2 Inv-loop μ-loop
+enum-known-t-2 c = search needs
+
+add-i : tie.Need-add-i Inv-loop μ-loop
+add-i c = search needs
+
+loop-less : tie.Need-loop-less Inv-loop μ-loop
+loop-less c = search needs
+
+loop-again : tie.Need-loop-again Inv-loop μ-loop
+loop-again c =
+    let looked = c .before .before .before .before .before .before .before in
+    let turn = turn looked in
+    passing-next (turn .loop .inv) (looked .before .before .before .before .loop-test .taken) (said looked (Settled (c .before .t2 .given .0 .0)) (c .before .t2 .given .1))
+
+same-length-3 : tie.Need-same-length-3 Inv-loop μ-loop
+same-length-3 c = a-long (c .before)
+
+same-length-4 : tie.Need-same-length-4 Inv-loop μ-loop
+same-length-4 c = trail-long (c .before)
+
+returns-2 : tie.Need-returns-2 Inv-loop μ-loop
+returns-2 c = passing-end (c .before .loop .inv) (c .loop-test .left)
+
+pub look-at-all-spec : {M : Type 1} → statement M
+look-at-all-spec =
+    tie.close
+    (tie.spec
+    Inv-loop
+    μ-loop
+    loop-holds
+    mul-t14
+    shared-slice-read-t17
+    cast-t18
+    look-at-requires
+    enum-known-t
+    same-length
+    same-length-2
+    returns
+    enum-known-t-2
+    add-i
+    loop-less
+    loop-again
+    same-length-3
+    same-length-4
+    returns-2)

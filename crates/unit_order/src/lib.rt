@@ -1,0 +1,1 @@
+// Unit propagation in any order: theorems only, about definitions of crate walk.

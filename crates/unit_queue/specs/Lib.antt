@@ -1,0 +1,5 @@
+pub mod Due
+pub mod Numbers
+pub mod Queue
+pub mod Reached
+pub mod Theorems
