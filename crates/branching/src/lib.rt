@@ -1,7 +1,6 @@
-// The variable to branch on (document 01, step 4).
+// The best of the candidates to branch on (document 01, step 4), by their weights and marks.
 mod best;
 mod score;
-mod variable;
 
 pub use best::Branch;
-pub use variable::branching_variable;
+pub use best::best_variable;

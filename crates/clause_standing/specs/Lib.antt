@@ -1,4 +1,3 @@
 pub mod Clause
-pub mod Laws
 pub mod Reads
 pub mod Standing

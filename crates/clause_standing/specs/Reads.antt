@@ -1,42 +1,37 @@
 -- A clause that is being read for its standing, literal by literal.
-use mathlib.Core.Path.{_≡_, ap, ap₂, _∙_}
-use mathlib.Core.Bool.{Bool, true, false, cond}
+use mathlib.Core.Path.{_≡_, sym, ap, _∙_}
+use mathlib.Core.Bool.{true, false}
 use mathlib.Core.List.{List, [], _∷_}
 use Prim.Native.Nat.{ℕ, suc, _+_, _≤_, _<_}
 use native.Mathlib.Omega.{arith}
 use lib.IntN.{ℤ, pos}
-use lib.ListN.{length, getD, drop}
+use lib.ListN.{length, getD}
 use Rattle.literal.specs.Literal.{closes, holds}
-use Rattle.formula.specs.Formula.{clauseLength}
+use Rattle.formula.specs.Laws.{length-literal}
 use Rattle.walk.specs.State.{isUnassigned, unassignedIn}
-use Rattle.clause_standing.specs.Clause.{clauseAt, at-literal, at-closed, at-past, Tested, Passing, passing-start, passing-closed, passing-past, passing-found, passing-next}
-use Rattle.clause_standing.specs.Standing.{IsRead}
-use Rattle.clause_standing.specs.declared.Standing.the-variants.{Satisfied, Open}
+use Rattle.clause_standing.specs.Clause.{clauseAt, at-literal, at-closed, at-past, Tested, Passing, passing-start, passing-closed, passing-past, passing-next}
+use Rattle.clause_standing.specs.Standing.{HoldsAt, StandsOpen}
 
 -- of the literals from `from` to i none holds and `count` are unassigned
 pub record Reads (a : List ℕ) (l : List ℤ) (from i count : ℕ) : Type 0 where
+  pub after : from ≤ i
   pub passing : Passing (holds a) l from i
   pub few : count ≤ i
   pub total : unassignedIn a (clauseAt from l) ≡ count + unassignedIn a (clauseAt i l)
 
 pub reads-start : (a : List ℕ) (l : List ℤ) (from : ℕ) → Reads a l from from 0
 reads-start a l from =
-    record { passing = passing-start (holds a) l from; few = omega arith; total = omega arith }
+    record { after = omega arith; passing = passing-start (holds a) l from; few = omega arith; total = omega arith }
 
 module _ (a : List ℕ) (l : List ℤ) (from i count : ℕ) (s : Reads a l from i count) where
   -- the clause's end
-  closed : clauseAt i l ≡ [] → Tested (holds a) l from i false → IsRead a l from i (Open count)
-  closed e t =
-      let all : count ≡ unassignedIn a (clauseAt from l) = omega (arith, s .total, ap (unassignedIn a) e) in
-      record {
-        ends = t .ends;
-        stands = ap₂ (λ (b : Bool) (k : ℕ). cond b Satisfied (Open k)) (t .verdict) all;
-      }
+  closed : clauseAt i l ≡ [] → Tested (holds a) l from i false → StandsOpen a l from i count
+  closed e t = record { ends = t .ends; none = sym (t .verdict); counted = omega (arith, s .total, ap (unassignedIn a) e) }
 
-  pub reads-closed : i < length l → closes (getD l i (pos 0)) ≡ true → IsRead a l from i (Open count)
+  pub reads-closed : i < length l → closes (getD l i (pos 0)) ≡ true → StandsOpen a l from i count
   reads-closed h z = closed (at-closed l i h z) (passing-closed (holds a) l from i (s .passing) h z)
 
-  pub reads-past : length l ≤ i → IsRead a l from i (Open count)
+  pub reads-past : length l ≤ i → StandsOpen a l from i count
   reads-past h = closed (at-past l i h) (passing-past (holds a) l from i (s .passing) h)
 
   module _ (h : i < length l) (literal : closes (getD l i (pos 0)) ≡ false) where
@@ -47,13 +42,9 @@ module _ (a : List ℕ) (l : List ℤ) (from i count : ℕ) (s : Reads a l from 
     next = at-literal l i h literal
 
     -- a literal that holds
-    pub reads-satisfied : holds a x ≡ true → (e : ℕ) → e ≡ i + 1 + clauseLength (drop (i + 1) l) → IsRead a l from e Satisfied
-    reads-satisfied t e q =
-        let found = passing-found (holds a) l from i (s .passing) h literal t e q in
-        record {
-          ends = found .ends;
-          stands = ap (λ (b : Bool). cond b Satisfied (Open (unassignedIn a (clauseAt from l)))) (found .verdict);
-        }
+    pub reads-satisfied : holds a x ≡ true → HoldsAt a l from i
+    reads-satisfied t =
+        record { after = s .after; before = omega (arith, s .passing .far, length-literal l i h literal); held = t }
 
     -- one that does not, unassigned or not
     module _ (t : holds a x ≡ false) where
@@ -61,6 +52,7 @@ module _ (a : List ℕ) (l : List ℤ) (from i count : ℕ) (s : Reads a l from 
       reads-unassigned u =
           let one : unassignedIn a (clauseAt i l) ≡ suc (unassignedIn a (clauseAt (i + 1) l)) = ap (unassignedIn a) next ∙ rw u in
           record {
+            after = omega (arith, s .after);
             passing = passing-next (holds a) l from i (s .passing) h literal t;
             few = omega (arith, s .few);
             total = omega (arith, s .total, one);
@@ -70,6 +62,7 @@ module _ (a : List ℕ) (l : List ℤ) (from i count : ℕ) (s : Reads a l from 
       reads-assigned u =
           let same : unassignedIn a (clauseAt i l) ≡ unassignedIn a (clauseAt (i + 1) l) = ap (unassignedIn a) next ∙ rw u in
           record {
+            after = omega (arith, s .after);
             passing = passing-next (holds a) l from i (s .passing) h literal t;
             few = omega (arith, s .few);
             total = omega (arith, s .total, same);

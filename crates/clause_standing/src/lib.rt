@@ -3,16 +3,11 @@ ghost use mathlib.Core.Path.{_≡_};
 ghost use Rattle.walk.specs.State.{isUnassigned};
 ghost use Rattle.clause_standing.specs.Standing.{IsRead};
 
-// A clause has a literal that holds, or it is open and has so many unassigned literals.
-pub enum Standing {
-    Satisfied,
-    Open(usize),
-}
-
-// A clause of a list: where it ends and how it stands.
-pub struct ReadClause {
-    pub end: usize,
-    pub standing: Standing,
+// A clause of a list that was read: a literal of it holds, at an index of the list; or it is open, ends at an
+// index, and has so many unassigned literals.
+pub enum ReadClause {
+    Satisfied(usize),
+    Open(usize, usize),
 }
 
 // Whether the variable of a literal is unassigned.
@@ -22,34 +17,23 @@ pub fn is_unassigned(x: i32, assignment: &[u8]) -> bool
     literal::value_of(literal::variable_of(x), assignment) == 2
 }
 
-// Reads the clause that begins at an index, each literal once. After one that holds it looks only for
-// the clause's end.
+// Reads the clause that begins at an index, up to the first literal that holds.
 pub fn read_clause(list: &[i32], from: usize, assignment: &[u8]) -> ReadClause
-    ensures { λ r. ⌜ IsRead (now (assignment .entry)) (now (list .entry)) from (r .end) (r .standing) ⌝ }
+    ensures { λ r. ⌜ IsRead (now (assignment .entry)) (now (list .entry)) from r ⌝ }
 {
     let mut count: usize = 0;
     let mut i = from;
     while i < list.len() {
         if literal::closes(list[i]) {
-            return ReadClause {
-                end: i,
-                standing: Standing::Open(count),
-            };
+            return ReadClause::Open(i, count);
         }
         if literal::holds_in(list[i], assignment) {
-            let end = formula::clause_end(list, i + 1);
-            return ReadClause {
-                end: end,
-                standing: Standing::Satisfied,
-            };
+            return ReadClause::Satisfied(i);
         }
         if is_unassigned(list[i], assignment) {
             count += 1;
         }
         i += 1;
     }
-    ReadClause {
-        end: i,
-        standing: Standing::Open(count),
-    }
+    ReadClause::Open(i, count)
 }

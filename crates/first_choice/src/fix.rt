@@ -9,6 +9,7 @@ ghost use lib.ListN.{length};
 ghost use Rattle.formula.specs.Formula.{clauses};
 ghost use Rattle.literal.specs.Literal.{value};
 ghost use Rattle.walk.specs.State.{assign};
+ghost use Rattle.witnesses.specs.Witnesses.{Witnesses};
 ghost use Rattle.first_choice.specs.Fixing.{Fixing};
 ghost use Rattle.first_choice.specs.Refining.{Refining};
 
@@ -25,10 +26,12 @@ pub fn fix(
     i: usize,
     a: &mut [u8],
     trail: &mut [u16],
+    witnesses: &mut [u16],
     choice: &mut [u8],
 ) -> Tally
-    requires { ⌜ Fixing (now list) (now ends) (now numbers) (now begins) (now row) d i tally (now a) (now trail) (now choice) × (i < length (now a)) ⌝ }
-    ensures { λ r. ⌜ Fixing (now (list .entry)) (now (ends .entry)) (now (numbers .entry)) (now (begins .entry)) (now (row .entry)) d (i + 1) r (now (a .exit)) (now (trail .exit)) (now (choice .exit)) ⌝ }
+    requires { ⌜ Fixing (now list) (now ends) (now numbers) (now begins) (now row) d i tally (now a) (now trail) (now choice) × (i < length (now a)) × Witnesses (now list) (now witnesses) ⌝ }
+    ensures fixed { λ r. ⌜ Fixing (now (list .entry)) (now (ends .entry)) (now (numbers .entry)) (now (begins .entry)) (now (row .entry)) d (i + 1) r (now (a .exit)) (now (trail .exit)) (now (choice .exit)) ⌝ }
+    ensures witness { λ r. ⌜ Witnesses (now (list .entry)) (now (witnesses .exit)) ⌝ }
 {
     let v = Variable(i + 1);
     if literal::value_of(v, a) != 2 {
@@ -45,6 +48,7 @@ pub fn fix(
         i,
         a,
         trail,
+        witnesses,
         choice,
     );
     let with = propagation::assign_to(tally, row, v, bit, a, trail);
@@ -64,10 +68,12 @@ fn first_value(
     i: usize,
     a: &[u8],
     trail: &[u16],
+    witnesses: &mut [u16],
     choice: &mut [u8],
 ) -> u8
-    requires { ⌜ Fixing (now list) (now ends) (now numbers) (now begins) (now row) d i tally (now a) (now trail) (now choice) × (i < length (now a)) × (value (now a) (i + 1) ≡ 2) ⌝ }
-    ensures { λ r. ⌜ (r < 2) × Refining (length (now (a .entry))) (clauses (now (list .entry))) (now (row .entry)) d (i + 1) (assign (now (a .entry)) (i + 1) r) (now (choice .exit)) ⌝ }
+    requires { ⌜ Fixing (now list) (now ends) (now numbers) (now begins) (now row) d i tally (now a) (now trail) (now choice) × (i < length (now a)) × (value (now a) (i + 1) ≡ 2) × Witnesses (now list) (now witnesses) ⌝ }
+    ensures refined { λ r. ⌜ (r < 2) × Refining (length (now (a .entry))) (clauses (now (list .entry))) (now (row .entry)) d (i + 1) (assign (now (a .entry)) (i + 1) r) (now (choice .exit)) ⌝ }
+    ensures witness { λ r. ⌜ Witnesses (now (list .entry)) (now (witnesses .exit)) ⌝ }
 {
     let v = Variable(i + 1);
     if literal::value_of(v, choice) == 0 {
@@ -84,6 +90,7 @@ fn first_value(
         v,
         a,
         trail,
+        witnesses,
         choice,
     )
 }

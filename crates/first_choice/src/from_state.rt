@@ -16,6 +16,7 @@ ghost use Rattle.try_and_fork.specs.Ready.{Ready};
 ghost use Rattle.walk.specs.Promises.{Branches};
 ghost use Rattle.walk.specs.State.{assign};
 ghost use Rattle.walk.specs.Walk.{walkFrom};
+ghost use Rattle.witnesses.specs.Witnesses.{Witnesses};
 ghost use Rattle.first_choice.specs.Refining.{valueAfter, handAfter};
 
 // The variable's value in the first choice: off where the walk finds an answer, which is then the
@@ -31,12 +32,14 @@ pub fn value_by_walk(
     v: Variable,
     a: &[u8],
     trail: &[u16],
+    witnesses: &mut [u16],
     choice: &mut [u8],
 ) -> u8
     requires { ⌜ Searching (length (now a)) (now row) (now a) (now trail) (tally .settled) (tally .broken) × Branches (now a) (length (now a)) (v .0) × NoneDue (clauses (now list)) (now a) ⌝ }
-    requires { ⌜ SoundList (length (now a)) (now list) × Beside (length (now a)) (now list) (now ends) (now numbers) (now begins) × (length (now a) ≤ maxVariables) × (length (now choice) ≡ length (now a)) ⌝ }
+    requires { ⌜ SoundList (length (now a)) (now list) × Beside (length (now a)) (now list) (now ends) (now numbers) (now begins) × (length (now a) ≤ maxVariables) × (length (now choice) ≡ length (now a)) × Witnesses (now list) (now witnesses) ⌝ }
     ensures value { λ r. ⌜ r ≡ valueAfter (walkFrom (clauses (now (list .entry))) (now (row .entry)) d (assign (now (a .entry)) (v .0) 0) .answer) ⌝ }
     ensures hand { λ r. ⌜ now (choice .exit) ≡ handAfter (now (choice .entry)) (walkFrom (clauses (now (list .entry))) (now (row .entry)) d (assign (now (a .entry)) (v .0) 0) .answer) ⌝ }
+    ensures witness { λ r. ⌜ Witnesses (now (list .entry)) (now (witnesses .exit)) ⌝ }
 {
     let n = a.len();
     let mut values = walk_tables::no_values();
@@ -59,6 +62,7 @@ pub fn value_by_walk(
         trail,
         &mut values[..n],
         &mut trace[..n],
+        witnesses,
         &mut weights[..literals],
         &mut marks[..variables],
         choice,
@@ -79,15 +83,17 @@ fn value_in(
     trail: &[u16],
     values: &mut [u8],
     trace: &mut [u16],
+    witnesses: &mut [u16],
     weights: &mut [u64],
     marks: &mut [u64],
     choice: &mut [u8],
 ) -> u8
     requires { ⌜ Searching (length (now a)) (now row) (now a) (now trail) (tally .settled) (tally .broken) × Branches (now a) (length (now a)) (v .0) × NoneDue (clauses (now list)) (now a) ⌝ }
-    requires { ⌜ Ready (now list) (now ends) (now numbers) (now begins) (length (now a)) (length (now weights)) (length (now marks)) ⌝ }
+    requires { ⌜ Ready (now list) (now ends) (now numbers) (now begins) (now witnesses) (length (now a)) (length (now weights)) (length (now marks)) ⌝ }
     requires { ⌜ (length (now values) ≡ length (now a)) × (length (now trace) ≡ length (now a)) × (length (now choice) ≡ length (now a)) ⌝ }
     ensures value { λ r. ⌜ r ≡ valueAfter (walkFrom (clauses (now (list .entry))) (now (row .entry)) d (assign (now (a .entry)) (v .0) 0) .answer) ⌝ }
     ensures hand { λ r. ⌜ now (choice .exit) ≡ handAfter (now (choice .entry)) (walkFrom (clauses (now (list .entry))) (now (row .entry)) d (assign (now (a .entry)) (v .0) 0) .answer) ⌝ }
+    ensures witness { λ r. ⌜ Witnesses (now (list .entry)) (now (witnesses .exit)) ⌝ }
 {
     walk_tables::copy_to(a, values);
     walk_tables::copy_trail(trail, trace);
@@ -102,6 +108,7 @@ fn value_in(
         off,
         values,
         trace,
+        witnesses,
         weights,
         marks,
     ) {

@@ -15,6 +15,7 @@ ghost use Rattle.occurrences.specs.Table.{Beside};
 ghost use Rattle.root_walk.specs.Into.{Startable};
 ghost use Rattle.rule_list.specs.Sound.{SoundList};
 ghost use Rattle.searches.specs.Searches.{withBroken, choiceAfter};
+ghost use Rattle.witnesses.specs.Witnesses.{Witnesses};
 
 // A choice begins with a model within the limit d; the first such model takes its place.
 pub fn make_first(
@@ -25,9 +26,10 @@ pub fn make_first(
     begins: &[u16],
     row: &[u8],
     d: usize,
+    witnesses: &mut [u16],
     choice: &mut [u8],
 )
-    requires { ⌜ Startable n (now list) (length (now choice)) × Beside n (now list) (now ends) (now numbers) (now begins) ⌝ }
+    requires { ⌜ Startable n (now list) (length (now choice)) × Beside n (now list) (now ends) (now numbers) (now begins) × Witnesses (now list) (now witnesses) ⌝ }
     requires { ⌜ Model n (clauses (now list)) (take n (now choice)) × (disagreement (now row) (take n (now choice)) ≤ d) ⌝ }
     ensures { λ _. ⌜ now (choice .exit) ≡ choiceAfter none (withBroken (now (row .entry)) (firstWithin n (now (list .entry)) (now (row .entry)) d)) n (now (choice .entry)) ⌝ }
 {
@@ -42,6 +44,7 @@ pub fn make_first(
         d,
         &mut a[..n],
         &mut trail[..n],
+        witnesses,
         &mut choice[..n],
     );
 }
@@ -56,9 +59,10 @@ fn refine(
     d: usize,
     a: &mut [u8],
     trail: &mut [u16],
+    witnesses: &mut [u16],
     choice: &mut [u8],
 )
-    requires { ⌜ (length (now a) ≤ maxVariables) × SoundList (length (now a)) (now list) × Beside (length (now a)) (now list) (now ends) (now numbers) (now begins) × (length (now trail) ≡ length (now a)) ⌝ }
+    requires { ⌜ (length (now a) ≤ maxVariables) × SoundList (length (now a)) (now list) × Beside (length (now a)) (now list) (now ends) (now numbers) (now begins) × (length (now trail) ≡ length (now a)) × Witnesses (now list) (now witnesses) ⌝ }
     requires { ⌜ Model (length (now a)) (clauses (now list)) (now choice) × (disagreement (now row) (now choice) ≤ d) ⌝ }
     ensures { λ _. ⌜ FirstWithin (length (now (a .entry))) (clauses (now (list .entry))) (now (row .entry)) d (now (choice .exit)) ⌝ }
 {
@@ -81,6 +85,7 @@ fn refine(
             i,
             a,
             trail,
+            witnesses,
             choice,
         );
         i += 1;

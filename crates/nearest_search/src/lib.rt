@@ -13,6 +13,7 @@ ghost use Rattle.root_walk.specs.Into.{Startable};
 ghost use Rattle.searches.specs.Answers.{replyOf, NearestMeans, searchedOf};
 ghost use Rattle.searches.specs.Searches.{nearestReply, nearestAnswer, nearestChoice, brokenBy, choiceAfter};
 ghost use Rattle.walk.specs.Nearest.{nearestWalk};
+ghost use Rattle.witnesses.specs.Witnesses.{Witnesses};
 
 // Searches from what was lent; a choice that is found goes to the first n bytes of the lent choice.
 pub fn search(n: usize, rules: &[i32], row: &[u8], choice: &mut [u8]) -> Searched
@@ -38,6 +39,9 @@ fn first_nearest(n: usize, rules: &[i32], row: &[u8], last: usize, choice: &mut 
     let mut begins = walk_tables::no_begins();
     let literals = 2 * n + 2;
     occurrences::arrange(n, rules, &mut ends[..literals], &mut numbers, &mut begins);
+    // at first the literal at which its clause begins is the witness
+    let mut witnesses = begins;
+    let clauses = ends[1] as usize;
     nearest_with(
         n,
         rules,
@@ -46,6 +50,7 @@ fn first_nearest(n: usize, rules: &[i32], row: &[u8], last: usize, choice: &mut 
         &begins,
         row,
         last,
+        &mut witnesses[..clauses],
         choice,
     )
 }
@@ -59,15 +64,36 @@ fn nearest_with(
     begins: &[u16],
     row: &[u8],
     last: usize,
+    witnesses: &mut [u16],
     choice: &mut [u8],
 ) -> Searched
-    requires { ⌜ Startable n (now rules) (length (now choice)) × (last ≡ totalWeight (now row)) × Beside n (now rules) (now ends) (now numbers) (now begins) ⌝ }
+    requires { ⌜ Startable n (now rules) (length (now choice)) × (last ≡ totalWeight (now row)) × Beside n (now rules) (now ends) (now numbers) (now begins) × Witnesses (now rules) (now witnesses) ⌝ }
     ensures answer { λ r. ⌜ r ≡ searchedOf (brokenBy (nearestAnswer n (now (rules .entry)) (now (row .entry)))) ⌝ }
     ensures output { λ r. ⌜ now (choice .exit) ≡ choiceAfter none (nearestAnswer n (now (rules .entry)) (now (row .entry))) n (now (choice .entry)) ⌝ }
 {
-    let answer = climb(n, rules, ends, numbers, begins, row, last, choice);
+    let answer = climb(
+        n,
+        rules,
+        ends,
+        numbers,
+        begins,
+        row,
+        last,
+        witnesses,
+        choice,
+    );
     if let Searched::Found(broken) = answer {
-        first_choice::make_first(n, rules, ends, numbers, begins, row, broken, choice);
+        first_choice::make_first(
+            n,
+            rules,
+            ends,
+            numbers,
+            begins,
+            row,
+            broken,
+            witnesses,
+            choice,
+        );
     }
     answer
 }
@@ -82,11 +108,13 @@ fn climb(
     begins: &[u16],
     row: &[u8],
     last: usize,
+    witnesses: &mut [u16],
     choice: &mut [u8],
 ) -> Searched
-    requires { ⌜ Startable n (now rules) (length (now choice)) × (last ≡ totalWeight (now row)) × Beside n (now rules) (now ends) (now numbers) (now begins) ⌝ }
+    requires { ⌜ Startable n (now rules) (length (now choice)) × (last ≡ totalWeight (now row)) × Beside n (now rules) (now ends) (now numbers) (now begins) × Witnesses (now rules) (now witnesses) ⌝ }
     ensures answer { λ r. ⌜ r ≡ searchedOf (brokenBy (nearestWalk n (clauses (now (rules .entry))) (now (row .entry)))) ⌝ }
     ensures output { λ r. ⌜ now (choice .exit) ≡ choiceAfter none (nearestWalk n (clauses (now (rules .entry))) (now (row .entry))) n (now (choice .entry)) ⌝ }
+    ensures witness { λ r. ⌜ Witnesses (now (rules .entry)) (now (witnesses .exit)) ⌝ }
 {
     let mut d: usize = 0;
     while d < last {
@@ -98,11 +126,22 @@ fn climb(
             begins,
             row,
             d,
+            witnesses,
             choice,
         ) {
             return Searched::Found(broken);
         }
         d += 1;
     }
-    walk_result::answer_of(root_walk::walk_with(n, rules, ends, numbers, begins, row, d, choice))
+    walk_result::answer_of(root_walk::walk_with(
+        n,
+        rules,
+        ends,
+        numbers,
+        begins,
+        row,
+        d,
+        witnesses,
+        choice,
+    ))
 }

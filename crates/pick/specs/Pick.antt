@@ -1,18 +1,18 @@
 -- Where a state forks: steps 3 and 4 of the walk, as one answer.
 use mathlib.Core.Path.{_≡_, refl, sym, ap, ap₂, subst, _∙_}
-use mathlib.Core.Bool.{Bool, true, false, _&&_}
+use mathlib.Core.Bool.{Bool, true, false, _&&_, true≢false}
 use mathlib.Core.List.{List}
 use mathlib.Core.Option.{Option, none, some}
 use Prim.Native.Nat.{ℕ, _<_}
 use native.Mathlib.Omega.{arith}
-use lib.Dec.{eqb}
 use lib.IntN.{ℤ}
 use Rattle.literal.specs.declared.Variable.{Variable}
-use Rattle.formula.specs.Formula.{models}
+use borrow.Author.Tests.{eq-eqb, ne-eqb}
+use Rattle.formula.specs.Formula.{any, models}
 use Rattle.distance.specs.Distance.{disagreement}
 use Rattle.opposed.specs.Laws.{any-opposed}
 use Rattle.opposed.specs.Opposed.{someOpposed}
-use Rattle.walk.specs.Branching.{fewest, branchingVariable}
+use Rattle.walk.specs.Branching.{isOpposed, fewest, branchingVariable}
 use Rattle.walk.specs.BranchingLaws.{branching-sound}
 use Rattle.walk.specs.Promises.{Branches}
 use Rattle.walk.specs.State.{State}
@@ -24,15 +24,23 @@ use Rattle.pick.specs.declared.Pick.the-variants.{DeadEnd, Branch}
 abbrev pub variable : ℕ → Variable
 variable v = record { 0 = v }
 
--- "it is a dead end" (step 3), else the branching variable (step 4) and the value that is tried first (step 5)
+-- the branching variable (step 4) and the value that is tried first (step 5)
+abbrev pub branchOn : List ℕ → Option ℕ → Option ℕ → Pick
+branchOn row size none = DeadEnd
+branchOn row size (some v) = Branch (variable v) (firstValue row size v)
+
+-- "it is a dead end" (step 3), or else that
 abbrev pub picked : Bool → List ℕ → Option ℕ → Option ℕ → Pick
 picked true row size v = DeadEnd
-picked false row size none = DeadEnd
-picked false row size (some v) = Branch (variable v) (firstValue row size v)
+picked false row size v = branchOn row size v
 
 -- what steps 3 to 5 say of a state
 abbrev pub pickOf : List (List ℤ) → List ℕ → ℕ → List ℕ → Pick
 pickOf f row d a = picked (isExhausted f row d a) row (fewest row a f) (branchingVariable row a f)
+
+-- and where as many wishes are broken as may be
+abbrev pub pickSpent : List (List ℤ) → List ℕ → List ℕ → Pick
+pickSpent f row a = picked (any (isOpposed row a) f) row (fewest row a f) (branchingVariable row a f)
 
 clash : {v : Variable} {c : ℕ} → DeadEnd ≡ Branch v c → ⊥
 clash e = let z : _≡_ {A = ℕ} 0 1 = cc in omega arith
@@ -73,17 +81,27 @@ module _ (f : List (List ℤ)) (row : List ℕ) (d : ℕ) (try : List ℕ → Ou
             subst (λ (k : ℕ). k < 2) first (first-bit row (fewest row a f) u),
           )
 
--- the answer, from what was found out step by step
-module _ (f : List (List ℤ)) (row : List ℕ) (d : ℕ) (a : List ℕ) (broken : ℕ) (breaks : broken ≡ disagreement row a) (size : Option ℕ) (short : size ≡ fewest row a f) where
-  exhausted : (t : Bool) → t ≡ eqb broken d && someOpposed size → isExhausted f row d a ≡ t
-  exhausted t e = rw (e, breaks, short, any-opposed row a f)
+-- the answer, by whether the limit is spent
+module _ (f : List (List ℤ)) (row : List ℕ) (d : ℕ) (a : List ℕ) (broken : ℕ) (breaks : broken ≡ disagreement row a) where
+  pub pick-spent : broken ≡ d → pickSpent f row a ≡ pickOf f row d a
+  pick-spent e = sym (ap (λ (b : Bool). picked (b && any (isOpposed row a) f) row (fewest row a f) (branchingVariable row a f)) (eq-eqb (disagreement row a) d (sym breaks ∙ e)))
 
-  pub at-limit : (t : Bool) → t ≡ eqb broken d && someOpposed size → t ≡ true → DeadEnd ≡ pickOf f row d a
-  at-limit t e q = sym (ap (λ (u : Bool). picked u row (fewest row a f) (branchingVariable row a f)) (exhausted t e ∙ q))
+  pub pick-below : (broken ≡ d → ⊥) → branchOn row (fewest row a f) (branchingVariable row a f) ≡ pickOf f row d a
+  pick-below e = sym (ap (λ (b : Bool). picked (b && any (isOpposed row a) f) row (fewest row a f) (branchingVariable row a f)) (ne-eqb (disagreement row a) d (λ q. e (breaks ∙ q))))
 
-  module _ (t : Bool) (e : t ≡ eqb broken d && someOpposed size) (q : t ≡ false) where
-    pub no-branch : branchingVariable row a f ≡ none → DeadEnd ≡ pickOf f row d a
-    no-branch b = rw (exhausted t e, q, b)
+-- where it is: some clause is opposed, or none is
+module _ (f : List (List ℤ)) (row a : List ℕ) where
+  pub spent-dead : any (isOpposed row a) f ≡ true → DeadEnd ≡ pickSpent f row a
+  spent-dead e = sym (ap (λ (b : Bool). picked b row (fewest row a f) (branchingVariable row a f)) e)
 
-    pub branch-on : (v : Variable) (c : ℕ) → branchingVariable row a f ≡ some (v .0) → c ≡ firstValue row size (v .0) → Branch v c ≡ pickOf f row d a
-    branch-on v c b w = rw (exhausted t e, q, b, w, short)
+  pub none-fewest : any (isOpposed row a) f ≡ false → none ≡ fewest row a f
+  none-fewest e = go (fewest row a f) (sym (any-opposed row a f) ∙ e)
+    where
+      go : (o : Option ℕ) → someOpposed o ≡ false → none ≡ o
+      go none q = refl
+      go (some k) q = absurd (true≢false q)
+
+  pub spent-branch : any (isOpposed row a) f ≡ false → branchOn row none (branchingVariable row a f) ≡ pickSpent f row a
+  spent-branch e =
+      ap (λ (o : Option ℕ). branchOn row o (branchingVariable row a f)) (none-fewest e)
+      ∙ sym (ap (λ (b : Bool). picked b row (fewest row a f) (branchingVariable row a f)) e)

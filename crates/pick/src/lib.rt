@@ -3,16 +3,18 @@ use branching::Branch;
 use literal::Variable;
 use opposed::Fewest;
 ghost use mathlib.Core.Path.{_≡_};
-ghost use mathlib.Core.Bool.{_&&_};
 ghost use Prim.Native.Nat.{_+_, _*_, _<_};
-ghost use lib.Dec.{eqb};
 ghost use lib.ListN.{length};
 ghost use Rattle.formula.specs.Formula.{clauses};
 ghost use Rattle.distance.specs.Distance.{disagreement};
 ghost use Rattle.rule_list.specs.Sound.{SoundList};
-ghost use Rattle.opposed.specs.Opposed.{sizeOf, someOpposed, NoneShort};
+ghost use Rattle.occurrences.specs.Table.{Located};
+ghost use Rattle.witnesses.specs.Witnesses.{Witnesses};
+ghost use Rattle.opposed.specs.Opposed.{sizeOf, NoneShort};
+ghost use Rattle.branching.specs.Branch.{scoreBy, candidateBy, Scorable};
+ghost use Rattle.walk.specs.Branching.{best};
 ghost use Rattle.walk.specs.Walk.{firstValue};
-ghost use Rattle.pick.specs.Pick.{pickOf};
+ghost use Rattle.pick.specs.Pick.{branchOn, pickSpent, pickOf};
 
 // A dead end, or the branching variable with the value that it takes first.
 pub enum Pick {
@@ -20,40 +22,86 @@ pub enum Pick {
     Branch(Variable, u8),
 }
 
-// Decides a propagated state that its completion does not settle. The numbers to weigh with are lent
-// from the root: as locals they would stand in the frame of every level into which this is inlined.
+// Decides a propagated state that its completion does not settle. The numbers to weigh with and the witnesses
+// are lent from the root: as locals they would stand in the frame of every level into which this is inlined.
 pub fn pick_branch(
     list: &[i32],
+    begins: &[u16],
     row: &[u8],
     d: usize,
     broken: usize,
     a: &[u8],
+    witnesses: &mut [u16],
     weights: &mut [u64],
     marks: &mut [u64],
 ) -> Pick
     requires { ⌜ (broken ≡ disagreement (now row) (now a)) × (SoundList (length (now a)) (now list)) ⌝ }
     requires { ⌜ (2 * length (now a) + 1 < length (now weights)) × (length (now a) < length (now marks)) ⌝ }
     requires { ⌜ NoneShort (now row) (now a) (clauses (now list)) ⌝ }
-    ensures { λ r. ⌜ r ≡ pickOf (clauses (now (list .entry))) (now (row .entry)) d (now (a .entry)) ⌝ }
+    requires { ⌜ Located (now list) (now begins) × Witnesses (now list) (now witnesses) ⌝ }
+    ensures pick { λ r. ⌜ r ≡ pickOf (clauses (now (list .entry))) (now (row .entry)) d (now (a .entry)) ⌝ }
+    ensures witness { λ r. ⌜ Witnesses (now (list .entry)) (now (witnesses .exit)) ⌝ }
 {
+    if broken == d {
+        return pick_at_limit(list, begins, row, a, witnesses, weights, marks);
+    }
     let size = opposed::fewest_opposed(list, row, a);
-    if is_exhausted(size, broken, d) {
+    weighing::weigh_list(
+        list,
+        begins,
+        row,
+        a,
+        size,
+        false,
+        &mut *witnesses,
+        &mut *weights,
+        &mut *marks,
+    );
+    best_branch(row, size, a, weights, marks)
+}
+
+// The same where the limit is spent. An opposed clause is a dead end there, and the weighing stops at it; so it
+// goes on as if there were none, and the list is read once.
+fn pick_at_limit(
+    list: &[i32],
+    begins: &[u16],
+    row: &[u8],
+    a: &[u8],
+    witnesses: &mut [u16],
+    weights: &mut [u64],
+    marks: &mut [u64],
+) -> Pick
+    requires { ⌜ SoundList (length (now a)) (now list) ⌝ }
+    requires { ⌜ (2 * length (now a) + 1 < length (now weights)) × (length (now a) < length (now marks)) ⌝ }
+    requires { ⌜ Located (now list) (now begins) × Witnesses (now list) (now witnesses) ⌝ }
+    ensures pick { λ r. ⌜ r ≡ pickSpent (clauses (now (list .entry))) (now (row .entry)) (now (a .entry)) ⌝ }
+    ensures witness { λ r. ⌜ Witnesses (now (list .entry)) (now (witnesses .exit)) ⌝ }
+{
+    if weighing::weigh_list(
+        list,
+        begins,
+        row,
+        a,
+        Fewest::Nothing,
+        true,
+        &mut *witnesses,
+        &mut *weights,
+        &mut *marks,
+    ) {
         return Pick::DeadEnd;
     }
-    match branching::branching_variable(list, row, a, size, weights, marks) {
+    best_branch(row, Fewest::Nothing, a, weights, marks)
+}
+
+// The best variable by the weights and the marks, with its first value.
+fn best_branch(row: &[u8], size: Fewest, a: &[u8], weights: &[u64], marks: &[u64]) -> Pick
+    requires { ⌜ Scorable (length (now a)) (now weights) (now marks) ⌝ }
+    ensures { λ r. ⌜ r ≡ branchOn (now (row .entry)) (sizeOf size) (best (candidateBy (now (a .entry)) (now (marks .entry))) (scoreBy (now (weights .entry))) (length (now (a .entry)))) ⌝ }
+{
+    match branching::best_variable(a, weights, marks) {
         // some clause is open here, so this does not occur
         Branch::Nothing => Pick::DeadEnd,
         Branch::On(v) => Pick::Branch(v, first_value(row, size, v)),
-    }
-}
-
-// Whether a clause asks for one more broken wish than may be.
-fn is_exhausted(size: Fewest, broken: usize, d: usize) -> bool
-    ensures { λ r. ⌜ r ≡ eqb broken d && someOpposed (sizeOf size) ⌝ }
-{
-    match size {
-        Fewest::Nothing => false,
-        Fewest::Literals(_) => broken == d,
     }
 }
 

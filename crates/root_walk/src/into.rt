@@ -5,6 +5,7 @@ ghost use lib.ListN.{length};
 ghost use Rattle.formula.specs.Formula.{clauses};
 ghost use Rattle.walk.specs.Walk.{walk};
 ghost use Rattle.occurrences.specs.Table.{Beside};
+ghost use Rattle.witnesses.specs.Witnesses.{Witnesses};
 ghost use Rattle.root_walk.specs.Into.{Startable, Reaches};
 
 // Arranges the clauses, and walks from the root; where that finds an answer, it stands in the first n
@@ -18,6 +19,9 @@ pub fn walk_into(n: usize, list: &[i32], row: &[u8], d: usize, choice: &mut [u8]
     let mut begins = walk_tables::no_begins();
     let literals = 2 * n + 2;
     occurrences::arrange(n, list, &mut ends[..literals], &mut numbers, &mut begins);
+    // at first the literal at which its clause begins is the witness
+    let mut witnesses = begins;
+    let clauses = ends[1] as usize;
     walk_with(
         n,
         list,
@@ -26,11 +30,12 @@ pub fn walk_into(n: usize, list: &[i32], row: &[u8], d: usize, choice: &mut [u8]
         &begins,
         row,
         d,
+        &mut witnesses[..clauses],
         choice,
     )
 }
 
-// The same with the arrangement beside the list.
+// The same with the arrangement beside the list, and the clauses' witnesses.
 pub fn walk_with(
     n: usize,
     list: &[i32],
@@ -39,10 +44,12 @@ pub fn walk_with(
     begins: &[u16],
     row: &[u8],
     d: usize,
+    witnesses: &mut [u16],
     choice: &mut [u8],
 ) -> Tried
-    requires { ⌜ Startable n (now list) (length (now choice)) × Beside n (now list) (now ends) (now numbers) (now begins) ⌝ }
-    ensures { λ r. ⌜ Reaches (walk n (clauses (now (list .entry))) (now (row .entry)) d) n (now (choice .entry)) (now (choice .exit)) r ⌝ }
+    requires { ⌜ Startable n (now list) (length (now choice)) × Beside n (now list) (now ends) (now numbers) (now begins) × Witnesses (now list) (now witnesses) ⌝ }
+    ensures reached { λ r. ⌜ Reaches (walk n (clauses (now (list .entry))) (now (row .entry)) d) n (now (choice .entry)) (now (choice .exit)) r ⌝ }
+    ensures witness { λ r. ⌜ Witnesses (now (list .entry)) (now (witnesses .exit)) ⌝ }
 {
     let mut a = walk_tables::no_values();
     let mut trail = walk_tables::no_trail();
@@ -60,6 +67,7 @@ pub fn walk_with(
         d,
         &mut a[..n],
         &mut trail[..n],
+        witnesses,
         &mut weights[..literals],
         &mut marks[..variables],
     ) {

@@ -8,6 +8,7 @@ ghost use mathlib.Core.Path.{_≡_};
 ghost use lib.ListN.{length};
 ghost use Rattle.formula.specs.Formula.{clauses};
 ghost use Rattle.walk.specs.Walk.{walk};
+ghost use Rattle.witnesses.specs.Witnesses.{Witnesses};
 ghost use Rattle.try_and_fork.specs.Ready.{Ready};
 ghost use Rattle.root_walk.specs.Root.{RootSays};
 pub use into::walk_into;
@@ -23,11 +24,13 @@ pub fn walk_from_root(
     d: usize,
     a: &mut [u8],
     trail: &mut [u16],
+    witnesses: &mut [u16],
     weights: &mut [u64],
     marks: &mut [u64],
 ) -> Tried
-    requires { ⌜ (length (now trail) ≡ length (now a)) × Ready (now list) (now ends) (now numbers) (now begins) (length (now a)) (length (now weights)) (length (now marks)) ⌝ }
-    ensures { λ r. ⌜ RootSays (walk (length (now (a .entry))) (clauses (now (list .entry))) (now (row .entry)) d) (now (a .exit)) r ⌝ }
+    requires { ⌜ (length (now trail) ≡ length (now a)) × Ready (now list) (now ends) (now numbers) (now begins) (now witnesses) (length (now a)) (length (now weights)) (length (now marks)) ⌝ }
+    ensures root { λ r. ⌜ RootSays (walk (length (now (a .entry))) (clauses (now (list .entry))) (now (row .entry)) d) (now (a .exit)) r ⌝ }
+    ensures witness { λ r. ⌜ Witnesses (now (list .entry)) (now (witnesses .exit)) ⌝ }
 {
     walk_tables::unassign_all(a);
     let tally = Tally {
@@ -46,6 +49,7 @@ pub fn walk_from_root(
             t,
             a,
             trail,
+            witnesses,
             weights,
             marks,
         ),

@@ -14,6 +14,7 @@ ghost use Rattle.propagation.specs.Searching.{Searching};
 ghost use Rattle.unit_queue.specs.Theorems.{Covers};
 ghost use Rattle.walk.specs.Promises.{Branches};
 ghost use Rattle.walk.specs.Walk.{fork as forkOf, walkFrom};
+ghost use Rattle.witnesses.specs.Witnesses.{Witnesses};
 ghost use Rattle.try_and_fork.specs.AttemptLaws.{newest, before};
 ghost use Rattle.unit_queue.specs.Due.{NoneDue};
 ghost use Rattle.try_and_fork.specs.Ready.{Ready};
@@ -31,13 +32,15 @@ pub fn attempt(
     tally: Tally,
     a: &mut [u8],
     trail: &mut [u16],
+    witnesses: &mut [u16],
     weights: &mut [u64],
     marks: &mut [u64],
 ) -> Tried
     requires { ⌜ Searching (length (now a)) (now row) (now a) (now trail) (tally .settled) (tally .broken) ⌝ }
-    requires { ⌜ Ready (now list) (now ends) (now numbers) (now begins) (length (now a)) (length (now weights)) (length (now marks)) ⌝ }
+    requires { ⌜ Ready (now list) (now ends) (now numbers) (now begins) (now witnesses) (length (now a)) (length (now weights)) (length (now marks)) ⌝ }
     requires { ⌜ Covers (clauses (now list)) (pending (newest tally) tally (now a) (now trail)) ⌝ }
-    ensures { λ r. ⌜ TriedBy (walkFrom (clauses (now (list .entry))) (now (row .entry)) d (now (a .entry))) (newest tally) (before tally (now (a .entry)) (now (trail .entry))) (now (trail .entry)) (now (trail .exit)) (now (a .exit)) r ⌝ }
+    ensures tried { λ r. ⌜ TriedBy (walkFrom (clauses (now (list .entry))) (now (row .entry)) d (now (a .entry))) (newest tally) (before tally (now (a .entry)) (now (trail .entry))) (now (trail .entry)) (now (trail .exit)) (now (a .exit)) r ⌝ }
+    ensures witness { λ r. ⌜ Witnesses (now (list .entry)) (now (witnesses .exit)) ⌝ }
 {
     let from = newest_of(tally.settled);
     match propagation::propagate_units(list, ends, numbers, begins, row, d, from, tally, a, trail) {
@@ -47,7 +50,7 @@ pub fn attempt(
                 completion::fill_completion(row, a);
                 return Tried::Found(t.broken, 0);
             }
-            match pick::pick_branch(list, row, d, t.broken, a, weights, marks) {
+            match pick::pick_branch(list, begins, row, d, t.broken, a, witnesses, weights, marks) {
                 Pick::DeadEnd => unwind(Tried::Nothing(0), from, t.settled, trail, a),
                 Pick::Branch(v, value) => {
                     let tried = fork(
@@ -62,6 +65,7 @@ pub fn attempt(
                         value,
                         a,
                         trail,
+                        witnesses,
                         weights,
                         marks,
                     );
@@ -86,13 +90,15 @@ fn fork(
     value: u8,
     a: &mut [u8],
     trail: &mut [u16],
+    witnesses: &mut [u16],
     weights: &mut [u64],
     marks: &mut [u64],
 ) -> Tried
     requires { ⌜ Searching (length (now a)) (now row) (now a) (now trail) (tally .settled) (tally .broken) ⌝ }
-    requires { ⌜ Ready (now list) (now ends) (now numbers) (now begins) (length (now a)) (length (now weights)) (length (now marks)) ⌝ }
+    requires { ⌜ Ready (now list) (now ends) (now numbers) (now begins) (now witnesses) (length (now a)) (length (now weights)) (length (now marks)) ⌝ }
     requires { ⌜ Branches (now a) (length (now a)) (v .0) × (value < 2) × NoneDue (clauses (now list)) (now a) ⌝ }
-    ensures { λ r. ⌜ TriedBy (forkOf (walkFrom (clauses (now (list .entry))) (now (row .entry)) d) (now (a .entry)) (v .0) value) (tally .settled) (now (a .entry)) (now (trail .entry)) (now (trail .exit)) (now (a .exit)) r ⌝ }
+    ensures tried { λ r. ⌜ TriedBy (forkOf (walkFrom (clauses (now (list .entry))) (now (row .entry)) d) (now (a .entry)) (v .0) value) (tally .settled) (now (a .entry)) (now (trail .entry)) (now (trail .exit)) (now (a .exit)) r ⌝ }
+    ensures witness { λ r. ⌜ Witnesses (now (list .entry)) (now (witnesses .exit)) ⌝ }
 {
     let first = propagation::assign_to(tally, row, v, value, a, trail);
     match attempt(
@@ -105,6 +111,7 @@ fn fork(
         first,
         a,
         trail,
+        witnesses,
         weights,
         marks,
     ) {
@@ -123,6 +130,7 @@ fn fork(
                     second,
                     a,
                     trail,
+                    witnesses,
                     weights,
                     marks,
                 ),

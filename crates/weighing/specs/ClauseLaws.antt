@@ -1,4 +1,4 @@
--- What a clause weighs, and whether it gives candidates, by its standing.
+-- What a clause weighs, and whether it gives candidates: a satisfied one, and an open one with so many unassigned literals.
 use mathlib.Core.Path.{_≡_, refl, sym, ap, ap₂, _∙_}
 use mathlib.Core.Bool.{Bool, true, false, cond, not, _&&_, _||_}
 use mathlib.Core.List.{List, [], _∷_}
@@ -15,10 +15,6 @@ use Rattle.literal.specs.Slots.{isAt}
 use Rattle.formula.specs.Formula.{any, all, satisfied}
 use Rattle.walk.specs.State.{unassignedIn, isOpen}
 use Rattle.walk.specs.Branching.{assignedOrAgainst, isOpposed, isSource, mentions, offers, clauseWeight}
-use Rattle.clause_standing.specs.declared.Standing.{Standing}
-use Rattle.clause_standing.specs.declared.Standing.the-variants.{Satisfied, Open}
-use Rattle.clause_standing.specs.Standing.{standingOf}
-use Rattle.clause_standing.specs.Laws.{satisfied-stands, open-stands}
 use Rattle.weighing.specs.Weights.{isMarked, weightAt, Weighed}
 
 -- a power of 4 is a power of 2 with twice the exponent
@@ -101,25 +97,27 @@ module _ (row a : List ℕ) (c : List ℤ) where
       kept true = refl
       kept false = refl
 
-  -- what weighing it does, by r, its standing: a satisfied clause changes nothing
-  pub weighed-satisfied : (r : Standing) → r ≡ standingOf a c → r ≡ Satisfied → (size : Option ℕ) (weights marks : List ℕ) → Weighed row a size c weights marks weights marks
-  weighed-satisfied r e t size weights marks =
-      let s : satisfied a c ≡ true = satisfied-stands a c (sym e ∙ t) in
+  -- what weighing it does: a satisfied clause changes nothing
+  pub weighed-satisfied : satisfied a c ≡ true → (size : Option ℕ) (weights marks : List ℕ) → Weighed row a size c weights marks weights marks
+  weighed-satisfied s size weights marks =
       record {
-        sums = λ i. omega (arith, nothing s (any (isAt i) c));
+        sums = λ i. omega (arith, nothing (any (isAt i) c));
         marked = marked-other size (isSource row a size c) refl (satisfied-source s size) marks;
       }
     where
-      nothing : satisfied a c ≡ true → (b : Bool) → cond b (clauseWeight a c) 0 ≡ 0
-      nothing s true = satisfied-weight a c s
-      nothing s false = refl
+      nothing : (b : Bool) → cond b (clauseWeight a c) 0 ≡ 0
+      nothing true = satisfied-weight a c s
+      nothing false = refl
+
+  -- nor is it opposed
+  pub satisfied-unopposed : satisfied a c ≡ true → isOpposed row a c ≡ false
+  satisfied-unopposed s = ap (λ (b : Bool). not b && all (assignedOrAgainst row a) c) s
 
   -- an open one adds its weight, and its marks if it gives candidates
-  pub weighed-open : (k w : ℕ) (r : Standing) → r ≡ standingOf a c → r ≡ Open k → w ≡ 4 ^ (10 - min k 10) → (size : Option ℕ) (weights marks weights′ marks′ : List ℕ)
+  pub weighed-open : (k w : ℕ) → satisfied a c ≡ false → unassignedIn a c ≡ k → w ≡ 4 ^ (10 - min k 10) → (size : Option ℕ) (weights marks weights′ marks′ : List ℕ)
       → ((i : ℕ) → getD weights′ i 0 ≡ getD weights i 0 + cond (any (isAt i) c) w 0)
       → ((v : ℕ) → isMarked marks′ v ≡ isMarked marks v || offers row a size v c)
       → Weighed row a size c weights marks weights′ marks′
-  weighed-open k w r e t q size weights marks weights′ marks′ h g =
-      let stands = open-stands a c k (sym e ∙ t) in
-      let weighs : w ≡ clauseWeight a c = q ∙ sym (open-weight a c k (stands .0) (stands .1)) in
+  weighed-open k w s e q size weights marks weights′ marks′ h g =
+      let weighs : w ≡ clauseWeight a c = q ∙ sym (open-weight a c k s e) in
       record { sums = λ i. h i ∙ ap (λ (j : ℕ). getD weights i 0 + cond (any (isAt i) c) j 0) weighs; marked = g }

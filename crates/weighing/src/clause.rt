@@ -1,12 +1,13 @@
 // What one clause adds to the weights and the marks.
 use crate::add::add_weight;
 use crate::mark::mark_variables;
-use clause_standing::Standing;
 use opposed::Fewest;
 ghost use mathlib.Core.Path.{_≡_};
+ghost use mathlib.Core.Bool.{false};
 ghost use Prim.Native.Nat.{_-_, _^_, min};
+ghost use Rattle.formula.specs.Formula.{satisfied};
+ghost use Rattle.walk.specs.State.{unassignedIn};
 ghost use Rattle.walk.specs.Branching.{isSource};
-ghost use Rattle.clause_standing.specs.Standing.{standingOf};
 ghost use Rattle.opposed.specs.Opposed.{sizeOf};
 ghost use Rattle.weighing.specs.Weights.{Weighable, Weighed};
 
@@ -25,7 +26,7 @@ pub fn is_source(
     assignment: &[u8],
     fewest: Fewest,
 ) -> bool
-    requires { ⌜ standingOf (now assignment) (now clause) ≡ Standing.Open count ⌝ }
+    requires { ⌜ (satisfied (now assignment) (now clause) ≡ false) × (unassignedIn (now assignment) (now clause) ≡ count) ⌝ }
     ensures { λ r. ⌜ r ≡ isSource (now (row .entry)) (now (assignment .entry)) (sizeOf fewest) (now (clause .entry)) ⌝ }
 {
     let Fewest::Literals(size) = fewest else {
@@ -37,23 +38,20 @@ pub fn is_source(
     opposed_clause::is_opposed(clause, row, assignment)
 }
 
-// Adds a clause's weight where it is open, and marks its variables where it gives candidates.
+// Adds an open clause's weight, and marks its variables where it gives candidates.
 pub fn weigh_clause(
     clause: &[i32],
-    standing: Standing,
+    count: usize,
     row: &[u8],
     assignment: &[u8],
     fewest: Fewest,
     weights: &mut [u64],
     marks: &mut [u64],
 )
-    requires { ⌜ standing ≡ standingOf (now assignment) (now clause) ⌝ }
+    requires { ⌜ (satisfied (now assignment) (now clause) ≡ false) × (unassignedIn (now assignment) (now clause) ≡ count) ⌝ }
     requires { ⌜ Weighable (now clause) (now weights) (now marks) ⌝ }
     ensures { λ _. ⌜ Weighed (now (row .entry)) (now (assignment .entry)) (sizeOf fewest) (now (clause .entry)) (now (weights .entry)) (now (marks .entry)) (now (weights .exit)) (now (marks .exit)) ⌝ }
 {
-    let Standing::Open(count) = standing else {
-        return;
-    };
     add_weight(clause, clause_weight(count), &mut *weights);
     if is_source(clause, count, row, assignment, fewest) {
         mark_variables(clause, &mut *marks);

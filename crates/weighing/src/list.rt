@@ -1,40 +1,117 @@
 // The weights and the marks of a whole list.
 use crate::cells::clear;
 use crate::clause::weigh_clause;
+use clause_standing::ReadClause;
 use opposed::Fewest;
-ghost use lib.ListN.{length};
-ghost use Rattle.formula.specs.Formula.{clauses};
+ghost use mathlib.Core.Path.{_≡_};
+ghost use mathlib.Core.Bool.{false, _&&_};
+ghost use mathlib.Core.List.{[]};
+ghost use Prim.Native.Nat.{_<_};
+ghost use lib.ListN.{length, getD};
+ghost use Rattle.formula.specs.Formula.{any, clauses};
+ghost use Rattle.occurrences.specs.Table.{Located};
+ghost use Rattle.walk.specs.Branching.{isOpposed};
+ghost use Rattle.witnesses.specs.Witnesses.{Witnesses};
 ghost use Rattle.opposed.specs.Opposed.{sizeOf};
-ghost use Rattle.weighing.specs.Weights.{WeighableList, Totals};
+ghost use Rattle.weighing.specs.Weights.{Weighable, Weighed, WeighableList, Totals};
 
-// Weighs the clauses in one pass over the list.
-pub fn weigh_list(
+// Whether an open clause makes a dead end (document 01, step 3): an opposed one does where the limit is
+// spent, that is, as many wishes are broken as may be.
+fn is_dead_end(spent: bool, clause: &[i32], row: &[u8], assignment: &[u8]) -> bool
+    ensures { λ r. ⌜ r ≡ spent && isOpposed (now (row .entry)) (now (assignment .entry)) (now (clause .entry)) ⌝ }
+{
+    if !spent {
+        return false;
+    }
+    opposed_clause::is_opposed(clause, row, assignment)
+}
+
+// Weighs the clause that has k before it, and tells whether it makes a dead end instead. It is not read if
+// its witness holds; if another literal does, that is its witness from now on.
+fn weigh_at(
     list: &[i32],
+    begins: &[u16],
+    k: usize,
     row: &[u8],
     assignment: &[u8],
     fewest: Fewest,
+    spent: bool,
+    witnesses: &mut [u16],
     weights: &mut [u64],
     marks: &mut [u64],
-)
+) -> bool
+    requires { ⌜ Located (now list) (now begins) × Witnesses (now list) (now witnesses) × (k < length (clauses (now list))) ⌝ }
+    requires { ⌜ Weighable (getD (clauses (now list)) k []) (now weights) (now marks) ⌝ }
+    ensures witness { λ r. ⌜ Witnesses (now (list .entry)) (now (witnesses .exit)) ⌝ }
+    ensures dead { λ r. ⌜ r ≡ spent && isOpposed (now (row .entry)) (now (assignment .entry)) (getD (clauses (now (list .entry))) k []) ⌝ }
+    ensures weighed { λ r. ⌜ (r ≡ false → Weighed (now (row .entry)) (now (assignment .entry)) (sizeOf fewest) (getD (clauses (now (list .entry))) k []) (now (weights .entry)) (now (marks .entry)) (now (weights .exit)) (now (marks .exit))) ⌝ }
+{
+    if witnesses::is_witnessed(list, witnesses, k, assignment) {
+        return false;
+    }
+    let from = begins[k] as usize;
+    match clause_standing::read_clause(list, from, assignment) {
+        ReadClause::Satisfied(at) => {
+            witnesses[k] = at as u16;
+            false
+        }
+        ReadClause::Open(end, count) => {
+            let clause = &list[from..end];
+            if is_dead_end(spent, clause, row, assignment) {
+                return true;
+            }
+            weigh_clause(
+                clause,
+                count,
+                row,
+                assignment,
+                fewest,
+                &mut *weights,
+                &mut *marks,
+            );
+            false
+        }
+    }
+}
+
+// Weighs the clauses of a list. Where the limit is spent it stops at the first that makes a dead end, and tells
+// so; the weights and marks then say nothing.
+pub fn weigh_list(
+    list: &[i32],
+    begins: &[u16],
+    row: &[u8],
+    assignment: &[u8],
+    fewest: Fewest,
+    spent: bool,
+    witnesses: &mut [u16],
+    weights: &mut [u64],
+    marks: &mut [u64],
+) -> bool
     requires { ⌜ WeighableList (length (now assignment)) (now list) (now weights) (now marks) ⌝ }
-    ensures { λ _. ⌜ Totals (now (row .entry)) (now (assignment .entry)) (sizeOf fewest) (clauses (now (list .entry))) (now (weights .exit)) (now (marks .exit)) ⌝ }
+    requires { ⌜ Located (now list) (now begins) × Witnesses (now list) (now witnesses) ⌝ }
+    ensures witness { λ r. ⌜ Witnesses (now (list .entry)) (now (witnesses .exit)) ⌝ }
+    ensures dead { λ r. ⌜ r ≡ spent && any (isOpposed (now (row .entry)) (now (assignment .entry))) (clauses (now (list .entry))) ⌝ }
+    ensures weighed { λ r. ⌜ (r ≡ false → Totals (now (row .entry)) (now (assignment .entry)) (sizeOf fewest) (clauses (now (list .entry))) (now (weights .exit)) (now (marks .exit))) ⌝ }
 {
     clear(&mut *weights);
     clear(&mut *marks);
-    let mut from = 0;
-    while from < list.len() {
-        let reading = clause_standing::read_clause(list, from, assignment);
-        let end = reading.end;
-        let standing = reading.standing;
-        weigh_clause(
-            &list[from..end],
-            standing,
+    let mut k = 0;
+    while k < witnesses.len() {
+        if weigh_at(
+            list,
+            begins,
+            k,
             row,
             assignment,
             fewest,
+            spent,
+            &mut *witnesses,
             &mut *weights,
             &mut *marks,
-        );
-        from = end + 1;
+        ) {
+            return true;
+        }
+        k += 1;
     }
+    false
 }

@@ -71,20 +71,14 @@ held c =
     let args = entry top .args in
     c .holds-in .ensures ∙ ap (holds (args .assignment .now)) (as-read (getD (args .list .now) (top .loop .i) (pos 0)) (c .before .holds-in-arg .given))
 
-add-clause-end : tie.Need-add-clause-end Inv-loop μ-loop
-add-clause-end c = search needs
-
-clause-end-requires : tie.Need-clause-end-requires Inv-loop μ-loop
-clause-end-requires c κs = search needs
-
 returns-2 : tie.Need-returns-2 Inv-loop μ-loop
 returns-2 c =
-    let tested = c .before .before in
+    let tested = c .before in
     let now = told tested in
     let top = head now in
     let args = entry top .args in
     reads-satisfied (args .assignment .now) (args .list .now) (args .from) (top .loop .i) (top .loop .count) (top .loop .inv) (now .before .before .loop-test .taken) (sym (number now) ∙ tested .before .before .if1 .left)
-    (sym (held tested) ∙ c .before .if2 .taken) (c .clause-end .result) (c .clause-end .ensures)
+    (sym (held tested) ∙ c .if2 .taken)
 
 mul-is-unassigned : tie.Need-mul-is-unassigned Inv-loop μ-loop
 mul-is-unassigned c = search needs
@@ -148,8 +142,6 @@ read-clause-spec =
     mul-holds-in
     shared-slice-copy-out-holds-in
     holds-in-requires
-    add-clause-end
-    clause-end-requires
     returns-2
     mul-is-unassigned
     shared-slice-copy-out-is-unassigned

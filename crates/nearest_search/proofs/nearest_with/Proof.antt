@@ -29,15 +29,15 @@ unfound s (some b) e k =
 -- after the climb: the call
 module _ (c : tie.After-climb) where
   abbrev call : tie.Start
-  call = c .before .before .before .before .before .before .before
+  call = c .before .before .before .before .before .before .before .before .before
 
   abbrev after : List ℕ
-  after = c .climb .last .1 .1 .1 .1 .1 .1 .1 .0
+  after = c .climb .last .1 .1 .1 .1 .1 .1 .1 .1 .0
 
 -- it found k
 module _ (c : tie.After-known-told) where
   abbrev from : tie.After-climb
-  from = c .before .before .before .before .before
+  from = c .before .before .before .before .before .before .before
 
   abbrev k : ℕ
   k = c .before .answer .given .0 .0
@@ -55,41 +55,48 @@ enum-known-answer c = search needs
 
 make-first-requires : tie.Need-make-first-requires
 make-first-requires c κs =
-    let climbed = from (c .before) in
+    let known = c .before .before in
+    let climbed = from known in
     let args = call climbed .args in
     let given = call climbed .pre .0 in (
-      (record { few = given .few; sound = given .sound; wide = omega (arith, given .wide, climbed .climb .kept .1 .1 .1 .1 .1 .1 .1 .0) }, call climbed .pre .2),
-      found-model (args .n) (args .rules .now) (given .sound) (args .row .now) (args .choice .now) (after climbed) (climbed .climb .ensures .1) (k (c .before)) (found (c .before)),
+      (record { few = given .few; sound = given .sound; wide = omega (arith, given .wide, climbed .climb .kept .1 .1 .1 .1 .1 .1 .1 .1 .0) }, call climbed .pre .2, climbed .climb .ensures .1 .1),
+      found-model (args .n) (args .rules .now) (given .sound) (args .row .now) (args .choice .now) (after climbed) (climbed .climb .ensures .1 .0) (k known) (found known),
     )
 
 same-length : tie.Need-same-length
 same-length c = search needs
 
+same-length-2 : tie.Need-same-length-2
+same-length-2 c = search needs
+
 returns : tie.Need-returns
 returns c =
-    let made = c .before .before in
-    let known = made .before .before in
+    let made = c .before .before .before .before in
+    let known = made .before .before .before in
     let climbed = from known in
     let args = call climbed .args in
     let sound = call climbed .pre .0 .sound in (
       sym (known .before .answer .given .1) ∙ climbed .climb .ensures .0 ∙ ap searchedOf (same-count (args .n) (args .rules .now) sound (args .row .now)),
-      first-written (args .n) (args .rules .now) sound (args .row .now) (args .choice .now) (after climbed) (climbed .climb .ensures .1) (k known) (found known) (made .make-first .last .1 .1 .1 .1 .1 .1 .1 .0)
+      first-written (args .n) (args .rules .now) sound (args .row .now) (args .choice .now) (after climbed) (climbed .climb .ensures .1 .0) (k known) (found known) (made .make-first .last .1 .1 .1 .1 .1 .1 .1 .1 .0)
           (made .make-first .ensures),
     )
 
-same-length-2 : tie.Need-same-length-2
-same-length-2 c = search needs
+same-length-3 : tie.Need-same-length-3
+same-length-3 c = search needs
+
+same-length-4 : tie.Need-same-length-4
+same-length-4 c = search needs
 
 -- it found none
 returns-2 : tie.Need-returns-2
 returns-2 c =
-    let climbed = c .before .before .before in
+    let climbed = c .before .before .before .before .before in
     let args = call climbed .args in
     let sound = call climbed .pre .0 .sound in
     let told = climbed .climb .ensures in
     let walks = brokenBy (nearestWalk (args .n) (clauses (args .rules .now)) (args .row .now)) in (
       told .0 ∙ ap searchedOf (same-count (args .n) (args .rules .now) sound (args .row .now)),
-      none-written (args .n) (args .rules .now) sound (args .row .now) (args .choice .now) (after climbed) (told .1) (unfound (climbed .climb .result) walks (told .0) (c .match .keys2)),
+      none-written (args .n) (args .rules .now) sound (args .row .now) (args .choice .now) (after climbed) (told .1 .0) (unfound (climbed .climb .result) walks (told .0) (c .match .keys2)),
     )
 
 pub nearest-with-spec : {M : Type 1} → statement M
@@ -100,6 +107,8 @@ nearest-with-spec =
     enum-known-answer
     make-first-requires
     same-length
-    returns
     same-length-2
+    returns
+    same-length-3
+    same-length-4
     returns-2)

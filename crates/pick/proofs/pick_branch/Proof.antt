@@ -1,76 +1,39 @@
--- `pick::pick_branch` meets its contract, step by step.
-use mathlib.Core.Path.{_≡_, sym, ap, _∙_}
-use mathlib.Core.Bool.{true, false}
-use mathlib.Core.List.{List}
-use mathlib.Core.Option.{Option, none, some}
+-- `pick::pick_branch` meets its contract, by whether the limit is spent.
+use mathlib.Core.Path.{_≡_, refl, sym, ap, _∙_}
+use mathlib.Core.Option.{Option}
 use Prim.Native.Nat.{ℕ}
-use lib.IntN.{ℤ}
-use Rattle.literal.specs.declared.Variable.{Variable}
+use native.Mathlib.Omega.{arith}
+use lib.ListN.{length}
 use Rattle.formula.specs.Formula.{clauses}
 use Rattle.opposed.specs.Opposed.{sizeOf}
-use Rattle.branching.specs.Branch.{variableOf}
+use Rattle.weighing.specs.Weights.{WeighableList, Totals}
+use Rattle.branching.specs.Laws.{totals-branch, totals-scorable, sound-weighable}
 use Rattle.walk.specs.Branching.{branchingVariable}
-use Rattle.walk.specs.Walk.{firstValue}
-use Rattle.pick.specs.declared.Pick.the-variants.{DeadEnd, Branch}
-use Rattle.pick.specs.Pick.{pickOf, at-limit, no-branch, branch-on}
+use Rattle.pick.specs.Pick.{branchOn, pick-spent, pick-below}
 use borrow.Author.Needs.{needs}
 use Rattle.pick.proofs.pick_branch.Statement.{statement}
 use Rattle.pick.proofs.pick_branch.Tie as tie
 
--- step 3, tested: it is known whether a clause asks for one more broken wish than may be
-module _ (c : tie.After-is-exhausted) where
-  abbrev call : tie.Start
-  call = c .before .before .before .before .before .before
+-- Points of the program: the entry; with the size of the shortest opposed clause; after the weighing.
+abbrev sized : tie.After-weigh-list → tie.After-fewest-opposed
+sized c = c .before .before .before .before
 
-  abbrev f : List (List ℤ)
-  f = clauses (call .args .list .now)
+abbrev entry : tie.After-fewest-opposed → tie.Start
+entry c = c .before .before .before .before .before .before .before .before
 
-  abbrev row : List ℕ
-  row = call .args .row .now
+-- a sound list can be weighed with the lent numbers
+weighable : (c : tie.Start) → WeighableList (length (c .args .a .now)) (c .args .list .now) (c .args .weights .now) (c .args .marks .now)
+weighable c =
+    let args = c .args in
+    sound-weighable (length (args .a .now)) (args .list .now) (args .weights .now) (args .marks .now) (c .pre .0 .1) (c .pre .1 .0 .0) (c .pre .1 .0 .1)
 
-  abbrev a : List ℕ
-  a = call .args .a .now
+-- below the limit the weighing does not stop
+weighed : (c : tie.After-weigh-list)
+    → Totals (entry (sized c) .args .row .now) (entry (sized c) .args .a .now) (sizeOf (sized c .fewest-opposed .result)) (clauses (entry (sized c) .args .list .now)) (c .weigh-list .last .1 .1 .1 .1 .1 .1 .1 .0) (c .weigh-list .last .1 .1 .1 .1 .1 .1 .1 .1 .0)
+weighed c = c .weigh-list .ensures .1 .1 (c .weigh-list .ensures .1 .0)
 
-  abbrev size : Option ℕ
-  size = sizeOf (c .before .fewest-opposed .result)
-
-  at-the-limit : c .is-exhausted .result ≡ true → DeadEnd ≡ pickOf f row (call .args .d) a
-  at-the-limit = at-limit f row (call .args .d) a (call .args .broken) (call .pre .0 .0) size (c .before .fewest-opposed .ensures) (c .is-exhausted .result) (c .is-exhausted .ensures)
-
-  module _ (below : c .is-exhausted .result ≡ false) where
-    nothing-open : branchingVariable row a f ≡ none → DeadEnd ≡ pickOf f row (call .args .d) a
-    nothing-open = no-branch f row (call .args .d) a (call .args .broken) (call .pre .0 .0) size (c .before .fewest-opposed .ensures) (c .is-exhausted .result) (c .is-exhausted .ensures) below
-
-    branches : (v : Variable) (b : ℕ) → branchingVariable row a f ≡ some (v .0) → b ≡ firstValue row size (v .0) → Branch v b ≡ pickOf f row (call .args .d) a
-    branches = branch-on f row (call .args .d) a (call .args .broken) (call .pre .0 .0) size (c .before .fewest-opposed .ensures) (c .is-exhausted .result) (c .is-exhausted .ensures) below
-
--- step 4, and the way back from it to step 3
-abbrev tested : tie.After-branching-variable → tie.After-is-exhausted
-tested c = c .before .before .before .before
-
-below : (c : tie.After-branching-variable) → tested c .is-exhausted .result ≡ false
-below c = c .before .before .before .if1 .left
-
-fewest-opposed-requires : tie.Need-fewest-opposed-requires
-fewest-opposed-requires c κs = search needs
-
-is-exhausted-requires : tie.Need-is-exhausted-requires
-is-exhausted-requires c κs = search needs
-
-returns : tie.Need-returns
-returns c = at-the-limit (c .before) (c .if1 .taken)
-
-branching-variable-requires : tie.Need-branching-variable-requires
-branching-variable-requires c κs = search needs
-
-enum-told : tie.Need-enum-told
-enum-told c = search needs
-
-enum-known-v : tie.Need-enum-known-v
-enum-known-v c = search needs
-
-first-value-requires : tie.Need-first-value-requires
-first-value-requires c κs = search needs
+pick-at-limit-requires : tie.Need-pick-at-limit-requires
+pick-at-limit-requires c κs = search needs
 
 same-length : tie.Need-same-length
 same-length c = search needs
@@ -78,36 +41,73 @@ same-length c = search needs
 same-length-2 : tie.Need-same-length-2
 same-length-2 c = search needs
 
-returns-2 : tie.Need-returns-2
-returns-2 c =
-    let chosen = c .before .before .before .before .before .before in
-    nothing-open (tested chosen) (below chosen) (sym (chosen .branching-variable .ensures) ∙ ap variableOf (c .enum-told .given .1))
-
 same-length-3 : tie.Need-same-length-3
 same-length-3 c = search needs
+
+returns : tie.Need-returns
+returns c =
+    let start = c .before .before .before .before .before .before .before .before .before .before .before .before .before .before .before .before .before in
+    let args = start .args in
+    let call = c .before .before .before .before .before .before .pick-at-limit in (
+      call .ensures .0 ∙ pick-spent (clauses (args .list .now)) (args .row .now) (args .d) (args .a .now) (args .broken) (start .pre .0 .0) (c .before .before .before .before .before .before .before .before .before .before .if1 .taken),
+      call .ensures .1,
+    )
+
+fewest-opposed-requires : tie.Need-fewest-opposed-requires
+fewest-opposed-requires c κs = search needs
+
+weigh-list-requires : tie.Need-weigh-list-requires
+weigh-list-requires c κs = let start = entry (c .before .before .before) in (weighable start, start .pre .1 .1 .1)
+
+best-branch-requires : tie.Need-best-branch-requires
+best-branch-requires c κs =
+    let told = c .before .before .before .before .before .before .before .before in
+    let start = entry (sized told) in
+    let args = start .args in
+    let a = args .a .now in
+    let call = told .weigh-list in
+    totals-scorable (length a) (args .row .now) a (sizeOf (sized told .fewest-opposed .result)) (args .list .now) (args .weights .now) (args .marks .now) (call .last .1 .1 .1 .1 .1 .1 .1 .0) (call .last .1 .1 .1 .1 .1 .1 .1 .1 .0)
+    (weighable start) (call .kept .1 .1 .1 .1 .1 .1 .1 .0) (call .kept .1 .1 .1 .1 .1 .1 .1 .1 .0) (weighed told)
 
 same-length-4 : tie.Need-same-length-4
 same-length-4 c = search needs
 
-returns-3 : tie.Need-returns-3
-returns-3 c =
-    let chosen = c .before .before .before .before .before .before .before .before in
-    branches (tested chosen) (below chosen) (c .before .before .v .given .0 .0) (c .first-value .result) (sym (chosen .branching-variable .ensures) ∙ ap variableOf (c .before .before .v .given .1)) (c .first-value .ensures)
+same-length-5 : tie.Need-same-length-5
+same-length-5 c = search needs
+
+same-length-6 : tie.Need-same-length-6
+same-length-6 c = search needs
+
+returns-2 : tie.Need-returns-2
+returns-2 c =
+    let told = c .before .before .before .before .before .before .before .before .before in
+    let start = entry (sized told) in
+    let args = start .args in
+    let row = args .row .now in
+    let a = args .a .now in
+    let f = clauses (args .list .now) in
+    let found = sized told .fewest-opposed in
+    let call = told .weigh-list in (
+      c .best-branch .ensures
+          ∙ ap (branchOn row (sizeOf (found .result))) (totals-branch row a (sizeOf (found .result)) f (call .last .1 .1 .1 .1 .1 .1 .1 .0) (call .last .1 .1 .1 .1 .1 .1 .1 .1 .0) (weighed told) (found .ensures))
+          ∙ ap (λ (o : Option ℕ). branchOn row o (branchingVariable row a f)) (found .ensures)
+          ∙ pick-below f row (args .d) a (args .broken) (start .pre .0 .0) (λ e. omega (arith, c .before .before .before .before .before .before .before .before .before .before .before .before .before .before .if1 .left)),
+      call .ensures .0,
+    )
 
 pub pick-branch-spec : {M : Type 1} → statement M
 pick-branch-spec =
     tie.close
     (tie.spec
-    fewest-opposed-requires
-    is-exhausted-requires
-    returns
-    branching-variable-requires
-    enum-told
-    enum-known-v
-    first-value-requires
+    pick-at-limit-requires
     same-length
     same-length-2
-    returns-2
     same-length-3
+    returns
+    fewest-opposed-requires
+    weigh-list-requires
+    best-branch-requires
     same-length-4
-    returns-3)
+    same-length-5
+    same-length-6
+    returns-2)

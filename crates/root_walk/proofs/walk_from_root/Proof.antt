@@ -37,7 +37,7 @@ abbrev Alive : Type 0
 Alive = tie.After-known-told
 
 abbrev call : Cleared → tie.Start
-call c = c .before .before .before .before .before .before .before .before .before .before
+call c = c .before .before .before .before .before .before .before .before .before .before .before
 
 abbrev cleared : Propagation → Cleared
 cleared c = c .before .before .before .before .before
@@ -66,8 +66,8 @@ module _ (c : Cleared) where
   start : a ≡ replicate (length a) 2
   start = c .unassign-all .ensures ∙ ap (λ (k : ℕ). replicate k 2) (sym size)
 
-  ready : Ready (call c .args .list .now) (call c .args .ends .now) (call c .args .numbers .now) (call c .args .begins .now) (length a) (length (call c .args .weights .now)) (length (call c .args .marks .now))
-  ready = ready-still size refl refl (call c .pre .1)
+  ready : Ready (call c .args .list .now) (call c .args .ends .now) (call c .args .numbers .now) (call c .args .begins .now) (call c .args .witnesses .now) (length a) (length (call c .args .weights .now)) (length (call c .args .marks .now))
+  ready = ready-still size (call c .pre .1 .witnessed) refl refl (call c .pre .1)
 
   fit : fits (length a) f ≡ true
   fit = sound-fits (length a) (call c .args .list .now) (ready .sound)
@@ -127,9 +127,9 @@ enum-known-t c = search needs
 
 attempt-requires : tie.Need-attempt-requires
 attempt-requires c κs =
-    let alive = c .before .before .before .before in
+    let alive = c .before .before .before .before .before in
     let s = settled alive in
-    (long-searching s, (ready-still (s .state .size) refl refl (ready (from alive)), quiet-covers (f (from alive)) s (quiet alive)))
+    (long-searching s, (ready-still (s .state .size) (ready (from alive) .witnessed) refl refl (ready (from alive)), quiet-covers (f (from alive)) s (quiet alive)))
 
 enum-told : tie.Need-enum-told
 enum-told c = search needs
@@ -146,7 +146,7 @@ returns c =
     let propagation = c .before .before .before .before .before .before in
     let from = cleared propagation in
     let w = walk-dead (length (a from)) (f from) (fit from) (call from .args .row .now) (call from .args .d) (a from) (state from .state) (there propagation) (told-as propagation _ (c .enum-told .given .1) .0) in
-    subst (λ (s : List ℕ). RootSays (walk from s) (there propagation) (Nothing 0)) (from .unassign-all .ensures) w
+    (subst (λ (s : List ℕ). RootSays (walk from s) (there propagation) (Nothing 0)) (from .unassign-all .ensures) w, ready from .witnessed)
 
 same-length-3 : tie.Need-same-length-3
 same-length-3 c = search needs
@@ -160,16 +160,19 @@ same-length-5 c = search needs
 same-length-6 : tie.Need-same-length-6
 same-length-6 c = search needs
 
+same-length-7 : tie.Need-same-length-7
+same-length-7 c = search needs
+
 -- what trying the settled state says
 returns-2 : tie.Need-returns-2
 returns-2 c =
-    let tried = c .before .before .before .before .before .before .before .before in
-    let alive = tried .before .before .before .before .before in
+    let tried = c .before .before .before .before .before .before .before .before .before .before in
+    let alive = tried .before .before .before .before .before .before in
     let from = from alive in
     let last-a : List ℕ = tried .attempt .last .1 .1 .1 .1 .1 .1 .1 .0 in
     let same = ap (walk from) (told alive .0) ∙ walk-propagated (length (a from)) (f from) (fit from) (call from .args .row .now) (call from .args .d) (a from) (state from .state) in
-    let w = root-says _ _ _ _ _ last-a (tried .attempt .result) (tried .attempt .ensures) in
-    subst (λ (o : Outcome). RootSays o last-a (tried .attempt .result)) (same ∙ ap (walk from) (from .unassign-all .ensures)) w
+    let w = root-says _ _ _ _ _ last-a (tried .attempt .result) (tried .attempt .ensures .0) in
+    (subst (λ (o : Outcome). RootSays o last-a (tried .attempt .result)) (same ∙ ap (walk from) (from .unassign-all .ensures)) w, tried .attempt .ensures .1)
 
 pub walk-from-root-spec : {M : Type 1} → statement M
 walk-from-root-spec =
@@ -187,4 +190,5 @@ walk-from-root-spec =
     same-length-4
     same-length-5
     same-length-6
+    same-length-7
     returns-2)

@@ -21,8 +21,8 @@ value-bit : (o : Option Answer) → valueAfter o < 2
 value-bit none = omega arith
 value-bit (some x) = omega arith
 
-add-t13 : tie.Need-add-t13
-add-t13 c = search needs
+add-t14 : tie.Need-add-t14
+add-t14 c = search needs
 
 value-of-requires : tie.Need-value-of-requires
 value-of-requires c κs = search needs
@@ -32,26 +32,29 @@ same-length c = search needs
 
 returns : tie.Need-returns
 returns c =
-    let call = c .before .before .before .before .before .before .before .before .before .before in
+    let call = c .before .before .before .before .before .before .before .before .before .before .before in
     let given = call .pre in
     let off : value (call .args .choice .now) (call .args .i + 1) ≡ 0 = sym (c .before .value-of .ensures) ∙ c .if1 .taken in
-    (omega arith, refining-kept (given .0 .fixed .refining) (call .args .i + 1) refl (omega (arith, given .1)) (given .2) off)
+    ((omega arith, refining-kept (given .0 .fixed .refining) (call .args .i + 1) refl (omega (arith, given .1)) (given .2) off), given .3)
 
 value-by-walk-requires : tie.Need-value-by-walk-requires
 value-by-walk-requires c κs =
-    let given = c .before .before .before .before .before .before .before .before .before .before .before .pre in
+    let given = c .before .before .before .before .before .before .before .before .before .before .before .before .before .pre in
     let fixed = given .0 .fixed in (
       (fixed .searching, record { unset = given .2; above = omega arith; upTo = omega (arith, given .1) }, given .0 .quiet),
-      (fixed .sound, fixed .beside, fixed .few, fixed .refining .model .choice .size),
+      (fixed .sound, fixed .beside, fixed .few, fixed .refining .model .choice .size, given .3),
     )
 
 same-length-2 : tie.Need-same-length-2
 same-length-2 c = search needs
 
+same-length-3 : tie.Need-same-length-3
+same-length-3 c = search needs
+
 returns-2 : tie.Need-returns-2
 returns-2 c =
-    let walked = c .before .before .value-by-walk in
-    let call = c .before .before .before .before .before .before .before .before .before .before .before .before .before .before in
+    let walked = c .before .before .before .before .value-by-walk in
+    let call = c .before .before .before .before .before .before .before .before .before .before .before .before .before .before .before .before .before .before in
     let given = call .pre in
     let n = length (call .args .a .now) in
     let f = clauses (call .args .list .now) in
@@ -61,19 +64,23 @@ returns-2 c =
     let right = walk-right n f (sound-fits n (call .args .list .now) (given .0 .fixed .sound)) (call .args .row .now) (call .args .d) from (branch-state (given .0 .fixed .refining .state) u 0 (omega arith)) in
     let refined : Refining n f (call .args .row .now) (call .args .d) u (assign (call .args .a .now) u (valueAfter o)) (handAfter (call .args .choice .now) o)
     = refining-searched (given .0 .fixed .refining) u refl (omega (arith, given .1)) (given .2) o right in (
-      subst (λ (k : ℕ). k < 2) (sym (walked .ensures .0)) (value-bit o),
-      subst (λ (k : ℕ). Refining n f (call .args .row .now) (call .args .d) u (assign (call .args .a .now) u k) (walked .last .1 .1 .1 .1 .1 .1 .1 .1 .1 .1 .0)) (sym (walked .ensures .0))
-          (subst (Refining n f (call .args .row .now) (call .args .d) u (assign (call .args .a .now) u (valueAfter o))) (sym (walked .ensures .1)) refined),
+      (
+        subst (λ (k : ℕ). k < 2) (sym (walked .ensures .0)) (value-bit o),
+        subst (λ (k : ℕ). Refining n f (call .args .row .now) (call .args .d) u (assign (call .args .a .now) u k) (walked .last .1 .1 .1 .1 .1 .1 .1 .1 .1 .1 .1 .0)) (sym (walked .ensures .0))
+            (subst (Refining n f (call .args .row .now) (call .args .d) u (assign (call .args .a .now) u (valueAfter o))) (sym (walked .ensures .1 .0)) refined),
+      ),
+      walked .ensures .1 .1,
     )
 
 pub first-value-spec : {M : Type 1} → statement M
 first-value-spec =
     tie.close
     (tie.spec
-    add-t13
+    add-t14
     value-of-requires
     same-length
     returns
     value-by-walk-requires
     same-length-2
+    same-length-3
     returns-2)

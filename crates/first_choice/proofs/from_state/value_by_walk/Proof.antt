@@ -12,7 +12,7 @@ use Rattle.first_choice.proofs.from_state.value_by_walk.Tie as tie
 -- of each part, what is lent for n variables is as long as it should be
 module _ (c : tie.After-no-marks) where
   abbrev call : tie.Start
-  call = c .before .before .before .before .before .before .before .before .before .before .before
+  call = c .before .before .before .before .before .before .before .before .before .before .before .before
 
   abbrev n : ℕ
   n = length (call .args .a .now)
@@ -78,17 +78,17 @@ array-borrow-prefix-weights : tie.Need-array-borrow-prefix-weights
 array-borrow-prefix-weights c = search needs
 
 slice-aggregate-value-in-3 : tie.Need-slice-aggregate-value-in-3
-slice-aggregate-value-in-3 c = sym (weights-long (c .before .before .before))
+slice-aggregate-value-in-3 c = sym (weights-long (c .before .before .before .before))
 
 array-borrow-prefix-marks : tie.Need-array-borrow-prefix-marks
 array-borrow-prefix-marks c = search needs
 
 slice-aggregate-value-in-4 : tie.Need-slice-aggregate-value-in-4
-slice-aggregate-value-in-4 c = sym (marks-long (c .before .before .before .before))
+slice-aggregate-value-in-4 c = sym (marks-long (c .before .before .before .before .before))
 
 value-in-requires : tie.Need-value-in-requires
 value-in-requires c κs =
-    let space = c .before .before .before .before .before in
+    let space = c .before .before .before .before .before .before in
     let given = call space .pre in (
       given .0,
       (
@@ -96,6 +96,7 @@ value-in-requires c κs =
           few = given .1 .2;
           sound = given .1 .0;
           beside = given .1 .1;
+          witnessed = given .1 .4;
           weighs = omega (arith, weights-long space);
           mark = omega (arith, marks-long space);
         },
@@ -105,6 +106,9 @@ value-in-requires c κs =
 
 same-length : tie.Need-same-length
 same-length c = search needs
+
+same-length-2 : tie.Need-same-length-2
+same-length-2 c = search needs
 
 returns : tie.Need-returns
 returns c = search needs
@@ -130,4 +134,5 @@ value-by-walk-spec =
     slice-aggregate-value-in-4
     value-in-requires
     same-length
+    same-length-2
     returns)

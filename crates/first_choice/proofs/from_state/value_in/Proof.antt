@@ -39,7 +39,7 @@ module _ (c : tie.Start) where
 -- with the variable off in the copy
 module _ (c : tie.After-assign-to) where
   abbrev call : tie.Start
-  call = c .before .before .before .before .before .before .before .before .before .before .before .before .before .before .before .before .before .before .before .before .before .before
+  call = c .before .before .before .before .before .before .before .before .before .before .before .before .before .before .before .before .before .before .before .before .before .before .before
 
   abbrev off : Tally
   off = c .assign-to .result
@@ -68,7 +68,7 @@ module _ (c : tie.After-assign-to) where
 -- after the walk
 module _ (c : tie.After-attempt) where
   abbrev start : tie.After-assign-to
-  start = c .before .before .before .before .before .before .before .before .before
+  start = c .before .before .before .before .before .before .before .before .before .before
 
   abbrev given : tie.Start
   given = call start
@@ -86,7 +86,7 @@ module _ (c : tie.After-attempt) where
       subst (λ (l : List ℕ). RootSays (walkFrom (f given) (args .row .now) (args .d) l) left r) (told start .values)
       (subst (RootSays (walkFrom (f given) (args .row .now) (args .d) (values start)) left) e
       (root-says (walkFrom (f given) (args .row .now) (args .d) (values start)) (newest (off start)) (before (off start) (values start) (trace start)) (trace start) (c .attempt .last .1 .1 .1 .1 .1 .1 .1 .1 .0) left (c .attempt .result)
-      (c .attempt .ensures)))
+      (c .attempt .ensures .0)))
 
 copy-to-requires : tie.Need-copy-to-requires
 copy-to-requires c κs = search needs
@@ -96,7 +96,7 @@ copy-trail-requires c κs = search needs
 
 assign-to-requires : tie.Need-assign-to-requires
 assign-to-requires c κs =
-    let call = c .before .before .before .before .before .before .before .before .before .before .before .before .before .before .before .before .before .before .before .before .before in
+    let call = c .before .before .before .before .before .before .before .before .before .before .before .before .before .before .before .before .before .before .before .before .before .before in
     let h = call .pre .0 .0 in
     let k = call .pre .0 .1 in
     let few = call .pre .1 .0 .few in
@@ -107,15 +107,15 @@ assign-to-requires c κs =
 
 attempt-requires : tie.Need-attempt-requires
 attempt-requires c κs =
-    let start = c .before .before .before .before .before .before .before .before in
-    (long-searching (searching start), (ready-still (searching start .state .size) refl refl (call start .pre .1 .0), covers start))
+    let start = c .before .before .before .before .before .before .before .before .before in
+    (long-searching (searching start), (ready-still (searching start .state .size) (call start .pre .1 .0 .witnessed) refl refl (call start .pre .1 .0), covers start))
 
 enum-told : tie.Need-enum-told
 enum-told c = search needs
 
 copy-to-requires-2 : tie.Need-copy-to-requires-2
 copy-to-requires-2 c κs =
-    let walked = c .before .before .before .before .before .before .before .before .before .before .before .before in
+    let walked = c .before .before .before .before .before .before .before .before .before .before .before .before .before .before in
     omega (arith, left-length walked, given walked .pre .1 .1 .2)
 
 enum-told-2 : tie.Need-enum-told-2
@@ -123,7 +123,7 @@ enum-told-2 c = search needs
 
 same-length : tie.Need-same-length
 same-length c =
-    let walked = c .before .before .before .before .before .before .before .before .before .before .before .before .before .before .before in
+    let walked = c .before .before .before .before .before .before .before .before .before .before .before .before .before .before .before .before .before in
     left-length walked ∙ sym (given walked .pre .1 .1 .0)
 
 same-length-2 : tie.Need-same-length-2
@@ -138,21 +138,23 @@ same-length-4 c = search needs
 same-length-5 : tie.Need-same-length-5
 same-length-5 c = search needs
 
+same-length-6 : tie.Need-same-length-6
+same-length-6 c = search needs
+
 -- it found an answer, which was copied
 returns : tie.Need-returns
 returns c =
     let copied = c .before .before in
-    let walked = c .before .before .before .before .before .before .before .before .before .before .before .before .before .before .before in
+    let walked = c .before .before .before .before .before .before .before .before .before .before .before .before .before .before .before .before .before in
     let answer = said walked _ (copied .before .before .before .enum-told .given .1) in
     let hand = given walked .args .choice .now in
     let same = copied-whole (left walked) hand (copied .copy-to2 .last .1 .0) (omega (arith, left-length walked, given walked .pre .1 .1 .2)) (copied .copy-to2 .ensures) in
-    (sym (ap valueAfter (answer .0)), same ∙ sym (ap (handAfter hand) (answer .0)))
-
-same-length-6 : tie.Need-same-length-6
-same-length-6 c = search needs
+    (sym (ap valueAfter (answer .0)), (same ∙ sym (ap (handAfter hand) (answer .0)), walked .attempt .ensures .1))
 
 same-length-7 : tie.Need-same-length-7
-same-length-7 c = search needs
+same-length-7 c =
+    let walked = c .before .before .before .before .before .before .before .before .before .before .before .before in
+    left-length walked ∙ sym (given walked .pre .1 .1 .0)
 
 same-length-8 : tie.Need-same-length-8
 same-length-8 c = search needs
@@ -160,12 +162,18 @@ same-length-8 c = search needs
 same-length-9 : tie.Need-same-length-9
 same-length-9 c = search needs
 
+same-length-10 : tie.Need-same-length-10
+same-length-10 c = search needs
+
+same-length-11 : tie.Need-same-length-11
+same-length-11 c = search needs
+
 -- it found none
 returns-2 : tie.Need-returns-2
 returns-2 c =
-    let walked = c .before .before .before .before .before .before .before .before .before .before in
+    let walked = c .before .before .before .before .before .before .before .before .before .before .before .before in
     let none-there = said walked _ (c .enum-told2 .given .1) in
-    (sym (ap valueAfter (none-there .0)), sym (ap (handAfter (given walked .args .choice .now)) (none-there .0)))
+    (sym (ap valueAfter (none-there .0)), (sym (ap (handAfter (given walked .args .choice .now)) (none-there .0)), walked .attempt .ensures .1))
 
 pub value-in-spec : {M : Type 1} → statement M
 value-in-spec =
@@ -183,9 +191,11 @@ value-in-spec =
     same-length-3
     same-length-4
     same-length-5
-    returns
     same-length-6
+    returns
     same-length-7
     same-length-8
     same-length-9
+    same-length-10
+    same-length-11
     returns-2)

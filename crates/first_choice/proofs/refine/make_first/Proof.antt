@@ -19,7 +19,7 @@ use Rattle.first_choice.proofs.refine.make_first.Tie as tie
 -- the space is there
 module _ (c : tie.After-no-trail) where
   abbrev call : tie.Start
-  call = c .before .before .before .before .before .before .before
+  call = c .before .before .before .before .before .before .before .before
 
   abbrev n : ℕ
   n = call .args .n
@@ -49,14 +49,14 @@ slice-aggregate-refine-2 : tie.Need-slice-aggregate-refine-2
 slice-aggregate-refine-2 c = sym (trail-long (c .before .before))
 
 slice-relend-prefix-refine : tie.Need-slice-relend-prefix-refine
-slice-relend-prefix-refine c = call (c .before .before) .pre .0 .0 .wide
+slice-relend-prefix-refine c = call (c .before .before .before) .pre .0 .0 .wide
 
 slice-aggregate-refine-3 : tie.Need-slice-aggregate-refine-3
 slice-aggregate-refine-3 c = search needs
 
 refine-requires : tie.Need-refine-requires
 refine-requires c κs =
-    let space = c .before .before .before in
+    let space = c .before .before .before .before in
     let call = call space in
     let long = sym (a-long space) in (
       (
@@ -64,6 +64,7 @@ refine-requires c κs =
         subst (λ (k : ℕ). SoundList k (call .args .list .now)) long (call .pre .0 .0 .sound),
         subst (λ (k : ℕ). Beside k (call .args .list .now) (call .args .ends .now) (call .args .numbers .now) (call .args .begins .now)) long (call .pre .0 .1),
         trail-long space ∙ long,
+        call .pre .0 .2,
       ),
       (subst (λ (k : ℕ). Model k (clauses (call .args .list .now)) (take (n space) (call .args .choice .now))) long (call .pre .1 .0), call .pre .1 .1),
     )
@@ -71,12 +72,15 @@ refine-requires c κs =
 same-length : tie.Need-same-length
 same-length c = search needs
 
+same-length-2 : tie.Need-same-length-2
+same-length-2 c = search needs
+
 returns : tie.Need-returns
 returns c =
-    let refined = c .before .before .before .before in
-    let space = refined .before .before .before .before in
+    let refined = c .before .before .before .before .before .before in
+    let space = refined .before .before .before .before .before in
     let call = call space in
-    let first : List ℕ = refined .refine .last .1 .1 .1 .1 .1 .1 .1 .1 .0 in
+    let first : List ℕ = refined .refine .last .1 .1 .1 .1 .1 .1 .1 .1 .1 .0 in
     let is-first = subst (λ (k : ℕ). FirstWithin k (clauses (call .args .list .now)) (call .args .row .now) (call .args .d) first) (a-long space) (refined .refine .ensures) in
     sym
     (ap (λ (o : Option (List ℕ)). choiceAfter none (withBroken (call .args .row .now) o) (n space) (call .args .choice .now))
@@ -96,4 +100,5 @@ make-first-spec =
     slice-aggregate-refine-3
     refine-requires
     same-length
+    same-length-2
     returns)

@@ -9,22 +9,24 @@ use borrow.Author.Needs.{needs}
 use Rattle.choices.specs.Order.{FirstWithin}
 use Rattle.formula.specs.Formula.{clauses}
 use Rattle.root_walk.specs.Root.{root-searching}
+use Rattle.witnesses.specs.Witnesses.{Witnesses}
 use Rattle.first_choice.specs.Fixing.{Fixed, Fixing, fixed-of, may-settle, settled}
 use Rattle.first_choice.specs.Refining.{Refining, refining-start, refining-end}
 use Rattle.first_choice.proofs.refine.refine.Statement.{statement}
 use Rattle.first_choice.proofs.refine.refine.Tie as tie
 
 abbrev Inv-loop : tie.InvT-loop
-Inv-loop list ends numbers begins row d a₀ trail₀ choice₀ tally₀ i₀ a trail choice tally i =
+Inv-loop list ends numbers begins row d a₀ trail₀ witnesses₀ choice₀ tally₀ i₀ a trail witnesses choice tally i =
     (i ≤ length a₀) × (length a ≡ length a₀) × (length trail ≡ length trail₀) × (length choice ≡ length choice₀) × Fixing list ends numbers begins row d i tally a trail choice
+    × (length witnesses ≡ length witnesses₀) × Witnesses list witnesses
 
 abbrev μ-loop : tie.MeasureT-loop
-μ-loop list ends numbers begins row d a₀ trail₀ choice₀ tally₀ i₀ a trail choice tally i = length a₀ - i
+μ-loop list ends numbers begins row d a₀ trail₀ witnesses₀ choice₀ tally₀ i₀ a trail witnesses choice tally i = length a₀ - i
 
 -- where every variable is unassigned
 module _ (c : tie.After-unassign-all Inv-loop μ-loop) where
   abbrev call : tie.Start Inv-loop μ-loop
-  call = c .before .before .before .before .before .before .before .before .before
+  call = c .before .before .before .before .before .before .before .before .before .before
 
   abbrev n : ℕ
   n = length (call .args .a .now)
@@ -62,12 +64,12 @@ settle-all-requires c κs = may-settle (unfixed (c .before .before .before .befo
 loop-holds : tie.Need-loop-holds Inv-loop μ-loop
 loop-holds c =
     let propagated = c .before .before .before .before in
-    (omega arith, refl, refl, refl, settled (unfixed (cleared propagated)) (propagated .settle-all .ensures .0) (propagated .settle-all .ensures .1))
+    (omega arith, refl, refl, refl, settled (unfixed (cleared propagated)) (propagated .settle-all .ensures .0) (propagated .settle-all .ensures .1), refl, call (cleared propagated) .pre .0 .4)
 
 fix-requires : tie.Need-fix-requires Inv-loop μ-loop
 fix-requires c κs =
-    let inv = c .before .before .before .before .loop .inv in
-    (inv .4, c .before .before .before .loop-test .taken)
+    let inv = c .before .before .before .before .before .loop .inv in
+    (inv .4, c .before .before .before .before .loop-test .taken, inv .6)
 
 add-i : tie.Need-add-i Inv-loop μ-loop
 add-i c = search needs
@@ -77,15 +79,17 @@ loop-less c = search needs
 
 loop-again : tie.Need-loop-again Inv-loop μ-loop
 loop-again c =
-    let fixed = c .before .before .before .before .before .before .fix in
-    let head = c .before .before .before .before .before .before .before .before .before .before .before .loop in
-    let more = c .before .before .before .before .before .before .before .before .before .before .loop-test .taken in
+    let fixed = c .before .before .before .before .before .before .before .before .fix in
+    let head = c .before .before .before .before .before .before .before .before .before .before .before .before .before .before .loop in
+    let more = c .before .before .before .before .before .before .before .before .before .before .before .before .before .loop-test .taken in
     let inv = head .inv in (
       omega (arith, more, inv .1),
       fixed .kept .1 .1 .1 .1 .1 .1 .1 .1 .0 ∙ inv .1,
       fixed .kept .1 .1 .1 .1 .1 .1 .1 .1 .1 .0 ∙ inv .2,
-      fixed .kept .1 .1 .1 .1 .1 .1 .1 .1 .1 .1 .0 ∙ inv .3,
-      fixed .ensures,
+      fixed .kept .1 .1 .1 .1 .1 .1 .1 .1 .1 .1 .1 .0 ∙ inv .3,
+      fixed .ensures .0,
+      fixed .kept .1 .1 .1 .1 .1 .1 .1 .1 .1 .1 .0 ∙ inv .5,
+      fixed .ensures .1,
     )
 
 same-length : tie.Need-same-length Inv-loop μ-loop
@@ -95,12 +99,15 @@ same-length-2 : tie.Need-same-length-2 Inv-loop μ-loop
 same-length-2 c = c .before .loop .inv .2 ∙ c .before .before .before .before .before .before .settle-all .kept .1 .1 .1 .1 .1 .1 .1 .1 .0
 
 same-length-3 : tie.Need-same-length-3 Inv-loop μ-loop
-same-length-3 c = c .before .loop .inv .3
+same-length-3 c = c .before .loop .inv .5
+
+same-length-4 : tie.Need-same-length-4 Inv-loop μ-loop
+same-length-4 c = c .before .loop .inv .3
 
 returns : tie.Need-returns Inv-loop μ-loop
 returns c =
     let head = c .before .loop in
-    let call = c .before .before .before .before .before .before .before .before .before .before .before .before .before .before .before .before .before .before .before .before in
+    let call = c .before .before .before .before .before .before .before .before .before .before .before .before .before .before .before .before .before .before .before .before .before in
     let inv = head .inv in
     subst (λ (k : ℕ). FirstWithin k (clauses (call .args .list .now)) (call .args .row .now) (call .args .d) (head .choice)) (inv .1 ∙ still (c .before .before .before .before .before .before))
     (refining-end (inv .4 .fixed .refining) (omega (arith, inv .0, inv .1, c .loop-test .left)))
@@ -121,4 +128,5 @@ refine-spec =
     same-length
     same-length-2
     same-length-3
+    same-length-4
     returns)

@@ -17,7 +17,7 @@ use Rattle.root_walk.proofs.into.walk_with.Tie as tie
 -- the space is there: of each part, what is lent for n variables is as long as it should be
 module _ (c : tie.After-no-marks) where
   abbrev call : tie.Start
-  call = c .before .before .before .before .before .before .before .before .before
+  call = c .before .before .before .before .before .before .before .before .before .before
 
   abbrev n : ℕ
   n = call .args .n
@@ -49,7 +49,7 @@ module _ (c : tie.After-no-marks) where
 -- after the walk: what it came to, the values that it left, and what it says of them
 module _ (c : tie.After-walk-from-root) where
   abbrev space : tie.After-no-marks
-  space = c .before .before .before .before .before
+  space = c .before .before .before .before .before .before
 
   abbrev given : tie.Start
   given = call space
@@ -69,7 +69,7 @@ module _ (c : tie.After-walk-from-root) where
   says : RootSays reached values (c .walk-from-root .result)
   says =
       subst (λ (k : ℕ). RootSays (walk k (clauses (given .args .list .now)) (given .args .row .now) (given .args .d)) values (c .walk-from-root .result))
-      (a-long space) (c .walk-from-root .ensures)
+      (a-long space) (c .walk-from-root .ensures .0)
 
 no-values-requires : tie.Need-no-values-requires
 no-values-requires c κs = search needs
@@ -108,23 +108,24 @@ array-borrow-prefix-weights : tie.Need-array-borrow-prefix-weights
 array-borrow-prefix-weights c = search needs
 
 slice-aggregate-walk-from-root-3 : tie.Need-slice-aggregate-walk-from-root-3
-slice-aggregate-walk-from-root-3 c = sym (weights-long (c .before .before .before))
+slice-aggregate-walk-from-root-3 c = sym (weights-long (c .before .before .before .before))
 
 array-borrow-prefix-marks : tie.Need-array-borrow-prefix-marks
 array-borrow-prefix-marks c = search needs
 
 slice-aggregate-walk-from-root-4 : tie.Need-slice-aggregate-walk-from-root-4
-slice-aggregate-walk-from-root-4 c = sym (marks-long (c .before .before .before .before))
+slice-aggregate-walk-from-root-4 c = sym (marks-long (c .before .before .before .before .before))
 
 walk-from-root-requires : tie.Need-walk-from-root-requires
 walk-from-root-requires c κs =
-    let space = c .before .before .before .before in
+    let space = c .before .before .before .before .before in
     let given = call space in (
       trail-long space ∙ sym (a-long space),
       record {
         few = omega (arith, a-long space, given .pre .0 .few);
         sound = ap (λ (k : ℕ). badRule k unread 0 (given .args .list .now)) (a-long space) ∙ given .pre .0 .sound;
         beside = record { arranged = given .pre .1 .arranged; wide = omega (arith, a-long space, given .pre .1 .wide) };
+        witnessed = given .pre .2;
         weighs = omega (arith, a-long space, weights-long space);
         mark = omega (arith, a-long space, marks-long space);
       },
@@ -132,10 +133,10 @@ walk-from-root-requires c κs =
 
 -- The ways on from there: something was found, and is copied; nothing was.
 abbrev found-by : tie.After-known-told → tie.After-walk-from-root
-found-by c = c .before .before .before .before .before .before .before
+found-by c = c .before .before .before .before .before .before .before .before .before
 
 abbrev nothing-by : tie.After-known-told2 → tie.After-walk-from-root
-nothing-by c = c .before .before .before .before .before .before .before
+nothing-by c = c .before .before .before .before .before .before .before .before .before
 
 enum-known-broken : tie.Need-enum-known-broken
 enum-known-broken c = search needs
@@ -161,6 +162,9 @@ enum-known-forks c = search needs
 same-length : tie.Need-same-length
 same-length c = search needs
 
+same-length-2 : tie.Need-same-length-2
+same-length-2 c = search needs
+
 returns : tie.Need-returns
 returns c =
     let copied = c .before .before in
@@ -168,15 +172,22 @@ returns c =
     let found = known .before .broken .given in
     let walked = found-by known in
     let choice = given walked .args .choice .now in
-    let said = subst (RootSays (reached walked) (values walked)) (found .1) (says walked) in
-    reaches-found (reached walked) (given walked .args .n) choice (copied .copy-to .last .1 .0) (values walked) (found .0 .0) (found .0 .1 .0) said
-    (copied .copy-to .ensures ∙ ap (λ (a : List ℕ). a ++ drop (length a) choice) (front walked) ∙ ap (λ (k : ℕ). values walked ++ drop k choice) (values-length walked))
+    let said = subst (RootSays (reached walked) (values walked)) (found .1) (says walked) in (
+      reaches-found (reached walked) (given walked .args .n) choice (copied .copy-to .last .1 .0) (values walked) (found .0 .0) (found .0 .1 .0) said
+          (copied .copy-to .ensures ∙ ap (λ (a : List ℕ). a ++ drop (length a) choice) (front walked) ∙ ap (λ (k : ℕ). values walked ++ drop k choice) (values-length walked)),
+      walked .walk-from-root .ensures .1,
+    )
+
+same-length-3 : tie.Need-same-length-3
+same-length-3 c = search needs
 
 returns-2 : tie.Need-returns-2
 returns-2 c =
     let none = c .before .forks .given in
-    let walked = nothing-by c in
-    reaches-nothing (reached walked) (given walked .args .n) (given walked .args .choice .now) (values walked) (none .0 .0) (subst (RootSays (reached walked) (values walked)) (none .1) (says walked))
+    let walked = nothing-by c in (
+      reaches-nothing (reached walked) (given walked .args .n) (given walked .args .choice .now) (values walked) (none .0 .0) (subst (RootSays (reached walked) (values walked)) (none .1) (says walked)),
+      walked .walk-from-root .ensures .1,
+    )
 
 pub walk-with-spec : {M : Type 1} → statement M
 walk-with-spec =
@@ -204,5 +215,7 @@ walk-with-spec =
     copy-to-requires
     enum-known-forks
     same-length
+    same-length-2
     returns
+    same-length-3
     returns-2)

@@ -3,7 +3,6 @@ use mathlib.Core.Path.{_≡_, sym, ap, _∙_}
 use native.Mathlib.Omega.{arith}
 use Rattle.walk.specs.Branching.{isSource}
 use Rattle.walk.specs.State.{unassignedIn}
-use Rattle.clause_standing.specs.Laws.{open-stands}
 use Rattle.opposed.specs.Opposed.{sizeOf}
 use Rattle.opposed.specs.declared.fewest.Fewest.{Fewest}
 use Rattle.weighing.specs.ClauseLaws.{open-source, size-source, other-source}
@@ -25,7 +24,7 @@ returns c =
     let row = args .row .now in
     let a = args .assignment .now in
     let clause = args .clause .now in
-    sym (ap (λ (f : Fewest). isSource row a (sizeOf f) clause) (c .enum-told .given .1) ∙ open-source row a clause (open-stands a clause (args .count) (start .pre) .0))
+    sym (ap (λ (f : Fewest). isSource row a (sizeOf f) clause) (c .enum-told .given .1) ∙ open-source row a clause (start .pre .0))
 
 -- a clause with another count is none
 returns-2 : tie.Need-returns-2
@@ -36,8 +35,7 @@ returns-2 c =
     let row = args .row .now in
     let a = args .assignment .now in
     let clause = args .clause .now in
-    let count = open-stands a clause (args .count) (start .pre) .1 in
-    sym (ap (λ (f : Fewest). isSource row a (sizeOf f) clause) (known .fewest .given .1) ∙ other-source row a clause (known .fewest .given .0 .0) (λ e. omega (arith, c .if1 .taken)))
+    sym (ap (λ (f : Fewest). isSource row a (sizeOf f) clause) (known .fewest .given .1) ∙ other-source row a clause (known .fewest .given .0 .0) (λ e. omega (arith, start .pre .1, c .if1 .taken)))
 
 is-opposed-requires : tie.Need-is-opposed-requires
 is-opposed-requires c κs = search needs
@@ -52,7 +50,7 @@ returns-3 c =
     let a = args .assignment .now in
     let clause = args .clause .now in
     let size = known .fewest .given .0 .0 in
-    let same : unassignedIn a clause ≡ size = omega (arith, open-stands a clause (args .count) (start .pre) .1, c .before .if1 .left) in
+    let same : unassignedIn a clause ≡ size = omega (arith, start .pre .1, c .before .if1 .left) in
     c .is-opposed .ensures ∙ sym (ap (λ (f : Fewest). isSource row a (sizeOf f) clause) (known .fewest .given .1) ∙ size-source row a clause size same)
 
 pub is-source-spec : {M : Type 1} → statement M

@@ -26,6 +26,7 @@ use Rattle.unit_queue.specs.Queue.{follow}
 use Rattle.unit_queue.specs.Theorems.{Covers, follow-alike}
 use Rattle.walk_result.specs.declared.Tried.{Tried}
 use Rattle.walk_result.specs.declared.Tried.the-variants.{Found, Nothing}
+use Rattle.witnesses.specs.Witnesses.{Witnesses}
 use Rattle.try_and_fork.specs.AttemptLaws as laws
 use Rattle.try_and_fork.specs.Ready.{Ready, ready-still, ready-following, long-searching, long-branches}
 use Rattle.try_and_fork.specs.Tried.{TriedBy, MayUnwind, unwound as after}
@@ -67,7 +68,7 @@ module _ (t : ℕ) where
 
   -- The way back from each.
   abbrev entry : Placed → Call
-  entry c = c .before .before .before .before .before .before .before .before .before
+  entry c = c .before .before .before .before .before .before .before .before .before .before
 
   abbrev placed : Propagation → Placed
   placed c = c .before .before .before
@@ -85,16 +86,16 @@ module _ (t : ℕ) where
   alive c = c .before .before
 
   abbrev tested : Picked → Tested
-  tested c = c .before .before .before .before .before
+  tested c = c .before .before .before .before .before .before
 
   abbrev exhausted : Exhausted → Picked
-  exhausted c = c .before .before .before .before .before .before
+  exhausted c = c .before .before .before .before .before .before .before .before
 
   abbrev picked : Branching → Picked
-  picked c = c .before .before .before .before .before .before .before
+  picked c = c .before .before .before .before .before .before .before .before .before
 
   abbrev branching : Forked → Branching
-  branching c = c .before .before .before .before .before
+  branching c = c .before .before .before .before .before .before
 
   -- the call: n variables, the clauses f
   module _ (c : Call) where
@@ -107,7 +108,7 @@ module _ (t : ℕ) where
     given : Searching n (c .args .row .now) (c .args .a .now) (c .args .trail .now) (c .args .tally .settled) (c .args .tally .broken)
     given = c .pre .1 .0
 
-    ready : Ready (c .args .list .now) (c .args .ends .now) (c .args .numbers .now) (c .args .begins .now) n (length (c .args .weights .now)) (length (c .args .marks .now))
+    ready : Ready (c .args .list .now) (c .args .ends .now) (c .args .numbers .now) (c .args .begins .now) (c .args .witnesses .now) n (length (c .args .weights .now)) (length (c .args .marks .now))
     ready = c .pre .1 .1 .0
 
     covers : Covers f (pending (laws.newest (c .args .tally)) (c .args .tally) (c .args .a .now) (c .args .trail .now))
@@ -163,14 +164,14 @@ module _ (t : ℕ) where
     state = laws.propagated lives
 
     -- what is lent serves the propagated state too, while the tables keep their lengths
-    ready-there : {weights marks : ℕ} → weights ≡ length (start .args .weights .now) → marks ≡ length (start .args .marks .now)
-        → Ready (start .args .list .now) (start .args .ends .now) (start .args .numbers .now) (start .args .begins .now) (length (a (propagation c))) weights marks
-    ready-there p q = ready-still (state .state .size) p q (ready start)
+    ready-there : {witnesses : List ℕ} {weights marks : ℕ} → Witnesses (start .args .list .now) witnesses → weights ≡ length (start .args .weights .now) → marks ≡ length (start .args .marks .now)
+        → Ready (start .args .list .now) (start .args .ends .now) (start .args .numbers .now) (start .args .begins .now) witnesses (length (a (propagation c))) weights marks
+    ready-there w p q = ready-still (state .state .size) w p q (ready start)
 
   -- its completion is no model
   module _ (c : Picked) where
     incomplete : models (complete (start (alive (tested c)) .args .row .now) (a (propagation (alive (tested c))))) (f (start (alive (tested c)))) ≡ false
-    incomplete = sym (tested c .completes .ensures) ∙ c .before .before .before .before .if1 .left
+    incomplete = sym (tested c .completes .ensures) ∙ c .before .before .before .before .before .if1 .left
 
   -- and there is a variable to branch on
   module _ (c : Branching) where
@@ -184,7 +185,7 @@ module _ (t : ℕ) where
     value = c .before .v .given .0 .1 .0
 
     chosen : pickOf (f (start from)) (start from .args .row .now) (start from .args .d) (a (propagation from)) ≡ Branch v value
-    chosen = sym (picked c .pick-branch .ensures) ∙ c .before .v .given .1
+    chosen = sym (picked c .pick-branch .ensures .0) ∙ c .before .v .given .1
 
   -- what the fork came to
   module _ (c : Forked) where
@@ -250,14 +251,16 @@ module _ (t : ℕ) where
   pub returns : lts.Need-returns (attempt-claims t) (attempt-at t) attempt.Post
   returns c =
       let filled = c .before .before in
-      let tested = filled .before .before .before in
-      laws.by-completion (lives (alive tested)) (filled .fill-completion .last .1 .0) (filled .fill-completion .ensures) (sym (tested .completes .ensures) ∙ filled .before .before .if1 .taken)
+      let tested = filled .before .before .before in (
+        laws.by-completion (lives (alive tested)) (filled .fill-completion .last .1 .0) (filled .fill-completion .ensures) (sym (tested .completes .ensures) ∙ filled .before .before .if1 .taken),
+        ready (start (alive tested)) .witnessed,
+      )
 
   pub pick-branch-requires : lts.Need-pick-branch-requires (attempt-claims t) (attempt-at t) attempt.Post
   pick-branch-requires c κs =
-      let alive = alive (c .before .before .before .before) in
-      let ready = ready-there alive refl refl in
-      ((state alive .breaks, ready .sound), ((ready .weighs, ready .mark), laws.propagated-none-short (lives alive)))
+      let alive = alive (c .before .before .before .before .before) in
+      let ready = ready-there alive (ready (start alive) .witnessed) refl refl in
+      ((state alive .breaks, ready .sound), ((ready .weighs, ready .mark), (laws.propagated-none-short (lives alive), (ready .beside .arranged .located, ready .witnessed))))
 
   pub enum-told : lts.Need-enum-told (attempt-claims t) (attempt-at t) attempt.Post
   enum-told c = search needs
@@ -272,18 +275,18 @@ module _ (t : ℕ) where
 
   pub fork-requires : lts.Need-fork-requires (attempt-claims t) (attempt-at t) attempt.Post
   fork-requires c κs =
-      let branching = c .before .before .before .before in
+      let branching = c .before .before .before .before .before in
       let kept = picked branching .pick-branch .kept in
       let alive = from branching in
       let b = laws.branches (lives alive) (incomplete (picked branching)) (v branching) (value branching) (chosen branching) in (
         omega (arith, laws.propagated-fewer (lives alive), start alive .pre .0),
-        (long-searching (state alive), (ready-there alive (kept .1 .1 .1 .1 .1 .0) (kept .1 .1 .1 .1 .1 .1 .0), (long-branches (state alive) (b .0), b .1, laws.propagated-none-due (lives alive)))),
+        (long-searching (state alive), (ready-there alive (picked branching .pick-branch .ensures .1) (kept .1 .1 .1 .1 .1 .1 .1 .0) (kept .1 .1 .1 .1 .1 .1 .1 .1 .0), (long-branches (state alive) (b .0), b .1, laws.propagated-none-due (lives alive)))),
       )
 
   pub unwind-requires-3 : lts.Need-unwind-requires-3 (attempt-claims t) (attempt-at t) attempt.Post
   unwind-requires-3 c κs =
-      let forked = c .before .before .before .before .before .before .before .before .before .before in
-      may-unwind forked (forked .fork .result) (forked .fork .ensures)
+      let forked = c .before .before .before .before .before .before .before .before .before .before .before .before in
+      may-unwind forked (forked .fork .result) (forked .fork .ensures .0)
 
   pub same-length-3 : lts.Need-same-length-3 (attempt-claims t) (attempt-at t) attempt.Post
   same-length-3 c =
@@ -300,9 +303,11 @@ module _ (t : ℕ) where
   returns-2 c =
       let unwound = c .before .before in
       let ended-at = unwound .before .before .before in
-      let call = call (ended ended-at) in
-      rw (unwound .unwind .ensures .0)
-      (laws.by-propagation (given call) (f call) (fit call) (call .args .d) (dead ended-at) (unwound .unwind .last .1 .1 .1 .1 .0) (unwound .unwind .ensures .1 ∙ from-newest (ended ended-at) (dead-tally ended-at .settled) (trail (ended ended-at)) (a (ended ended-at))))
+      let call = call (ended ended-at) in (
+        rw (unwound .unwind .ensures .0)
+            (laws.by-propagation (given call) (f call) (fit call) (call .args .d) (dead ended-at) (unwound .unwind .last .1 .1 .1 .1 .0) (unwound .unwind .ensures .1 ∙ from-newest (ended ended-at) (dead-tally ended-at .settled) (trail (ended ended-at)) (a (ended ended-at)))),
+        ready call .witnessed,
+      )
 
   pub same-length-5 : lts.Need-same-length-5 (attempt-claims t) (attempt-at t) attempt.Post
   same-length-5 c =
@@ -317,12 +322,17 @@ module _ (t : ℕ) where
   pub same-length-7 : lts.Need-same-length-7 (attempt-claims t) (attempt-at t) attempt.Post
   same-length-7 c =
       let unwound = c .before .before in
-      exhausted (unwound .before .before .before) .pick-branch .kept .1 .1 .1 .1 .1 .0
+      exhausted (unwound .before .before .before) .pick-branch .kept .1 .1 .1 .1 .1 .1 .0
 
   pub same-length-8 : lts.Need-same-length-8 (attempt-claims t) (attempt-at t) attempt.Post
   same-length-8 c =
       let unwound = c .before .before in
-      exhausted (unwound .before .before .before) .pick-branch .kept .1 .1 .1 .1 .1 .1 .0
+      exhausted (unwound .before .before .before) .pick-branch .kept .1 .1 .1 .1 .1 .1 .1 .0
+
+  pub same-length-9 : lts.Need-same-length-9 (attempt-claims t) (attempt-at t) attempt.Post
+  same-length-9 c =
+      let unwound = c .before .before in
+      exhausted (unwound .before .before .before) .pick-branch .kept .1 .1 .1 .1 .1 .1 .1 .1 .0
 
   -- steps 3 and 4: a dead end
   pub returns-3 : lts.Need-returns-3 (attempt-claims t) (attempt-at t) attempt.Post
@@ -330,38 +340,47 @@ module _ (t : ℕ) where
       let unwound = c .before .before in
       let told = unwound .before .before .before in
       let picked = exhausted told in
-      let alive = alive (tested picked) in
-      rw (unwound .unwind2 .ensures .0)
-      (laws.by-exhaustion (lives alive) (incomplete picked) (sym (picked .pick-branch .ensures) ∙ told .enum-told .given .1) (unwound .unwind2 .last .1 .1 .1 .1 .0)
-      (unwound .unwind2 .ensures .1 ∙ from-newest (propagation alive) (tally alive .settled) (trail (propagation alive)) (a (propagation alive))))
-
-  pub same-length-9 : lts.Need-same-length-9 (attempt-claims t) (attempt-at t) attempt.Post
-  same-length-9 c =
-      let unwound = c .before .before in
-      unwound .unwind3 .kept .1 .1 .1 .1 .0 ∙ a-long (unwound .before .before .before .before .before .before .before .before .before .before .before)
+      let alive = alive (tested picked) in (
+        rw (unwound .unwind2 .ensures .0)
+            (laws.by-exhaustion (lives alive) (incomplete picked) (sym (picked .pick-branch .ensures .0) ∙ told .enum-told .given .1) (unwound .unwind2 .last .1 .1 .1 .1 .0)
+            (unwound .unwind2 .ensures .1 ∙ from-newest (propagation alive) (tally alive .settled) (trail (propagation alive)) (a (propagation alive)))),
+        picked .pick-branch .ensures .1,
+      )
 
   pub same-length-10 : lts.Need-same-length-10 (attempt-claims t) (attempt-at t) attempt.Post
   same-length-10 c =
-      let forked = c .before .before .before .before .before .before .before .before .before .before .before .before .before in
-      trail-long forked ∙ propagation (origin forked) .propagate-units .kept .1 .1 .1 .1 .1 .1 .1 .1 .1 .0
+      let unwound = c .before .before in
+      unwound .unwind3 .kept .1 .1 .1 .1 .0 ∙ a-long (unwound .before .before .before .before .before .before .before .before .before .before .before .before .before)
 
   pub same-length-11 : lts.Need-same-length-11 (attempt-claims t) (attempt-at t) attempt.Post
   same-length-11 c =
-      let forked = c .before .before .before .before .before .before .before .before .before .before .before .before .before in
-      forked .fork .kept .1 .1 .1 .1 .1 .1 .1 .1 .1 .1 .1 .0 ∙ picked (branching forked) .pick-branch .kept .1 .1 .1 .1 .1 .0
+      let forked = c .before .before .before .before .before .before .before .before .before .before .before .before .before .before .before in
+      trail-long forked ∙ propagation (origin forked) .propagate-units .kept .1 .1 .1 .1 .1 .1 .1 .1 .1 .0
 
   pub same-length-12 : lts.Need-same-length-12 (attempt-claims t) (attempt-at t) attempt.Post
   same-length-12 c =
-      let forked = c .before .before .before .before .before .before .before .before .before .before .before .before .before in
-      forked .fork .kept .1 .1 .1 .1 .1 .1 .1 .1 .1 .1 .1 .1 .0 ∙ picked (branching forked) .pick-branch .kept .1 .1 .1 .1 .1 .1 .0
+      let forked = c .before .before .before .before .before .before .before .before .before .before .before .before .before .before .before in
+      forked .fork .kept .1 .1 .1 .1 .1 .1 .1 .1 .1 .1 .1 .0 ∙ picked (branching forked) .pick-branch .kept .1 .1 .1 .1 .1 .1 .0
+
+  pub same-length-13 : lts.Need-same-length-13 (attempt-claims t) (attempt-at t) attempt.Post
+  same-length-13 c =
+      let forked = c .before .before .before .before .before .before .before .before .before .before .before .before .before .before .before in
+      forked .fork .kept .1 .1 .1 .1 .1 .1 .1 .1 .1 .1 .1 .1 .0 ∙ picked (branching forked) .pick-branch .kept .1 .1 .1 .1 .1 .1 .1 .0
+
+  pub same-length-14 : lts.Need-same-length-14 (attempt-claims t) (attempt-at t) attempt.Post
+  same-length-14 c =
+      let forked = c .before .before .before .before .before .before .before .before .before .before .before .before .before .before .before in
+      forked .fork .kept .1 .1 .1 .1 .1 .1 .1 .1 .1 .1 .1 .1 .1 .0 ∙ picked (branching forked) .pick-branch .kept .1 .1 .1 .1 .1 .1 .1 .1 .0
 
   -- step 5: what the fork says
   pub returns-4 : lts.Need-returns-4 (attempt-claims t) (attempt-at t) attempt.Post
   returns-4 c =
       let unwound = c .before .before in
-      let forked = unwound .before .before .before .before .before .before .before .before .before .before .before in
-      let branching = branching forked in
-      rw (unwound .unwind3 .ensures .0)
-      (laws.by-fork (lives (from branching)) (incomplete (picked branching)) (v branching) (value branching) (chosen branching)
-      (last-trail forked) (last-a forked) (unwound .unwind3 .last .1 .1 .1 .1 .0) (forked .fork .result) (forked .fork .ensures) (trail-long forked)
-      (unwound .unwind3 .ensures .1 ∙ ap (λ (i : ℕ). after (forked .fork .result) (slice i (tally (from branching) .settled) (last-trail forked)) (last-a forked)) (placed (propagation (from branching)) .newest-of .ensures)))
+      let forked = unwound .before .before .before .before .before .before .before .before .before .before .before .before .before in
+      let branching = branching forked in (
+        rw (unwound .unwind3 .ensures .0)
+            (laws.by-fork (lives (from branching)) (incomplete (picked branching)) (v branching) (value branching) (chosen branching)
+            (last-trail forked) (last-a forked) (unwound .unwind3 .last .1 .1 .1 .1 .0) (forked .fork .result) (forked .fork .ensures .0) (trail-long forked)
+            (unwound .unwind3 .ensures .1 ∙ ap (λ (i : ℕ). after (forked .fork .result) (slice i (tally (from branching) .settled) (last-trail forked)) (last-a forked)) (placed (propagation (from branching)) .newest-of .ensures))),
+        forked .fork .ensures .1,
+      )

@@ -19,24 +19,24 @@ use Rattle.try_and_fork.proofs.search.fork.Reads as fork
 use Rattle.try_and_fork.proofs.search.fork.Kinds as fork-kinds
 use Rattle.try_and_fork.proofs.search.+attempt+fork.Lts-fork as fork-lts
 
-abbrev pub μ-attempt : Measures 9 attempt-kinds.ps ℕ
+abbrev pub μ-attempt : Measures 10 attempt-kinds.ps ℕ
 μ-attempt κs a = 2 * unassigned (a .1 .1 .1 .1 .1 .1 .1 .0 .now) + 1
 
-abbrev pub μ-fork : Measures 9 fork-kinds.ps ℕ
+abbrev pub μ-fork : Measures 10 fork-kinds.ps ℕ
 μ-fork κs a = 2 * unassigned (a .1 .1 .1 .1 .1 .1 .1 .1 .1 .0 .now)
 
 -- what each is given at the measure t, and what a call of it asks below t
-abbrev pub attempt-at : ℕ → In 9 attempt-kinds.ps
-attempt-at t = and 9 attempt-kinds.ps (is 9 attempt-kinds.ps μ-attempt t) attempt.Pre
+abbrev pub attempt-at : ℕ → In 10 attempt-kinds.ps
+attempt-at t = and 10 attempt-kinds.ps (is 10 attempt-kinds.ps μ-attempt t) attempt.Pre
 
-abbrev pub attempt-below : ℕ → In 9 attempt-kinds.ps
-attempt-below t = and 9 attempt-kinds.ps (falls 9 attempt-kinds.ps _<_ μ-attempt t) attempt.Pre
+abbrev pub attempt-below : ℕ → In 10 attempt-kinds.ps
+attempt-below t = and 10 attempt-kinds.ps (falls 10 attempt-kinds.ps _<_ μ-attempt t) attempt.Pre
 
-abbrev pub fork-at : ℕ → In 9 fork-kinds.ps
-fork-at t = and 9 fork-kinds.ps (is 9 fork-kinds.ps μ-fork t) fork.Pre
+abbrev pub fork-at : ℕ → In 10 fork-kinds.ps
+fork-at t = and 10 fork-kinds.ps (is 10 fork-kinds.ps μ-fork t) fork.Pre
 
-abbrev pub fork-below : ℕ → In 9 fork-kinds.ps
-fork-below t = and 9 fork-kinds.ps (falls 9 fork-kinds.ps _<_ μ-fork t) fork.Pre
+abbrev pub fork-below : ℕ → In 10 fork-kinds.ps
+fork-below t = and 10 fork-kinds.ps (falls 10 fork-kinds.ps _<_ μ-fork t) fork.Pre
 
 abbrev pub attempt-claims : ℕ → attempt-lts.Claims
 attempt-claims t = (newest-of-reads.Asked, newest-of-reads.Learnt, propagate-units-reads.Asked, propagate-units-reads.Learnt, unwind-reads.Asked, unwind-reads.Learnt, completes-reads.Asked, completes-reads.Learnt, fill-completion-reads.Asked, fill-completion-reads.Learnt, pick-branch-reads.Asked, pick-branch-reads.Learnt, fork-below t, fork.Post)

@@ -45,22 +45,22 @@ module _ (t : ℕ) where
 
   -- The way back from each.
   abbrev call : First → Call
-  call c = c .before .before .before .before .before .before .before .before .before .before .before
+  call c = c .before .before .before .before .before .before .before .before .before .before .before .before
 
   abbrev first : FirstTried → First
-  first c = c .before .before .before .before .before .before .before .before .before
+  first c = c .before .before .before .before .before .before .before .before .before .before
 
   abbrev fruitless : Fruitless → FirstTried
-  fruitless c = c .before .before .before .before .before .before .before .before .before .before .before
+  fruitless c = c .before .before .before .before .before .before .before .before .before .before .before .before .before
 
   abbrev first-tried : Second → Fruitless
   first-tried c = c .before .before .before
 
   abbrev second : SecondTried → Second
-  second c = c .before .before .before .before .before .before .before .before .before
+  second c = c .before .before .before .before .before .before .before .before .before .before
 
   abbrev second-tried : End → SecondTried
-  second-tried c = c .before .before .before .before .before .before .before .before .before
+  second-tried c = c .before .before .before .before .before .before .before .before .before .before .before
 
   -- the call: n variables, and the walk of which two states are tried
   module _ (c : Call) where
@@ -76,7 +76,7 @@ module _ (t : ℕ) where
     given : Searching n (c .args .row .now) (c .args .a .now) (c .args .trail .now) (c .args .tally .settled) (c .args .tally .broken)
     given = c .pre .1 .0
 
-    ready : Ready (c .args .list .now) (c .args .ends .now) (c .args .numbers .now) (c .args .begins .now) n (length (c .args .weights .now)) (length (c .args .marks .now))
+    ready : Ready (c .args .list .now) (c .args .ends .now) (c .args .numbers .now) (c .args .begins .now) (c .args .witnesses .now) n (length (c .args .weights .now)) (length (c .args .marks .now))
     ready = c .pre .1 .1 .0
 
     forks : laws.Forks n f (c .args .row .now) (c .args .a .now) (c .args .trail .now) (c .args .tally) (c .args .v .0) (c .args .value)
@@ -102,7 +102,7 @@ module _ (t : ℕ) where
         → TriedBy (try start (first c .assign-to .last .1 .1 .1 .1 .0)) (newest (first c .assign-to .result)) (before (first c .assign-to .result) (first c .assign-to .last .1 .1 .1 .1 .0) (first c .assign-to .last .1 .1 .1 .1 .1 .0)) (first c .assign-to .last .1 .1 .1 .1 .1 .0) tried-trail tried-a r
     said r e =
         subst (TriedBy (try start (first c .assign-to .last .1 .1 .1 .1 .0)) (newest (first c .assign-to .result)) (before (first c .assign-to .result) (first c .assign-to .last .1 .1 .1 .1 .0) (first c .assign-to .last .1 .1 .1 .1 .1 .0)) (first c .assign-to .last .1 .1 .1 .1 .1 .0) tried-trail tried-a) e
-        (c .attempt .ensures)
+        (c .attempt .ensures .0)
 
     tried-long : length tried-trail ≡ length (start .args .trail .now)
     tried-long = c .attempt .kept .1 .1 .1 .1 .1 .1 .1 .1 .0 ∙ first c .assign-to .kept .1 .1 .1 .1 .1 .0
@@ -145,15 +145,18 @@ module _ (t : ℕ) where
     trail-long : length last-trail ≡ length (begun .args .trail .now)
     trail-long = c .attempt2 .kept .1 .1 .1 .1 .1 .1 .1 .1 .0 ∙ second-state (second c) .long ∙ sym (given begun .long)
 
-    weights-long : length (c .attempt2 .last .1 .1 .1 .1 .1 .1 .1 .1 .1 .0) ≡ length (begun .args .weights .now)
-    weights-long = c .attempt2 .kept .1 .1 .1 .1 .1 .1 .1 .1 .1 .0 ∙ fruitless (first-tried (second c)) .attempt .kept .1 .1 .1 .1 .1 .1 .1 .1 .1 .0
+    witnesses-long : length (c .attempt2 .last .1 .1 .1 .1 .1 .1 .1 .1 .1 .0) ≡ length (begun .args .witnesses .now)
+    witnesses-long = c .attempt2 .kept .1 .1 .1 .1 .1 .1 .1 .1 .1 .0 ∙ fruitless (first-tried (second c)) .attempt .kept .1 .1 .1 .1 .1 .1 .1 .1 .1 .0
 
-    marks-long : length (c .attempt2 .last .1 .1 .1 .1 .1 .1 .1 .1 .1 .1 .0) ≡ length (begun .args .marks .now)
-    marks-long = c .attempt2 .kept .1 .1 .1 .1 .1 .1 .1 .1 .1 .1 .0 ∙ fruitless (first-tried (second c)) .attempt .kept .1 .1 .1 .1 .1 .1 .1 .1 .1 .1 .0
+    weights-long : length (c .attempt2 .last .1 .1 .1 .1 .1 .1 .1 .1 .1 .1 .0) ≡ length (begun .args .weights .now)
+    weights-long = c .attempt2 .kept .1 .1 .1 .1 .1 .1 .1 .1 .1 .1 .0 ∙ fruitless (first-tried (second c)) .attempt .kept .1 .1 .1 .1 .1 .1 .1 .1 .1 .1 .0
+
+    marks-long : length (c .attempt2 .last .1 .1 .1 .1 .1 .1 .1 .1 .1 .1 .1 .0) ≡ length (begun .args .marks .now)
+    marks-long = c .attempt2 .kept .1 .1 .1 .1 .1 .1 .1 .1 .1 .1 .1 .0 ∙ fruitless (first-tried (second c)) .attempt .kept .1 .1 .1 .1 .1 .1 .1 .1 .1 .1 .1 .0
 
   pub assign-to-requires : lts.Need-assign-to-requires (fork-claims t) (fork-at t) fork.Post
   assign-to-requires c κs =
-      let call = c .before .before .before .before .before .before .before .before .before .before in
+      let call = c .before .before .before .before .before .before .before .before .before .before .before in
       let h = given call in
       let k = forks call .branch in
       let room = laws.branch-room (forks call) in
@@ -161,10 +164,10 @@ module _ (t : ℕ) where
 
   pub attempt-requires : lts.Need-attempt-requires (fork-claims t) (fork-at t) fork.Post
   attempt-requires c κs =
-      let first = c .before .before .before .before .before .before .before .before in
+      let first = c .before .before .before .before .before .before .before .before .before in
       let call = call first in (
         omega (arith, laws.branch-fewer (forks call) (forks call .bit) (first .assign-to .ensures), call .pre .0),
-        (long-searching (first-state first), (ready-still (first-state first .state .size) refl refl (ready call), laws.branch-covers (forks call) (forks call .bit) (first .assign-to .ensures))),
+        (long-searching (first-state first), (ready-still (first-state first .state .size) (ready call .witnessed) refl refl (ready call), laws.branch-covers (forks call) (forks call .bit) (first .assign-to .ensures))),
       )
 
   pub enum-known-broken : lts.Need-enum-known-broken (fork-claims t) (fork-at t) fork.Post
@@ -190,7 +193,7 @@ module _ (t : ℕ) where
 
   pub attempt-requires-2 : lts.Need-attempt-requires-2 (fork-claims t) (fork-at t) fork.Post
   attempt-requires-2 c κs =
-      let second = c .before .before .before .before .before .before .before .before in
+      let second = c .before .before .before .before .before .before .before .before .before in
       let call = origin second in
       let u = undoes (first-tried second) in
       let other = laws.other u (second .assign-to2 .ensures) in
@@ -198,7 +201,7 @@ module _ (t : ℕ) where
         omega (arith, laws.branch-fewer (u .again) other (second .assign-to2 .ensures), ap unassigned (u .back), call .pre .0),
         (
           long-searching (second-state second),
-          (ready-still (second-state second .state .size) (kept .1 .1 .1 .1 .1 .1 .1 .1 .1 .0) (kept .1 .1 .1 .1 .1 .1 .1 .1 .1 .1 .0) (ready call), laws.branch-covers (u .again) other (second .assign-to2 .ensures)),
+          (ready-still (second-state second .state .size) (fruitless (first-tried second) .attempt .ensures .1) (kept .1 .1 .1 .1 .1 .1 .1 .1 .1 .1 .0) (kept .1 .1 .1 .1 .1 .1 .1 .1 .1 .1 .1 .0) (ready call), laws.branch-covers (u .again) other (second .assign-to2 .ensures)),
         ),
       )
 
@@ -217,31 +220,41 @@ module _ (t : ℕ) where
   pub same-length-4 : lts.Need-same-length-4 (fork-claims t) (fork-at t) fork.Post
   same-length-4 c = search needs
 
+  pub same-length-5 : lts.Need-same-length-5 (fork-claims t) (fork-at t) fork.Post
+  same-length-5 c = search needs
+
   -- the first value has the answer
   pub returns : lts.Need-returns (fork-claims t) (fork-at t) fork.Post
   returns c =
-      let tried = c .before .before .before .before .before .before .before .before .before .before .before .before in
+      let tried = c .before .before .before .before .before .before .before .before .before .before .before .before .before .before in
       let call = start tried in
-      let found = c .before .before .broken .given in
-      laws.first-found (forks call) (forks call .bit) (first tried .assign-to .ensures) (try call) (tried-trail tried) (tried-a tried) refl (found .0 .0) (found .0 .1 .0) (c .add-forks .result)
-      (said tried (Found (found .0 .0) (found .0 .1 .0)) (found .1)) (c .add-forks .ensures)
-
-  pub same-length-5 : lts.Need-same-length-5 (fork-claims t) (fork-at t) fork.Post
-  same-length-5 c = a-long (second-tried c)
+      let found = c .before .before .broken .given in (
+        laws.first-found (forks call) (forks call .bit) (first tried .assign-to .ensures) (try call) (tried-trail tried) (tried-a tried) refl (found .0 .0) (found .0 .1 .0) (c .add-forks .result)
+            (said tried (Found (found .0 .0) (found .0 .1 .0)) (found .1)) (c .add-forks .ensures),
+        tried .attempt .ensures .1,
+      )
 
   pub same-length-6 : lts.Need-same-length-6 (fork-claims t) (fork-at t) fork.Post
-  same-length-6 c = trail-long (second-tried c)
+  same-length-6 c = a-long (second-tried c)
 
   pub same-length-7 : lts.Need-same-length-7 (fork-claims t) (fork-at t) fork.Post
-  same-length-7 c = weights-long (second-tried c)
+  same-length-7 c = trail-long (second-tried c)
 
   pub same-length-8 : lts.Need-same-length-8 (fork-claims t) (fork-at t) fork.Post
-  same-length-8 c = marks-long (second-tried c)
+  same-length-8 c = witnesses-long (second-tried c)
+
+  pub same-length-9 : lts.Need-same-length-9 (fork-claims t) (fork-at t) fork.Post
+  same-length-9 c = weights-long (second-tried c)
+
+  pub same-length-10 : lts.Need-same-length-10 (fork-claims t) (fork-at t) fork.Post
+  same-length-10 c = marks-long (second-tried c)
 
   -- the other value has it, or neither has
   pub returns-2 : lts.Need-returns-2 (fork-claims t) (fork-at t) fork.Post
   returns-2 c =
       let tried = second-tried c in
-      let call = begun tried in
-      subst (TriedBy (forkOf (try call) (call .args .a .now) (call .args .v .0) (call .args .value)) (call .args .tally .settled) (call .args .a .now) (call .args .trail .now) (last-trail tried) (last-a tried)) (sym (c .with-forks .ensures))
-      (laws.second-said (undoes (first-tried (second tried))) (second tried .assign-to2 .ensures) (last-trail tried) (last-a tried) (tried .attempt2 .result) (tried .attempt2 .ensures))
+      let call = begun tried in (
+        subst (TriedBy (forkOf (try call) (call .args .a .now) (call .args .v .0) (call .args .value)) (call .args .tally .settled) (call .args .a .now) (call .args .trail .now) (last-trail tried) (last-a tried)) (sym (c .with-forks .ensures))
+            (laws.second-said (undoes (first-tried (second tried))) (second tried .assign-to2 .ensures) (last-trail tried) (last-a tried) (tried .attempt2 .result) (tried .attempt2 .ensures .0)),
+        tried .attempt2 .ensures .1,
+      )

@@ -1,0 +1,239 @@
+-- `weighing::list::weigh_at` meets its contract: a satisfied clause changes nothing but its witness, and an open one is weighed or makes a dead end.
+use mathlib.Core.Path.{_≡_, refl, sym, ap, subst, _∙_}
+use mathlib.Core.Bool.{Bool, true, false, _&&_, true≢false}
+use mathlib.Core.List.{List, []}
+use Prim.Native.Nat.{ℕ, _+_, _-_, _≤_}
+use native.Mathlib.Omega.{arith}
+use lib.IntN.{ℤ}
+use lib.ListN.{length, getD, take, drop}
+use Rattle.formula.specs.Formula.{clauses, clauseLength, satisfied}
+use Rattle.formula.specs.Laws.{end-inside}
+use Rattle.clause_standing.specs.Clause.{clauseAt, clause-at}
+use Rattle.clause_standing.specs.Standing.{IsRead, HoldsAt, StandsOpen}
+use Rattle.occurrences.specs.Table.{begins-inside, begins-clause}
+use Rattle.opposed.specs.Opposed.{sizeOf}
+use Rattle.walk.specs.Branching.{isOpposed}
+use Rattle.walk.specs.State.{unassignedIn}
+use Rattle.witnesses.specs.Laws.{held-satisfies, new-witness}
+use Rattle.weighing.specs.ClauseLaws.{weighed-satisfied, satisfied-unopposed}
+use Rattle.weighing.specs.Weights.{Weighable, Weighed}
+use borrow.Author.Needs.{needs}
+use Rattle.weighing.proofs.list.weigh_at.Statement.{statement}
+use Rattle.weighing.proofs.list.weigh_at.Tie as tie
+
+-- the clause, by its number
+module _ (s : tie.Start) where
+  abbrev list : List ℤ
+  list = s .args .list .now
+
+  abbrev row : List ℕ
+  row = s .args .row .now
+
+  abbrev a : List ℕ
+  a = s .args .assignment .now
+
+  abbrev k : ℕ
+  k = s .args .k
+
+  abbrev clause : List ℤ
+  clause = getD (clauses list) k []
+
+  abbrev begin : ℕ
+  begin = getD (s .args .begins .now) k 0
+
+  abbrev same : clauseAt begin list ≡ clause
+  same = begins-clause (s .pre .0 .0) k (s .pre .0 .2)
+
+  -- where it is satisfied, it makes no dead end, and weighing changes nothing
+  module _ (met : satisfied a clause ≡ true) where
+    no-dead-end : false ≡ s .args .spent && isOpposed row a clause
+    no-dead-end = sym (ap (λ (b : Bool). s .args .spent && b) (satisfied-unopposed row a clause met) ∙ lost (s .args .spent))
+      where
+        lost : (b : Bool) → b && false ≡ false
+        lost true = refl
+        lost false = refl
+
+    unchanged : Weighed row a (sizeOf (s .args .fewest)) clause (s .args .weights .now) (s .args .marks .now) (s .args .weights .now) (s .args .marks .now)
+    unchanged = weighed-satisfied row a clause met (sizeOf (s .args .fewest)) (s .args .weights .now) (s .args .marks .now)
+
+  -- read as open, it is the part of the list up to its end
+  module _ (end count : ℕ) (h : StandsOpen a list begin end count) where
+    ends-inside : end ≤ length list
+    ends-inside = end-inside list begin end (omega (arith, begins-inside (s .pre .0 .0) k (s .pre .0 .2))) (h .ends)
+
+    part : take (end - begin) (drop begin list) ≡ clause
+    part = clause-at list begin end (h .ends) ∙ same
+
+-- Points of the program: its witness tested; the clause read; a literal of it found that holds, or its end and its count of unassigned literals; whether it makes a dead end.
+abbrev start : tie.After-is-witnessed → tie.Start
+start c = c .before .before .before .before .before .before .before .before
+
+abbrev tested : tie.After-read-clause → tie.After-is-witnessed
+tested c = c .before .before .before
+
+abbrev call : tie.After-read-clause → tie.Start
+call c = start (tested c)
+
+abbrev met : tie.After-known-told → tie.After-read-clause
+met c = c .before .before .before
+
+abbrev opened : tie.After-known-told2 → tie.After-read-clause
+opened c = c .before .before .before
+
+abbrev asked : tie.After-is-dead-end → tie.After-known-told2
+asked c = c .before .before
+
+held : (c : tie.After-known-told) → HoldsAt (a (call (met c))) (list (call (met c))) (begin (call (met c))) (c .before .at .given .0 .0)
+held c =
+    let s = call (met c) in
+    subst (IsRead (a s) (list s) (begin s)) (c .before .at .given .1) (met c .read-clause .ensures)
+
+stands : (c : tie.After-known-told2) → StandsOpen (a (call (opened c))) (list (call (opened c))) (begin (call (opened c))) (c .before .end .given .0 .0) (c .before .end .given .0 .1 .0)
+stands c =
+    let s = call (opened c) in
+    subst (IsRead (a s) (list s) (begin s)) (c .before .end .given .1) (opened c .read-clause .ensures)
+
+is-witnessed-requires : tie.Need-is-witnessed-requires
+is-witnessed-requires c κs = search needs
+
+same-length : tie.Need-same-length
+same-length c = search needs
+
+returns : tie.Need-returns
+returns c =
+    let s = start (c .before) in
+    let satisfies = s .pre .0 .1 .satisfies (k s) (s .pre .0 .2) (a s) (sym (c .before .is-witnessed .ensures) ∙ c .if1 .taken) in
+    (s .pre .0 .1, (no-dead-end s satisfies, λ e. unchanged s satisfies))
+
+mul-from : tie.Need-mul-from
+mul-from c = search needs
+
+shared-slice-read-from : tie.Need-shared-slice-read-from
+shared-slice-read-from c = search needs
+
+cast-from : tie.Need-cast-from
+cast-from c = record { fits = omega (arith, c .shared-slice-known4 .given (c .before .before .before .before .before .before .before .before .before .before .args .k) .fits) }
+
+read-clause-requires : tie.Need-read-clause-requires
+read-clause-requires c κs = search needs
+
+enum-known-at : tie.Need-enum-known-at
+enum-known-at c = search needs
+
+cast-witnesses : tie.Need-cast-witnesses
+cast-witnesses c =
+    let s = call (met c) in
+    let far = end-inside (list s) (begin s) (begin s + clauseLength (drop (begin s) (list s))) (omega (arith, begins-inside (s .pre .0 .0) (k s) (s .pre .0 .2))) refl in
+    record { fits = omega (arith, held c .before, far, s .pre .0 .0 .short) }
+
+mul-witnesses : tie.Need-mul-witnesses
+mul-witnesses c = search needs
+
+slice-write-witnesses : tie.Need-slice-write-witnesses
+slice-write-witnesses c = search needs
+
+enum-known-end : tie.Need-enum-known-end
+enum-known-end c = search needs
+
+mul-clause : tie.Need-mul-clause
+mul-clause c =
+    let s = call (opened c) in
+    record { fits = omega (arith, opened c .before .shared-slice-known4 .given (k s) .fits) }
+
+sub-clause : tie.Need-sub-clause
+sub-clause c = omega (arith, stands c .ends)
+
+part-clause-start : tie.Need-part-clause-start
+part-clause-start c = omega (arith, stands c .ends)
+
+part-clause-end : tie.Need-part-clause-end
+part-clause-end c = ends-inside (call (opened c)) (c .before .end .given .0 .0) (c .before .end .given .0 .1 .0) (stands c)
+
+is-dead-end-requires : tie.Need-is-dead-end-requires
+is-dead-end-requires c κs = search needs
+
+-- whether it makes a dead end, told of the clause by its number
+told : (c : tie.After-is-dead-end) → c .is-dead-end .result ≡ call (opened (asked c)) .args .spent && isOpposed (row (call (opened (asked c)))) (a (call (opened (asked c)))) (clause (call (opened (asked c))))
+told c =
+    let s = call (opened (asked c)) in
+    c .is-dead-end .ensures ∙ ap (λ (e : List ℤ). s .args .spent && isOpposed (row s) (a s) e) (part s (asked c .before .end .given .0 .0) (asked c .before .end .given .0 .1 .0) (stands (asked c)))
+
+same-length-2 : tie.Need-same-length-2
+same-length-2 c = search needs
+
+returns-2 : tie.Need-returns-2
+returns-2 c =
+    let s = call (opened (asked (c .before))) in
+    (s .pre .0 .1, (sym (c .if2 .taken) ∙ told (c .before), λ e. absurd (true≢false e)))
+
+weigh-clause-requires : tie.Need-weigh-clause-requires
+weigh-clause-requires c κs =
+    let now = asked (c .before .before .before) in
+    let s = call (opened now) in
+    let end = now .before .end .given .0 .0 in
+    let read = clause-at (list s) (begin s) end (stands now .ends) in (
+      (ap (satisfied (a s)) read ∙ stands now .none, ap (unassignedIn (a s)) read ∙ stands now .counted),
+      subst (λ (e : List ℤ). Weighable e (s .args .weights .now) (s .args .marks .now)) (sym (part s end (now .before .end .given .0 .1 .0) (stands now))) (s .pre .1),
+    )
+
+same-length-3 : tie.Need-same-length-3
+same-length-3 c = search needs
+
+returns-3 : tie.Need-returns-3
+returns-3 c =
+    let s = call (met c) in
+    let satisfies = ap (satisfied (a s)) (sym (same s)) ∙ held-satisfies (list s) (begin s) (c .before .at .given .0 .0) (held c .after) (held c .before) (begins-inside (s .pre .0 .0) (k s) (s .pre .0 .2)) (a s) (held c .held) in
+    (new-witness (s .pre .0 .0) (s .pre .0 .1) (k s) (c .before .at .given .0 .0) (s .pre .0 .2) (held c .after) (held c .before), (no-dead-end s satisfies, λ e. unchanged s satisfies))
+
+same-length-4 : tie.Need-same-length-4
+same-length-4 c = search needs
+
+same-length-5 : tie.Need-same-length-5
+same-length-5 c = search needs
+
+same-length-6 : tie.Need-same-length-6
+same-length-6 c = search needs
+
+returns-4 : tie.Need-returns-4
+returns-4 c =
+    let dead = c .before .before .before .before .before .before .before .before in
+    let now = asked dead in
+    let s = call (opened now) in
+    let whole = part s (now .before .end .given .0 .0) (now .before .end .given .0 .1 .0) (stands now) in (
+      s .pre .0 .1,
+      (
+        sym (c .before .before .before .before .before .before .before .if2 .left) ∙ told dead,
+        λ e. subst (λ (g : List ℤ). Weighed (row s) (a s) (sizeOf (s .args .fewest)) g (s .args .weights .now) (s .args .marks .now) (c .before .before .before .before .weigh-clause .last .1 .1 .1 .1 .1 .0) (c .before .before .before .before .weigh-clause .last .1 .1 .1 .1 .1 .1 .0)) whole (c .before .before .before .before .weigh-clause .ensures),
+      ),
+    )
+
+pub weigh-at-spec : {M : Type 1} → statement M
+weigh-at-spec =
+    tie.close
+    (tie.spec
+    is-witnessed-requires
+    same-length
+    returns
+    mul-from
+    shared-slice-read-from
+    cast-from
+    read-clause-requires
+    enum-known-at
+    cast-witnesses
+    mul-witnesses
+    slice-write-witnesses
+    enum-known-end
+    mul-clause
+    sub-clause
+    part-clause-start
+    part-clause-end
+    is-dead-end-requires
+    same-length-2
+    returns-2
+    weigh-clause-requires
+    same-length-3
+    returns-3
+    same-length-4
+    same-length-5
+    same-length-6
+    returns-4)
