@@ -2,11 +2,12 @@
 use crate::cells::clear;
 use crate::clause::weigh_clause;
 use clause_standing::ReadClause;
+use literal::Clause;
 use opposed::Fewest;
 ghost use mathlib.Core.Path.{_≡_};
 ghost use mathlib.Core.Bool.{false, _&&_};
 ghost use mathlib.Core.List.{[]};
-ghost use Prim.Native.Nat.{_<_};
+ghost use Prim.Native.Nat.{_-_, _≤_, _<_};
 ghost use lib.ListN.{length, getD};
 ghost use Rattle.formula.specs.Formula.{any, clauses};
 ghost use Rattle.occurrences.specs.Table.{Located};
@@ -26,12 +27,12 @@ fn is_dead_end(spent: bool, clause: &[i32], row: &[u8], assignment: &[u8]) -> bo
     opposed_clause::is_opposed(clause, row, assignment)
 }
 
-// Weighs the clause that has k before it, and tells whether it makes a dead end instead. It is not read if
-// its witness holds; if another literal does, that is its witness from now on.
+// Weighs a clause, and tells whether it makes a dead end instead. It is not read if its witness holds; if
+// another literal does, that is its witness from now on.
 fn weigh_at(
     list: &[i32],
     begins: &[u16],
-    k: usize,
+    number: Clause,
     row: &[u8],
     assignment: &[u8],
     fewest: Fewest,
@@ -40,15 +41,16 @@ fn weigh_at(
     weights: &mut [u64],
     marks: &mut [u64],
 ) -> bool
-    requires { ⌜ Located (now list) (now begins) × Witnesses (now list) (now witnesses) × (k < length (clauses (now list))) ⌝ }
-    requires { ⌜ Weighable (getD (clauses (now list)) k []) (now weights) (now marks) ⌝ }
+    requires { ⌜ Located (now list) (now begins) × Witnesses (now list) (now witnesses) × (0 < number .0) × (number .0 ≤ length (clauses (now list))) ⌝ }
+    requires { ⌜ Weighable (getD (clauses (now list)) (number .0 - 1) []) (now weights) (now marks) ⌝ }
     ensures witness { λ r. ⌜ Witnesses (now (list .entry)) (now (witnesses .exit)) ⌝ }
-    ensures dead { λ r. ⌜ r ≡ spent && isOpposed (now (row .entry)) (now (assignment .entry)) (getD (clauses (now (list .entry))) k []) ⌝ }
-    ensures weighed { λ r. ⌜ (r ≡ false → Weighed (now (row .entry)) (now (assignment .entry)) (sizeOf fewest) (getD (clauses (now (list .entry))) k []) (now (weights .entry)) (now (marks .entry)) (now (weights .exit)) (now (marks .exit))) ⌝ }
+    ensures dead { λ r. ⌜ r ≡ spent && isOpposed (now (row .entry)) (now (assignment .entry)) (getD (clauses (now (list .entry))) (number .0 - 1) []) ⌝ }
+    ensures weighed { λ r. ⌜ (r ≡ false → Weighed (now (row .entry)) (now (assignment .entry)) (sizeOf fewest) (getD (clauses (now (list .entry))) (number .0 - 1) []) (now (weights .entry)) (now (marks .entry)) (now (weights .exit)) (now (marks .exit))) ⌝ }
 {
-    if witnesses::is_witnessed(list, witnesses, k, assignment) {
+    if witnesses::is_witnessed(list, witnesses, number, assignment) {
         return false;
     }
+    let k = number.0 - 1;
     let from = begins[k] as usize;
     match clause_standing::read_clause(list, from, assignment) {
         ReadClause::Satisfied(at) => {
@@ -100,7 +102,7 @@ pub fn weigh_list(
         if weigh_at(
             list,
             begins,
-            k,
+            Clause(k + 1),
             row,
             assignment,
             fewest,

@@ -2,7 +2,7 @@
 use mathlib.Core.Path.{_≡_, refl, sym, ap, subst, _∙_}
 use mathlib.Core.Bool.{Bool, true, false, _&&_, true≢false}
 use mathlib.Core.List.{List, []}
-use Prim.Native.Nat.{ℕ, _+_, _-_, _≤_}
+use Prim.Native.Nat.{ℕ, _+_, _-_, _≤_, _<_}
 use native.Mathlib.Omega.{arith}
 use lib.IntN.{ℤ}
 use lib.ListN.{length, getD, take, drop}
@@ -32,8 +32,12 @@ module _ (s : tie.Start) where
   abbrev a : List ℕ
   a = s .args .assignment .now
 
+  -- how many clauses are before it
   abbrev k : ℕ
-  k = s .args .k
+  k = s .args .number .0 - 1
+
+  less : k < length (clauses list)
+  less = omega (arith, s .pre .0 .2, s .pre .0 .3)
 
   abbrev clause : List ℤ
   clause = getD (clauses list) k []
@@ -42,7 +46,7 @@ module _ (s : tie.Start) where
   begin = getD (s .args .begins .now) k 0
 
   abbrev same : clauseAt begin list ≡ clause
-  same = begins-clause (s .pre .0 .0) k (s .pre .0 .2)
+  same = begins-clause (s .pre .0 .0) k less
 
   -- where it is satisfied, it makes no dead end, and weighing changes nothing
   module _ (met : satisfied a clause ≡ true) where
@@ -59,7 +63,7 @@ module _ (s : tie.Start) where
   -- read as open, it is the part of the list up to its end
   module _ (end count : ℕ) (h : StandsOpen a list begin end count) where
     ends-inside : end ≤ length list
-    ends-inside = end-inside list begin end (omega (arith, begins-inside (s .pre .0 .0) k (s .pre .0 .2))) (h .ends)
+    ends-inside = end-inside list begin end (omega (arith, begins-inside (s .pre .0 .0) k less)) (h .ends)
 
     part : take (end - begin) (drop begin list) ≡ clause
     part = clause-at list begin end (h .ends) ∙ same
@@ -69,7 +73,7 @@ abbrev start : tie.After-is-witnessed → tie.Start
 start c = c .before .before .before .before .before .before .before .before
 
 abbrev tested : tie.After-read-clause → tie.After-is-witnessed
-tested c = c .before .before .before
+tested c = c .before .before .before .before
 
 abbrev call : tie.After-read-clause → tie.Start
 call c = start (tested c)
@@ -102,8 +106,11 @@ same-length c = search needs
 returns : tie.Need-returns
 returns c =
     let s = start (c .before) in
-    let satisfies = s .pre .0 .1 .satisfies (k s) (s .pre .0 .2) (a s) (sym (c .before .is-witnessed .ensures) ∙ c .if1 .taken) in
+    let satisfies = s .pre .0 .1 .satisfies (k s) (less s) (a s) (sym (c .before .is-witnessed .ensures) ∙ c .if1 .taken) in
     (s .pre .0 .1, (no-dead-end s satisfies, λ e. unchanged s satisfies))
+
+sub-k : tie.Need-sub-k
+sub-k c = search needs
 
 mul-from : tie.Need-mul-from
 mul-from c = search needs
@@ -112,7 +119,7 @@ shared-slice-read-from : tie.Need-shared-slice-read-from
 shared-slice-read-from c = search needs
 
 cast-from : tie.Need-cast-from
-cast-from c = record { fits = omega (arith, c .shared-slice-known4 .given (c .before .before .before .before .before .before .before .before .before .before .args .k) .fits) }
+cast-from c = record { fits = omega (arith, c .shared-slice-known4 .given (k (c .before .before .before .before .before .before .before .before .before .before .before)) .fits) }
 
 read-clause-requires : tie.Need-read-clause-requires
 read-clause-requires c κs = search needs
@@ -123,7 +130,7 @@ enum-known-at c = search needs
 cast-witnesses : tie.Need-cast-witnesses
 cast-witnesses c =
     let s = call (met c) in
-    let far = end-inside (list s) (begin s) (begin s + clauseLength (drop (begin s) (list s))) (omega (arith, begins-inside (s .pre .0 .0) (k s) (s .pre .0 .2))) refl in
+    let far = end-inside (list s) (begin s) (begin s + clauseLength (drop (begin s) (list s))) (omega (arith, begins-inside (s .pre .0 .0) (k s) (less s))) refl in
     record { fits = omega (arith, held c .before, far, s .pre .0 .0 .short) }
 
 mul-witnesses : tie.Need-mul-witnesses
@@ -182,8 +189,8 @@ same-length-3 c = search needs
 returns-3 : tie.Need-returns-3
 returns-3 c =
     let s = call (met c) in
-    let satisfies = ap (satisfied (a s)) (sym (same s)) ∙ held-satisfies (list s) (begin s) (c .before .at .given .0 .0) (held c .after) (held c .before) (begins-inside (s .pre .0 .0) (k s) (s .pre .0 .2)) (a s) (held c .held) in
-    (new-witness (s .pre .0 .0) (s .pre .0 .1) (k s) (c .before .at .given .0 .0) (s .pre .0 .2) (held c .after) (held c .before), (no-dead-end s satisfies, λ e. unchanged s satisfies))
+    let satisfies = ap (satisfied (a s)) (sym (same s)) ∙ held-satisfies (list s) (begin s) (c .before .at .given .0 .0) (held c .after) (held c .before) (begins-inside (s .pre .0 .0) (k s) (less s)) (a s) (held c .held) in
+    (new-witness (s .pre .0 .0) (s .pre .0 .1) (k s) (c .before .at .given .0 .0) (less s) (held c .after) (held c .before), (no-dead-end s satisfies, λ e. unchanged s satisfies))
 
 same-length-4 : tie.Need-same-length-4
 same-length-4 c = search needs
@@ -214,6 +221,7 @@ weigh-at-spec =
     is-witnessed-requires
     same-length
     returns
+    sub-k
     mul-from
     shared-slice-read-from
     cast-from

@@ -1,12 +1,15 @@
 -- `weighing::weigh_list` meets its contract. The loop's invariant: the clauses passed have been weighed, and where the limit is spent none of them makes a dead end.
-use mathlib.Core.Path.{refl, sym, _∙_}
-use mathlib.Core.Bool.{true≢false}
-use Prim.Native.Nat.{_-_, _≤_, _<_}
+use mathlib.Core.Path.{_≡_, refl, sym, ap, subst, _∙_}
+use mathlib.Core.Bool.{false, _&&_, true≢false}
+use mathlib.Core.List.{List, []}
+use Prim.Native.Nat.{ℕ, _+_, _-_, _≤_, _<_}
 use native.Mathlib.Omega.{arith}
-use lib.ListN.{length}
+use lib.IntN.{ℤ}
+use lib.ListN.{length, getD}
 use Rattle.formula.specs.Formula.{clauses}
 use Rattle.opposed.specs.Opposed.{sizeOf}
-use Rattle.weighing.specs.Weights.{WeighableList}
+use Rattle.walk.specs.Branching.{isOpposed}
+use Rattle.weighing.specs.Weights.{Weighable, Weighed, WeighableList}
 use Rattle.weighing.specs.ListLaws.{Weighing, weighing-start, weighing-clause, weighing-next, weighing-dead, weighing-alive, weighing-end, weighable-kept}
 use borrow.Author.Needs.{needs}
 use Rattle.weighing.proofs.list.weigh_list.Statement.{statement}
@@ -57,6 +60,13 @@ loop-holds c =
 more : (c : tie.At-loop Inv-loop μ-loop) → c .loop .k < length (c .loop .witnesses) → c .loop .k < length (clauses (entry (c .before) .args .list .now))
 more c h = omega (arith, h, c .loop .inv .known .many)
 
+-- its number is one more than k
+before-it : (k : ℕ) → k + 1 - 1 ≡ k
+before-it k = omega arith
+
+add-t16 : tie.Need-add-t16 Inv-loop μ-loop
+add-t16 c = search needs
+
 weigh-at-requires : tie.Need-weigh-at-requires Inv-loop μ-loop
 weigh-at-requires c κs =
     let top = c .before .before .before .before in
@@ -64,9 +74,29 @@ weigh-at-requires c κs =
     let start = entry cleared in
     let args = start .args in
     let a = args .assignment .now in (
-      (start .pre .1 .0, top .loop .inv .known, more top (c .before .before .before .loop-test .taken)),
-      weighing-clause (length a) (args .row .now) a (sizeOf (args .fewest)) (args .spent) (args .list .now) (weights-cleared cleared .clear .last .0) (marks-cleared cleared .clear2 .last .0) (weighable cleared) (top .loop .witnesses) (top .loop .weights) (top .loop .marks) (top .loop .k) (top .loop .inv) (more top (c .before .before .before .loop-test .taken)),
+      (start .pre .1 .0, top .loop .inv .known, omega arith, omega (arith, more top (c .before .before .before .loop-test .taken))),
+      subst (λ (j : ℕ). Weighable (getD (clauses (args .list .now)) j []) (top .loop .weights) (top .loop .marks)) (sym (before-it (top .loop .k)))
+          (weighing-clause (length a) (args .row .now) a (sizeOf (args .fewest)) (args .spent) (args .list .now) (weights-cleared cleared .clear .last .0) (marks-cleared cleared .clear2 .last .0) (weighable cleared) (top .loop .witnesses) (top .loop .weights) (top .loop .marks) (top .loop .k) (top .loop .inv) (more top (c .before .before .before .loop-test .taken))),
     )
+
+-- what was told of that clause
+module _ (c : tie.After-weigh-at Inv-loop μ-loop) where
+  abbrev given : tie.Start Inv-loop μ-loop
+  given = entry (head c .before)
+
+  abbrev clause : ℕ → List ℤ
+  clause j = getD (clauses (given .args .list .now)) j []
+
+  told-dead : c .weigh-at .result ≡ given .args .spent && isOpposed (given .args .row .now) (given .args .assignment .now) (clause (head c .loop .k))
+  told-dead =
+      c .weigh-at .ensures .1 .0 ∙ ap (λ (j : ℕ). given .args .spent && isOpposed (given .args .row .now) (given .args .assignment .now) (clause j)) (before-it (head c .loop .k))
+
+  told-weighed : c .weigh-at .result ≡ false
+      → Weighed (given .args .row .now) (given .args .assignment .now) (sizeOf (given .args .fewest)) (clause (head c .loop .k)) (head c .loop .weights) (head c .loop .marks) (c .weigh-at .last .1 .1 .1 .1 .1 .1 .1 .1 .0) (c .weigh-at .last .1 .1 .1 .1 .1 .1 .1 .1 .1 .0)
+  told-weighed e =
+      subst
+      (λ (j : ℕ). Weighed (given .args .row .now) (given .args .assignment .now) (sizeOf (given .args .fewest)) (clause j) (head c .loop .weights) (head c .loop .marks) (c .weigh-at .last .1 .1 .1 .1 .1 .1 .1 .1 .0) (c .weigh-at .last .1 .1 .1 .1 .1 .1 .1 .1 .1 .0))
+      (before-it (head c .loop .k)) (c .weigh-at .ensures .1 .1 e)
 
 same-length : tie.Need-same-length Inv-loop μ-loop
 same-length c = let call = c .before .before .before .before .before .before .before .weigh-at in call .ensures .0 .many ∙ sym (entry (head (c .before .before .before .before .before .before .before) .before) .pre .1 .1 .many)
@@ -91,7 +121,7 @@ returns c =
     let call = weighed .weigh-at in (
       call .ensures .0,
       (
-        sym (weighing-dead (length a) (args .row .now) a (sizeOf (args .fewest)) (args .spent) (args .list .now) (weights-cleared cleared .clear .last .0) (marks-cleared cleared .clear2 .last .0) (weighable cleared) (top .loop .witnesses) (top .loop .weights) (top .loop .marks) (top .loop .k) (top .loop .inv) (more top (weighed .before .before .before .before .loop-test .taken)) (sym (call .ensures .1 .0) ∙ c .if1 .taken)),
+        sym (weighing-dead (length a) (args .row .now) a (sizeOf (args .fewest)) (args .spent) (args .list .now) (weights-cleared cleared .clear .last .0) (marks-cleared cleared .clear2 .last .0) (weighable cleared) (top .loop .witnesses) (top .loop .weights) (top .loop .marks) (top .loop .k) (top .loop .inv) (more top (weighed .before .before .before .before .loop-test .taken)) (sym (told-dead weighed) ∙ c .if1 .taken)),
         λ e. absurd (true≢false e),
       ),
     )
@@ -112,7 +142,7 @@ loop-again c =
     let call = weighed .weigh-at in
     weighing-next (length a) (args .row .now) a (sizeOf (args .fewest)) (args .spent) (args .list .now) (weights-cleared cleared .clear .last .0) (marks-cleared cleared .clear2 .last .0) (weighable cleared) (top .loop .witnesses) (top .loop .weights) (top .loop .marks) (top .loop .k) (top .loop .inv) (more top (weighed .before .before .before .before .loop-test .taken))
     (call .last .1 .1 .1 .1 .1 .1 .1 .0) (call .last .1 .1 .1 .1 .1 .1 .1 .1 .0) (call .last .1 .1 .1 .1 .1 .1 .1 .1 .1 .0) (call .ensures .0) (call .kept .1 .1 .1 .1 .1 .1 .1 .1 .0) (call .kept .1 .1 .1 .1 .1 .1 .1 .1 .1 .0)
-    (sym (call .ensures .1 .0) ∙ c .if1 .left) (call .ensures .1 .1 (c .if1 .left))
+    (sym (told-dead weighed) ∙ c .if1 .left) (told-weighed weighed (c .if1 .left))
 
 same-length-4 : tie.Need-same-length-4 Inv-loop μ-loop
 same-length-4 c = c .before .loop .inv .known .many ∙ sym (entry (c .before .before) .pre .1 .1 .many)
@@ -146,6 +176,7 @@ weigh-list-spec =
     clear-requires
     clear-requires-2
     loop-holds
+    add-t16
     weigh-at-requires
     same-length
     same-length-2
