@@ -33,8 +33,8 @@
  *   A call that refuses with 15 says in `place` how many elements it needs.
  *
  * The calls keep no state and use no heap, so several threads may call at once on separate buffers.
- * Stack, measured by tests/interface/run at the deepest inputs there are: plain up to 457,136 bytes
- * (528 for each fork on a path, of which 640 settings allow 639), search and nearest up to 273,168,
+ * Stack, measured by tests/interface/run at the deepest inputs there are: plain up to 495,648 bytes
+ * (560 for each fork on a path, of which 640 settings allow 639), search and nearest up to 299,424,
  * the other calls up to 3,208. A thread with 512 KB suffices for all.
  */
 #ifndef POWHANIRE_H

@@ -286,15 +286,15 @@ static const struct {
     {"check", "256 settings, 4,096 rules, 16,384 entries", check, {64, 0, 0}, 4096},
     {"rewrite", "the same, 64 wishes", rewrite, {640, REWRITTEN, 0}, 4096},
     {"write_opb", "the same, the longest file", write_opb, {OPB_FILE, 0, 0}, 4096},
-    {"search", "the same, 64 wishes", search_full, {0, 0, 0}, 280000},
-    {"nearest", "the same, 64 wishes", nearest_full, {0, 0, 0}, 280000},
-    {"plain", "640 settings, 9,000 rules, 31,000 entries", plain_full, {0, 0, 0}, 464000},
-    {"search", "255 forks on a path, its first 64 wished off", search_deep, {64, 0, 0}, 280000},
-    {"search", "255 forks on a path, its last 64 wished off", search_last, {63, 0, 0}, 280000},
-    {"nearest", "255 forks on a path, its first 64 wished on", nearest_deep, {0, 0, 0}, 280000},
-    {"nearest", "254 forks on a path, its first 64 wished on", nearest_off, {0, 0, 0}, 280000},
-    {"plain", "255 forks on a path", plain_half, {0, 0, 0}, 464000},
-    {"plain", "639 forks on a path, the most there can be", plain_deep, {0, 0, 0}, 464000},
+    {"search", "the same, 64 wishes", search_full, {0, 0, 0}, 304000},
+    {"nearest", "the same, 64 wishes", nearest_full, {0, 0, 0}, 304000},
+    {"plain", "640 settings, 9,000 rules, 31,000 entries", plain_full, {0, 0, 0}, 500000},
+    {"search", "255 forks on a path, its first 64 wished off", search_deep, {64, 0, 0}, 304000},
+    {"search", "255 forks on a path, its last 64 wished off", search_last, {63, 0, 0}, 304000},
+    {"nearest", "255 forks on a path, its first 64 wished on", nearest_deep, {0, 0, 0}, 304000},
+    {"nearest", "254 forks on a path, its first 64 wished on", nearest_off, {0, 0, 0}, 304000},
+    {"plain", "255 forks on a path", plain_half, {0, 0, 0}, 500000},
+    {"plain", "639 forks on a path, the most there can be", plain_deep, {0, 0, 0}, 500000},
 };
 
 /* ---- the stack that a call takes: the lowest byte that it changed of a painted stack of 1 MB ---- */
@@ -377,6 +377,23 @@ static void threads(void) {
     }
 }
 
+/* ---- the deepest call in a thread of 512 KB, which suffices for all by the header ---- */
+
+static void *deepest(void *given) {
+    plain_deep();
+    return given;
+}
+
+static void small_thread(void) {
+    pthread_attr_t small;
+    pthread_t id;
+    memset(&result, 0xff, sizeof result);
+    expect(pthread_attr_init(&small) == 0 && pthread_attr_setstacksize(&small, 512 << 10) == 0, "a stack of 512 KB is set");
+    expect(pthread_create(&id, &small, deepest, NULL) == 0, "a thread starts with it");
+    pthread_join(id, NULL);
+    is("639 forks on a path in a thread of 512 KB", result, 0, 0, 1, 0, 0, 0);
+}
+
 int main(void) {
     struct rlimit limit;
     expect(getrlimit(RLIMIT_STACK, &limit) == 0 && limit.rlim_cur <= STACK, "run under `ulimit -s 1024`");
@@ -388,6 +405,7 @@ int main(void) {
     build();
     run_largest();
     threads();
+    small_thread();
     printf("%lu passed, %lu failed\n", passed, failed);
     return failed > 0;
 }

@@ -69,7 +69,7 @@ pub fn value_by_walk(
     )
 }
 
-// The same in lent space, whatever it holds.
+// The same in lent space, whatever that holds but for the witnesses.
 fn value_in(
     list: &[i32],
     ends: &[u16],

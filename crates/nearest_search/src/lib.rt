@@ -39,9 +39,10 @@ fn first_nearest(n: usize, rules: &[i32], row: &[u8], last: usize, choice: &mut 
     let mut begins = walk_tables::no_begins();
     let literals = 2 * n + 2;
     occurrences::arrange(n, rules, &mut ends[..literals], &mut numbers, &mut begins);
-    // at first the literal at which its clause begins is the witness
+    // at first a clause's witness is what stands where it begins
     let mut witnesses = begins;
-    let clauses = ends[1] as usize;
+    // the first two parts name each clause once
+    let many = ends[1] as usize;
     nearest_with(
         n,
         rules,
@@ -50,7 +51,7 @@ fn first_nearest(n: usize, rules: &[i32], row: &[u8], last: usize, choice: &mut 
         &begins,
         row,
         last,
-        &mut witnesses[..clauses],
+        &mut witnesses[..many],
         choice,
     )
 }

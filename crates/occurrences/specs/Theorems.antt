@@ -1,6 +1,6 @@
 -- The arrangement and the closed list hold the same rules, and so do two sound lists with equal arrangements.
 use mathlib.Core.Path.{_≡_, refl, sym, ap, subst, _∙_}
-use mathlib.Core.Bool.{Bool, true, false}
+use mathlib.Core.Bool.{Bool, true, false, true≢false}
 use mathlib.Core.List.{List, [], _∷_, List·Memᴰ, List·Memᴰ·head, Memᴰ·cast}
 use Prim.Native.Nat.{ℕ, zero, suc, _-_, _≤_, _<_}
 use native.Mathlib.Nat.{not-suc-le-zero, le-of-suc-le-suc}
@@ -50,6 +50,12 @@ same-rules f =
       holding-rise = λ v b. numbered-rise (contains v b) f 1;
       empty-rise = numbered-rise isEmpty f 1;
     }
+
+-- "the rules without entries, which no setting holds"
+pub empty-unheld : (f : List (List ℤ)) {k : ℕ} (v b : ℕ) → List·Memᴰ k (arrangement f .empty) → List·Memᴰ k (arrangement f .holding v b) → ⊥
+empty-unheld f {k} v b m h =
+    let none : getD f (k - 1) [] ≡ [] = is-empty (getD f (k - 1) []) (number-from isEmpty f m .1) in
+    true≢false (sym (number-from (contains v b) f h .1) ∙ ap (contains v b) none)
 
 -- one direction: what the arrangement of f says is so in f′, whose arrangement is equal
 module _ (f f′ : List (List ℤ)) (holding : (v b : ℕ) → occurrences f v b ≡ occurrences f′ v b) (empty : emptyClauses f ≡ emptyClauses f′) where

@@ -22,8 +22,9 @@ pub enum Pick {
     Branch(Variable, u8),
 }
 
-// Decides a propagated state that its completion does not settle. The numbers to weigh with and the witnesses
-// are lent from the root: as locals they would stand in the frame of every level into which this is inlined.
+// Decides a propagated state whose completion is no model. The numbers to weigh with are lent from the root: as
+// locals they would stand in the frame of every level into which this is inlined. So are the witnesses, which
+// are remembered from state to state.
 pub fn pick_branch(
     list: &[i32],
     begins: &[u16],
@@ -46,6 +47,7 @@ pub fn pick_branch(
         return pick_at_limit(list, begins, row, a, witnesses, weights, marks);
     }
     let size = opposed::fewest_opposed(list, row, a);
+    // below the limit it never stops, so its answer is known
     weighing::weigh_list(
         list,
         begins,
@@ -60,8 +62,8 @@ pub fn pick_branch(
     best_branch(row, size, a, weights, marks)
 }
 
-// The same where the limit is spent. An opposed clause is a dead end there, and the weighing stops at it; so it
-// goes on as if there were none, and the list is read once.
+// The same where the limit is spent. An opposed clause is a dead end there, and the weighing stops at it; where
+// it does not stop there is none, so it weighs with none, and the list is read once.
 fn pick_at_limit(
     list: &[i32],
     begins: &[u16],

@@ -51,6 +51,7 @@ pub fn propagate_all(
     if d < tally.broken {
         return Propagated::Dead(tally);
     }
+    // the first two parts name each clause once
     let end = ends[1] as usize;
     match look_at_all(list, begins, &numbers[..end], row, d, tally, a, trail) {
         Propagated::Dead(t) => Propagated::Dead(t),

@@ -19,9 +19,10 @@ pub fn walk_into(n: usize, list: &[i32], row: &[u8], d: usize, choice: &mut [u8]
     let mut begins = walk_tables::no_begins();
     let literals = 2 * n + 2;
     occurrences::arrange(n, list, &mut ends[..literals], &mut numbers, &mut begins);
-    // at first the literal at which its clause begins is the witness
+    // at first a clause's witness is what stands where it begins
     let mut witnesses = begins;
-    let clauses = ends[1] as usize;
+    // the first two parts name each clause once
+    let many = ends[1] as usize;
     walk_with(
         n,
         list,
@@ -30,7 +31,7 @@ pub fn walk_into(n: usize, list: &[i32], row: &[u8], d: usize, choice: &mut [u8]
         &begins,
         row,
         d,
-        &mut witnesses[..clauses],
+        &mut witnesses[..many],
         choice,
     )
 }

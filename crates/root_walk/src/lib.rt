@@ -14,7 +14,7 @@ ghost use Rattle.root_walk.specs.Root.{RootSays};
 pub use into::walk_into;
 pub use into::walk_with;
 
-// Walks from the root in lent space, whatever it holds.
+// Walks from the root in lent space, whatever that holds but for the witnesses.
 pub fn walk_from_root(
     list: &[i32],
     ends: &[u16],

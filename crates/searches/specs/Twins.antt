@@ -7,7 +7,7 @@ use Prim.Native.Nat.{ℕ}
 use lib.IntN.{ℤ}
 use lib.ListN.{length}
 use Rattle.formula.specs.Formula.{clauses}
-use Rattle.distance.specs.Distance.{disagreement, nearest, firstNearest}
+use Rattle.distance.specs.Distance.{disagreement, nearest}
 use Rattle.choices.specs.Choices.{Model}
 use Rattle.choices.specs.Order.{first-count, twins}
 use Rattle.causes.specs.Lent.{refusalOf}

@@ -6,7 +6,7 @@ use mathlib.Core.Option.{Option, none, some}
 use Prim.Native.Nat.{ℕ, zero, suc, _≤_, _<_}
 use lib.IntN.{ℤ}
 use Rattle.literal.specs.Literal.{variable}
-use Rattle.walk.specs.State.{State, find, unassigned, satisfy, isUnassigned, isOpen, isUnit, fits}
+use Rattle.walk.specs.State.{State, find, unassigned, satisfy, isUnassigned, isUnit, fits}
 use Rattle.walk.specs.Propagation.{unitLiteral, propagateRound, propagateBy, propagate}
 use Rattle.walk.specs.PropagationLaws.{unit-clause, unit-none, propagate-quiet}
 use Rattle.walk.specs.Extension.{Extends, extends-refl, extends-trans}

@@ -58,7 +58,7 @@ drain f row d p = drainBy (length (p .queue) + unassigned (p .values)) f row d p
 abbrev pub follow : List (List ℤ) → List ℕ → ℕ → Pending → Option (List ℕ)
 follow f row d p = cond (ltb d (disagreement row (p .values))) none (drain f row d p)
 
--- Settling by the arrangement, from any state: each clause is looked at once, and then the queue is followed. It comes to a dead end (none) or to the settled state.
+-- Settling by the arrangement, from any state: each clause is looked at once, and then the queue is followed. It comes to a dead end (none) or to the settled state. The clauses with literals, each of which stands under some literal, are named in a list of their own, so that each is looked at once.
 abbrev pub settle : List (List ℤ) → List ℕ → ℕ → List ℕ → Option (List ℕ)
 settle f row d a =
     cond (ltb d (disagreement row a)) none (andThen (lookAt f row d (record { values = a; queue = [] }) (filledClauses f ++ arrangement f .empty)) (drain f row d))

@@ -1,6 +1,6 @@
 -- What a clause weighs, and whether it gives candidates: a satisfied one, and an open one with so many unassigned literals.
 use mathlib.Core.Path.{_≡_, refl, sym, ap, ap₂, _∙_}
-use mathlib.Core.Bool.{Bool, true, false, cond, not, _&&_, _||_}
+use mathlib.Core.Bool.{Bool, true, false, cond, not, _&&_, _||_, and-true, and-false, or-false}
 use mathlib.Core.List.{List, [], _∷_}
 use mathlib.Core.Option.{Option, none, some}
 use Prim.Native.Nat.{ℕ, zero, suc, _+_, _-_, _*_, _%_, _^_, min, _≤_, _<_}
@@ -67,18 +67,10 @@ module _ (row a : List ℕ) (c : List ℤ) where
   open-source s = ap not s
 
   pub size-source : (k : ℕ) → unassignedIn a c ≡ k → isSource row a (some k) c ≡ isOpposed row a c
-  size-source k e = ap (λ (b : Bool). isOpposed row a c && b) (eq-eqb (unassignedIn a c) k e) ∙ kept (isOpposed row a c)
-    where
-      kept : (b : Bool) → b && true ≡ b
-      kept true = refl
-      kept false = refl
+  size-source k e = ap (λ (b : Bool). isOpposed row a c && b) (eq-eqb (unassignedIn a c) k e) ∙ and-true (isOpposed row a c)
 
   pub other-source : (k : ℕ) → (unassignedIn a c ≡ k → ⊥) → isSource row a (some k) c ≡ false
-  other-source k e = ap (λ (b : Bool). isOpposed row a c && b) (ne-eqb (unassignedIn a c) k e) ∙ lost (isOpposed row a c)
-    where
-      lost : (b : Bool) → b && false ≡ false
-      lost true = refl
-      lost false = refl
+  other-source k e = ap (λ (b : Bool). isOpposed row a c && b) (ne-eqb (unassignedIn a c) k e) ∙ and-false (isOpposed row a c)
 
   pub satisfied-source : satisfied a c ≡ true → (size : Option ℕ) → isSource row a size c ≡ false
   satisfied-source s none = ap not s
@@ -91,11 +83,7 @@ module _ (row a : List ℕ) (c : List ℤ) where
 
   pub marked-other : (size : Option ℕ) (r : Bool) → r ≡ isSource row a size c → r ≡ false → (marks : List ℕ)
       → (v : ℕ) → isMarked marks v ≡ isMarked marks v || offers row a size v c
-  marked-other size r e t marks v = sym (ap (λ (b : Bool). isMarked marks v || (b && mentions v c)) (sym e ∙ t) ∙ kept (isMarked marks v))
-    where
-      kept : (b : Bool) → b || false ≡ b
-      kept true = refl
-      kept false = refl
+  marked-other size r e t marks v = sym (ap (λ (b : Bool). isMarked marks v || (b && mentions v c)) (sym e ∙ t) ∙ or-false (isMarked marks v))
 
   -- what weighing it does: a satisfied clause changes nothing
   pub weighed-satisfied : satisfied a c ≡ true → (size : Option ℕ) (weights marks : List ℕ) → Weighed row a size c weights marks weights marks

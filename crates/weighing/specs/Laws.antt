@@ -1,6 +1,6 @@
 -- The laws of adding a weight at each literal of a clause, and of marking its variables.
 use mathlib.Core.Path.{_≡_, refl, sym, ap, ap₂, _∙_}
-use mathlib.Core.Bool.{Bool, true, false, cond, not, _||_, and-eq-true-iff}
+use mathlib.Core.Bool.{Bool, true, false, cond, not, _||_, or-true, or-false, and-eq-true-iff}
 use mathlib.Core.List.{List, _∷_}
 use Prim.Native.Nat.{ℕ, _+_, _≤_, _<_}
 use native.Mathlib.Decide.{ℕ-discrete}
@@ -114,10 +114,6 @@ module _ (c : List ℤ) (before now : List ℕ) (k : ℕ) (s : Marking c before 
           ap (λ (b : Bool). b || mentions v later) stored
           ∙ sym (ap (λ (b : Bool). isMarked now v || b) found ∙ or-true (isMarked now v))
           ∙ s .marks v
-        where
-          or-true : (b : Bool) → b || true ≡ true
-          or-true true = refl
-          or-true false = refl
 
       other : (v : ℕ) → (v ≡ variable y → ⊥) → isMarked (set now (variable y) 1) v || mentions v later ≡ isMarked before v || mentions v c
       other v e =
@@ -129,10 +125,6 @@ pub marking-end : (c : List ℤ) (before now : List ℕ) (k : ℕ) → Marking c
     → (v : ℕ) → isMarked now v ≡ isMarked before v || mentions v c
 marking-end c before now k s h v = sym (or-false (isMarked now v)) ∙ ap (λ (b : Bool). isMarked now v || b) (sym past) ∙ s .marks v
   where
-    or-false : (b : Bool) → b || false ≡ b
-    or-false true = refl
-    or-false false = refl
-
     past : mentions v (drop k c) ≡ false
     past = rw (drop-of-length-le c h)
 

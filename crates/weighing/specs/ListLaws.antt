@@ -1,6 +1,6 @@
 -- The laws of weighing a list, clause by clause.
 use mathlib.Core.Path.{_≡_, refl, sym, ap, _∙_}
-use mathlib.Core.Bool.{Bool, true, false, _&&_, _||_, true≢false, and-eq-true-iff}
+use mathlib.Core.Bool.{Bool, true, false, _&&_, _||_, true≢false, and-false, or-false, or-assoc, and-eq-true-iff}
 use mathlib.Core.List.{List, [], _∷_}
 use mathlib.Core.Option.{Option}
 use Prim.Native.Nat.{ℕ, zero, suc, _+_, _≤_, _<_}
@@ -27,19 +27,19 @@ all-index z p [] k e h = absurd (not-suc-le-zero h)
 all-index z p (x ∷ l) zero e h = and-eq-true-iff (p x) (all p l) .0 e .0
 all-index z p (x ∷ l) (suc k) e h = all-index z p l k (and-eq-true-iff (p x) (all p l) .0 e .1) (le-of-suc-le-suc h)
 
--- the first k clauses have been weighed; at the limit, none of them makes a dead end
-pub record Weighing (row a : List ℕ) (size : Option ℕ) (limit : Bool) (list : List ℤ) (before beforeMarks witnesses weights marks : List ℕ) (k : ℕ) : Type 0 where
+-- the first k clauses have been weighed; where the limit is spent, none of them makes a dead end
+pub record Weighing (row a : List ℕ) (size : Option ℕ) (spent : Bool) (list : List ℤ) (before beforeMarks witnesses weights marks : List ℕ) (k : ℕ) : Type 0 where
   pub wide : length weights ≡ length before
   pub long : length marks ≡ length beforeMarks
   pub known : Witnesses list witnesses
-  pub alive : limit && any (isOpposed row a) (clauses list) ≡ limit && any (isOpposed row a) (drop k (clauses list))
+  pub alive : spent && any (isOpposed row a) (clauses list) ≡ spent && any (isOpposed row a) (drop k (clauses list))
   pub sums : (j : ℕ) → getD weights j 0 + weightAt a j (drop k (clauses list)) ≡ weightAt a j (clauses list)
   pub marked : (v : ℕ) → isMarked marks v || any (offers row a size v) (drop k (clauses list)) ≡ any (offers row a size v) (clauses list)
 
-module _ (n : ℕ) (row a : List ℕ) (size : Option ℕ) (limit : Bool) (list : List ℤ) (before beforeMarks : List ℕ) (weighable : WeighableList n list before beforeMarks) where
+module _ (n : ℕ) (row a : List ℕ) (size : Option ℕ) (spent : Bool) (list : List ℤ) (before beforeMarks : List ℕ) (weighable : WeighableList n list before beforeMarks) where
   -- nothing has been weighed
   pub weighing-start : (witnesses weights marks : List ℕ) → Witnesses list witnesses → length weights ≡ length before → length marks ≡ length beforeMarks
-      → ((j : ℕ) → getD weights j 0 ≡ 0) → ((v : ℕ) → getD marks v 0 ≡ 0) → Weighing row a size limit list before beforeMarks witnesses weights marks 0
+      → ((j : ℕ) → getD weights j 0 ≡ 0) → ((v : ℕ) → getD marks v 0 ≡ 0) → Weighing row a size spent list before beforeMarks witnesses weights marks 0
   weighing-start witnesses weights marks t p q z w =
       record {
         wide = p;
@@ -50,7 +50,7 @@ module _ (n : ℕ) (row a : List ℕ) (size : Option ℕ) (limit : Bool) (list :
         marked = λ v. ap (λ (b : Bool). b || any (offers row a size v) (clauses list)) (ne-eqb (getD marks v 0) 1 (λ e. omega (arith, w v)));
       }
 
-  module _ (witnesses weights marks : List ℕ) (k : ℕ) (s : Weighing row a size limit list before beforeMarks witnesses weights marks k) where
+  module _ (witnesses weights marks : List ℕ) (k : ℕ) (s : Weighing row a size spent list before beforeMarks witnesses weights marks k) where
     module _ (h : k < length (clauses list)) where
       abbrev c : List ℤ
       c = getD (clauses list) k []
@@ -79,18 +79,18 @@ module _ (n : ℕ) (row a : List ℕ) (size : Option ℕ) (limit : Bool) (list :
 
       -- and then it has been
       pub weighing-next : (witnesses′ weights′ marks′ : List ℕ) → Witnesses list witnesses′ → length weights′ ≡ length weights → length marks′ ≡ length marks
-          → limit && isOpposed row a c ≡ false → Weighed row a size c weights marks weights′ marks′
-          → Weighing row a size limit list before beforeMarks witnesses′ weights′ marks′ (k + 1)
+          → spent && isOpposed row a c ≡ false → Weighed row a size c weights marks weights′ marks′
+          → Weighing row a size spent list before beforeMarks witnesses′ weights′ marks′ (k + 1)
       weighing-next witnesses′ weights′ marks′ t p r u w =
           record {
             wide = p ∙ s .wide;
             long = r ∙ s .long;
             known = t;
-            alive = s .alive ∙ ap (λ (g : List (List ℤ)). limit && any (isOpposed row a) g) split ∙ passed limit (isOpposed row a c) (any (isOpposed row a) f) u;
+            alive = s .alive ∙ ap (λ (g : List (List ℤ)). spent && any (isOpposed row a) g) split ∙ passed spent (isOpposed row a c) (any (isOpposed row a) f) u;
             sums = λ j. omega (arith, w .sums j, s .sums j, ap (weightAt a j) split);
             marked = λ v.
                 ap (λ (b : Bool). b || any (offers row a size v) f) (w .marked v)
-                ∙ assoc (isMarked marks v) (offers row a size v c) (any (offers row a size v) f)
+                ∙ or-assoc (isMarked marks v) (offers row a size v c) (any (offers row a size v) f)
                 ∙ sym (ap (λ (g : List (List ℤ)). isMarked marks v || any (offers row a size v) g) split)
                 ∙ s .marked v;
           }
@@ -100,13 +100,9 @@ module _ (n : ℕ) (row a : List ℕ) (size : Option ℕ) (limit : Bool) (list :
           passed true false z e = refl
           passed false y z e = refl
 
-          assoc : (x y z : Bool) → (x || y) || z ≡ x || (y || z)
-          assoc true y z = refl
-          assoc false y z = refl
-
       -- or it makes a dead end
-      pub weighing-dead : limit && isOpposed row a c ≡ true → limit && any (isOpposed row a) (clauses list) ≡ true
-      weighing-dead u = s .alive ∙ ap (λ (g : List (List ℤ)). limit && any (isOpposed row a) g) split ∙ found limit (isOpposed row a c) (any (isOpposed row a) f) u
+      pub weighing-dead : spent && isOpposed row a c ≡ true → spent && any (isOpposed row a) (clauses list) ≡ true
+      weighing-dead u = s .alive ∙ ap (λ (g : List (List ℤ)). spent && any (isOpposed row a) g) split ∙ found spent (isOpposed row a c) (any (isOpposed row a) f) u
         where
           found : (x y z : Bool) → x && y ≡ true → x && (y || z) ≡ true
           found true true z e = refl
@@ -115,23 +111,15 @@ module _ (n : ℕ) (row a : List ℕ) (size : Option ℕ) (limit : Bool) (list :
 
     -- all have been weighed
     module _ (h : length (clauses list) ≤ k) where
-      pub weighing-alive : limit && any (isOpposed row a) (clauses list) ≡ false
-      weighing-alive = s .alive ∙ ap (λ (g : List (List ℤ)). limit && any (isOpposed row a) g) (drop-of-length-le (clauses list) h) ∙ lost limit
-        where
-          lost : (b : Bool) → b && false ≡ false
-          lost true = refl
-          lost false = refl
+      pub weighing-alive : spent && any (isOpposed row a) (clauses list) ≡ false
+      weighing-alive = s .alive ∙ ap (λ (g : List (List ℤ)). spent && any (isOpposed row a) g) (drop-of-length-le (clauses list) h) ∙ and-false spent
 
       pub weighing-end : Totals row a size (clauses list) weights marks
       weighing-end =
           record {
             sums = λ j. omega (arith, s .sums j, ap (weightAt a j) (drop-of-length-le (clauses list) h));
-            marked = λ v. sym (kept (isMarked marks v)) ∙ sym (ap (λ (g : List (List ℤ)). isMarked marks v || any (offers row a size v) g) (drop-of-length-le (clauses list) h)) ∙ s .marked v;
+            marked = λ v. sym (or-false (isMarked marks v)) ∙ sym (ap (λ (g : List (List ℤ)). isMarked marks v || any (offers row a size v) g) (drop-of-length-le (clauses list) h)) ∙ s .marked v;
           }
-        where
-          kept : (b : Bool) → b || false ≡ b
-          kept true = refl
-          kept false = refl
 
 -- only the lengths matter
 pub weighable-kept : (n : ℕ) (list : List ℤ) (weights marks weights′ marks′ : List ℕ) → WeighableList n list weights marks → length weights′ ≡ length weights → length marks′ ≡ length marks

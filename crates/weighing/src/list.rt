@@ -17,8 +17,8 @@ ghost use Rattle.opposed.specs.Opposed.{sizeOf};
 ghost use Rattle.weighing.specs.Weights.{Weighable, Weighed, WeighableList, Totals};
 
 // Whether an open clause makes a dead end (document 01, step 3): an opposed one does where the limit is
-// spent, that is, as many wishes are broken as may be.
-fn is_dead_end(spent: bool, clause: &[i32], row: &[u8], assignment: &[u8]) -> bool
+// spent, that is, where as many wishes are broken as may be.
+fn exhausts(spent: bool, clause: &[i32], row: &[u8], assignment: &[u8]) -> bool
     ensures { λ r. ⌜ r ≡ spent && isOpposed (now (row .entry)) (now (assignment .entry)) (now (clause .entry)) ⌝ }
 {
     if !spent {
@@ -59,7 +59,7 @@ fn weigh_at(
         }
         ReadClause::Open(end, count) => {
             let clause = &list[from..end];
-            if is_dead_end(spent, clause, row, assignment) {
+            if exhausts(spent, clause, row, assignment) {
                 return true;
             }
             weigh_clause(
@@ -76,8 +76,8 @@ fn weigh_at(
     }
 }
 
-// Weighs the clauses of a list. Where the limit is spent it stops at the first that makes a dead end, and tells
-// so; the weights and marks then say nothing.
+// Weighs the clauses of a list, each of which has one witness. Where the limit is spent it stops at the first
+// that makes a dead end, and tells so; the weights and marks then say nothing.
 pub fn weigh_list(
     list: &[i32],
     begins: &[u16],

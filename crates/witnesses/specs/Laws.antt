@@ -12,7 +12,7 @@ use borrow.Author.Tests.{eqb-true}
 use Rattle.literal.specs.Literal.{variable, wanted, value, closes, holds}
 use Rattle.literal.specs.Slots.{wanted-bit}
 use Rattle.formula.specs.Formula.{clauses, clauseLength, satisfied}
-use Rattle.formula.specs.Laws.{length-literal, length-closed, end-inside}
+use Rattle.formula.specs.Laws.{length-literal, end-inside}
 use Rattle.choices.specs.Lists.{member-at, any-at}
 use Rattle.clause_standing.specs.Clause.{clauseAt}
 use Rattle.occurrences.specs.Table.{Located, Arranged, begins-inside, begins-clause, clause-count}

@@ -1,4 +1,4 @@
--- For each clause one of its literals is remembered, by where it stands in the closed list: its witness. It is one that held when the clause was last read, and at first the clause's first literal. While it holds the clause need not be read; where it does not, nothing follows. No definition of document 01 speaks of it: it only saves reading.
+-- For each clause one of its literals is remembered, by where it stands in the closed list: its witness. It is one that held when a reading last found the clause satisfied, and at first what stands where the clause begins: its first literal, or the closing 0 of a clause without any, which never holds. While the witness holds the clause need not be read; where it does not, nothing follows. No definition of document 01 speaks of it: it only saves reading.
 use mathlib.Core.Path.{_≡_}
 use mathlib.Core.Bool.{true}
 use mathlib.Core.List.{List, []}

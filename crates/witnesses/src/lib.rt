@@ -1,5 +1,5 @@
-// Witnesses: for each clause an index of the closed list at which a literal of it stands. Where that literal
-// holds, the clause is satisfied and need not be read.
+// Witnesses: for each clause an index of the closed list. Where the literal that stands there holds, the clause
+// is satisfied and need not be read.
 use literal::Clause;
 ghost use mathlib.Core.Path.{_≡_};
 ghost use Prim.Native.Nat.{_-_, _≤_, _<_};

@@ -89,11 +89,11 @@ arrange-requires c κs =
       ),
     )
 
-array-read-clauses : tie.Need-array-read-clauses
-array-read-clauses c = search needs
+array-read-many : tie.Need-array-read-many
+array-read-many c = search needs
 
-cast-clauses : tie.Need-cast-clauses
-cast-clauses c =
+cast-many : tie.Need-cast-many
+cast-many c =
     let arranged = c .before .before .before in
     let given = call (space arranged) in
     record { fits = omega (arith, count-read (arranged .arrange .ensures) (wide arranged) (drop (literals (space arranged)) (ends-space (space arranged))), sound (given .args .n) (given .args .rules .now) (given .pre .0 .sound) .few) }
@@ -153,8 +153,8 @@ first-nearest-spec =
     slice-aggregate-arrange-2
     slice-aggregate-arrange-3
     arrange-requires
-    array-read-clauses
-    cast-clauses
+    array-read-many
+    cast-many
     array-share-prefix-ends
     slice-aggregate-nearest-with
     slice-aggregate-nearest-with-2

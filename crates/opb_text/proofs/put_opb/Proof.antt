@@ -1,7 +1,6 @@
 -- `opb_text::put_opb` meets its contract: no room for the file, refused for another cause, or written.
 use mathlib.Core.Path.{sym, ap, _∙_}
 use native.Mathlib.Omega.{arith}
-use lib.ListN.{length}
 use borrow.Author.Needs.{needs}
 use Rattle.opb_writer.specs.Write.{replyOf}
 use Rattle.report.specs.Laws.{renamed}

@@ -1,7 +1,5 @@
 -- `pick::best_branch` meets its contract, by what its two callees ensure.
-use mathlib.Core.Path.{_≡_, sym, ap, _∙_}
-use mathlib.Core.Option.{Option, some}
-use Prim.Native.Nat.{ℕ}
+use mathlib.Core.Path.{sym, ap, _∙_}
 use Rattle.branching.specs.Branch.{variableOf}
 use Rattle.opposed.specs.Opposed.{sizeOf}
 use Rattle.pick.specs.Pick.{branchOn}

@@ -1,10 +1,9 @@
 -- `pick::pick_at_limit` meets its contract: the weighing tells whether some clause is opposed, and where none is, the best variable is the branching variable.
-use mathlib.Core.Path.{_≡_, sym, ap, _∙_}
-use mathlib.Core.Option.{Option, none}
-use Prim.Native.Nat.{ℕ}
+use mathlib.Core.Path.{sym, ap, _∙_}
+use mathlib.Core.Option.{none}
 use lib.ListN.{length}
 use Rattle.formula.specs.Formula.{clauses}
-use Rattle.weighing.specs.Weights.{WeighableList, Totals}
+use Rattle.weighing.specs.Weights.{WeighableList}
 use Rattle.branching.specs.Laws.{totals-branch, totals-scorable, sound-weighable}
 use Rattle.pick.specs.Pick.{branchOn, none-fewest, spent-dead, spent-branch}
 use borrow.Author.Needs.{needs}

@@ -19,7 +19,6 @@ use Rattle.unit_queue.specs.Theorems.{settle-alike, settled-none-due}
 use Rattle.walk.specs.State.{fits}
 use Rattle.walk.specs.Walk.{Outcome, walkFrom, isDeadEnd}
 use Rattle.walk_result.specs.declared.Tried.the-variants.{Nothing}
-use Rattle.try_and_fork.specs.AttemptLaws.{before}
 use Rattle.unit_queue.specs.Due.{NoneDue}
 use Rattle.try_and_fork.specs.Ready.{Ready, ready-still, ready-following, long-searching}
 use Rattle.root_walk.specs.Root.{RootSays, root-says, root-searching, quiet-covers, walk-propagated, walk-dead}

@@ -89,11 +89,11 @@ arrange-requires c κs =
       ),
     )
 
-array-read-clauses : tie.Need-array-read-clauses
-array-read-clauses c = search needs
+array-read-many : tie.Need-array-read-many
+array-read-many c = search needs
 
-cast-clauses : tie.Need-cast-clauses
-cast-clauses c =
+cast-many : tie.Need-cast-many
+cast-many c =
     let arranged = c .before .before .before in
     let given = call (space arranged) in
     record { fits = omega (arith, count-read (arranged .arrange .ensures) (wide arranged) (drop (literals (space arranged)) (ends-space (space arranged))), sound (given .args .n) (given .args .list .now) (given .pre .sound) .few) }
@@ -152,8 +152,8 @@ walk-into-spec =
     slice-aggregate-arrange-2
     slice-aggregate-arrange-3
     arrange-requires
-    array-read-clauses
-    cast-clauses
+    array-read-many
+    cast-many
     array-share-prefix-ends
     slice-aggregate-walk-with
     slice-aggregate-walk-with-2

@@ -1,6 +1,6 @@
 -- `weighing::list::weigh_at` meets its contract: a satisfied clause changes nothing but its witness, and an open one is weighed or makes a dead end.
 use mathlib.Core.Path.{_≡_, refl, sym, ap, subst, _∙_}
-use mathlib.Core.Bool.{Bool, true, false, _&&_, true≢false}
+use mathlib.Core.Bool.{Bool, true, false, _&&_, and-false, true≢false}
 use mathlib.Core.List.{List, []}
 use Prim.Native.Nat.{ℕ, _+_, _-_, _≤_, _<_}
 use native.Mathlib.Omega.{arith}
@@ -51,11 +51,7 @@ module _ (s : tie.Start) where
   -- where it is satisfied, it makes no dead end, and weighing changes nothing
   module _ (met : satisfied a clause ≡ true) where
     no-dead-end : false ≡ s .args .spent && isOpposed row a clause
-    no-dead-end = sym (ap (λ (b : Bool). s .args .spent && b) (satisfied-unopposed row a clause met) ∙ lost (s .args .spent))
-      where
-        lost : (b : Bool) → b && false ≡ false
-        lost true = refl
-        lost false = refl
+    no-dead-end = sym (ap (λ (b : Bool). s .args .spent && b) (satisfied-unopposed row a clause met) ∙ and-false (s .args .spent))
 
     unchanged : Weighed row a (sizeOf (s .args .fewest)) clause (s .args .weights .now) (s .args .marks .now) (s .args .weights .now) (s .args .marks .now)
     unchanged = weighed-satisfied row a clause met (sizeOf (s .args .fewest)) (s .args .weights .now) (s .args .marks .now)
@@ -84,7 +80,7 @@ met c = c .before .before .before
 abbrev opened : tie.After-known-told2 → tie.After-read-clause
 opened c = c .before .before .before
 
-abbrev asked : tie.After-is-dead-end → tie.After-known-told2
+abbrev asked : tie.After-exhausts → tie.After-known-told2
 asked c = c .before .before
 
 held : (c : tie.After-known-told) → HoldsAt (a (call (met c))) (list (call (met c))) (begin (call (met c))) (c .before .at .given .0 .0)
@@ -156,14 +152,14 @@ part-clause-start c = omega (arith, stands c .ends)
 part-clause-end : tie.Need-part-clause-end
 part-clause-end c = ends-inside (call (opened c)) (c .before .end .given .0 .0) (c .before .end .given .0 .1 .0) (stands c)
 
-is-dead-end-requires : tie.Need-is-dead-end-requires
-is-dead-end-requires c κs = search needs
+exhausts-requires : tie.Need-exhausts-requires
+exhausts-requires c κs = search needs
 
 -- whether it makes a dead end, told of the clause by its number
-told : (c : tie.After-is-dead-end) → c .is-dead-end .result ≡ call (opened (asked c)) .args .spent && isOpposed (row (call (opened (asked c)))) (a (call (opened (asked c)))) (clause (call (opened (asked c))))
+told : (c : tie.After-exhausts) → c .exhausts .result ≡ call (opened (asked c)) .args .spent && isOpposed (row (call (opened (asked c)))) (a (call (opened (asked c)))) (clause (call (opened (asked c))))
 told c =
     let s = call (opened (asked c)) in
-    c .is-dead-end .ensures ∙ ap (λ (e : List ℤ). s .args .spent && isOpposed (row s) (a s) e) (part s (asked c .before .end .given .0 .0) (asked c .before .end .given .0 .1 .0) (stands (asked c)))
+    c .exhausts .ensures ∙ ap (λ (e : List ℤ). s .args .spent && isOpposed (row s) (a s) e) (part s (asked c .before .end .given .0 .0) (asked c .before .end .given .0 .1 .0) (stands (asked c)))
 
 same-length-2 : tie.Need-same-length-2
 same-length-2 c = search needs
@@ -235,7 +231,7 @@ weigh-at-spec =
     sub-clause
     part-clause-start
     part-clause-end
-    is-dead-end-requires
+    exhausts-requires
     same-length-2
     returns-2
     weigh-clause-requires

@@ -1,11 +1,11 @@
--- `weighing::list::is_dead_end` meets its contract.
-use mathlib.Core.Path.{_≡_, sym, ap, _∙_}
+-- `weighing::list::exhausts` meets its contract.
+use mathlib.Core.Path.{sym, ap, _∙_}
 use mathlib.Core.Bool.{Bool, _&&_}
 use Rattle.walk.specs.Branching.{isOpposed}
 use borrow.Author.Needs.{needs}
 use borrow.Author.Tests.{not-true, not-false}
-use Rattle.weighing.proofs.list.is_dead_end.Statement.{statement}
-use Rattle.weighing.proofs.list.is_dead_end.Tie as tie
+use Rattle.weighing.proofs.list.exhausts.Statement.{statement}
+use Rattle.weighing.proofs.list.exhausts.Tie as tie
 
 returns : tie.Need-returns
 returns c =
@@ -21,5 +21,5 @@ returns-2 c =
     c .is-opposed .ensures
     ∙ sym (ap (λ (b : Bool). b && isOpposed (args .row .now) (args .assignment .now) (args .clause .now)) (not-false (args .spent) (c .before .if1 .left)))
 
-pub is-dead-end-spec : {M : Type 1} → statement M
-is-dead-end-spec = tie.close (tie.spec returns is-opposed-requires returns-2)
+pub exhausts-spec : {M : Type 1} → statement M
+exhausts-spec = tie.close (tie.spec returns is-opposed-requires returns-2)
