@@ -1,6 +1,6 @@
 // Trying a state may call for a fork, and a fork tries two states (document 01, step 5).
-use crate::unwind::newest_of;
-use crate::unwind::unwind;
+use crate::unwinding::newest_of;
+use crate::unwinding::unwind;
 use literal::Variable;
 use pick::Pick;
 use propagation::Propagated;

@@ -7,6 +7,9 @@ ghost use Rattle.wish.specs.Wish.{isRowByte, isWish, wishFor, wishedValu
 // The byte of a free variable.
 pub const FREE: u8 = 2;
 
+// The greatest weight of a wish.
+pub const MAX_WEIGHT: usize = 1;
+
 // Whether a byte may stand in a row.
 pub fn is_row_byte(wish: u8) -> bool
     ensures { λ r. ⌜ r ≡ isRowByte wish ⌝ }

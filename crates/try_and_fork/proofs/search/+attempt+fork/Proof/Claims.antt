@@ -8,8 +8,8 @@ use Rattle.completion.proofs.completes.Reads as completes-reads
 use Rattle.pick.proofs.pick_branch.Reads as pick-branch-reads
 use Rattle.propagation.proofs.propagate_units.Reads as propagate-units-reads
 use Rattle.propagation.proofs.assign_to.Reads as assign-to-reads
-use Rattle.try_and_fork.proofs.unwind.newest_of.Reads as newest-of-reads
-use Rattle.try_and_fork.proofs.unwind.unwind.Reads as unwind-reads
+use Rattle.try_and_fork.proofs.unwinding.newest_of.Reads as newest-of-reads
+use Rattle.try_and_fork.proofs.unwinding.unwind.Reads as unwind-reads
 use Rattle.walk_result.proofs.add_forks.Reads as add-forks-reads
 use Rattle.walk_result.proofs.with_forks.Reads as with-forks-reads
 use Rattle.try_and_fork.proofs.search.attempt.Reads as attempt

@@ -5,8 +5,8 @@ use lib.Seq.{slice}
 use borrow.Author.Needs.{needs}
 use Rattle.walk_result.specs.declared.Tried.{Tried}
 use Rattle.try_and_fork.specs.Tried.{unwound, MayUnwind}
-use Rattle.try_and_fork.proofs.unwind.unwind.Statement.{statement}
-use Rattle.try_and_fork.proofs.unwind.unwind.Tie as tie
+use Rattle.try_and_fork.proofs.unwinding.unwind.Statement.{statement}
+use Rattle.try_and_fork.proofs.unwinding.unwind.Tie as tie
 
 enum-told : tie.Need-enum-told
 enum-told c = search needs
