@@ -13,7 +13,7 @@ use Rattle.distance.specs.Distance.{disagreement}
 use Rattle.walk.specs.State.{isUnset, assign, isFalsified}
 use Rattle.walk.specs.Propagation.{propagate}
 
--- what is at hand on the way: the values, the wishes assumed since they were the state's, a byte for each variable that is not 0 where it is taken, and how much every model that extends the state breaks at least
+-- what is at hand on the way: the values, the wishes assumed since they were the state's, for each variable a byte, 0 where it is not taken, and how much every model that extends the state breaks at least
 pub record Scan : Type 0 where
   pub values : List ℕ
   pub assumed : List ℕ
@@ -39,7 +39,7 @@ isAssumable row s v = isWish (value row v) && isLeft (s .taken) v && isUnset (va
 abbrev pub keepWish : List ℕ → List ℕ → ℕ → List ℕ
 keepWish row a v = assign a v (wishedValue (value row v))
 
--- the lowest of the variables v, v + 1, .., at most k of them, that is not taken and whose wish is broken; 0 if there is none
+-- the lowest of the variables v, v + 1, .., k of them, that is not taken and whose wish is broken; 0 if there is none
 abbrev pub isBroken : List ℕ → List ℕ → List ℕ → ℕ → Bool
 isBroken row taken a v = isLeft taken v && breaks (value row v) (value a v)
 
@@ -64,12 +64,12 @@ takeAll taken (v ∷ vs) = takeAll (assign taken v 1) vs
 abbrev pub closeCore : List ℕ → List ℕ → Scan → List ℕ → Scan
 closeCore row b s core = record { values = b; assumed = []; taken = takeAll (s .taken) core; bound = s .bound + leastWeight row core }
 
--- Wish v was assumed, which led to the values a, and w is the lowest wish broken there: the wishes assumed, v and w are a core; where there is no w, v is assumed.
+-- Wish v was assumed, which led to the values a, and w is the lowest wish broken there that is not taken: the wishes assumed, v and w are a core; where there is no w, v is assumed.
 abbrev pub withBroken : List ℕ → List ℕ → Scan → ℕ → List ℕ → ℕ → Scan
 withBroken row b s v a zero = record { values = a; assumed = s .assumed ++ (v ∷ []); taken = s .taken; bound = s .bound }
 withBroken row b s v a (suc w) = closeCore row b s (s .assumed ++ (v ∷ suc w ∷ []))
 
--- where those values falsify a clause, the wishes assumed and v are a core
+-- where those values falsify a clause, the wishes assumed and v are a core, without any wish that is broken there
 abbrev pub afterAssuming : List (List ℤ) → List ℕ → List ℕ → Scan → ℕ → List ℕ → Scan
 afterAssuming f row b s v a =
     cond (any (isFalsified a) f) (closeCore row b s (s .assumed ++ (v ∷ []))) (withBroken row b s v a (firstBroken row (s .taken) a))

@@ -13,7 +13,7 @@ use Rattle.walk.specs.Propagation.{propagate}
 use Rattle.walk.specs.Walk.{isDeadEnd}
 use Rattle.cores.specs.Cores.{Scan, isLeft, keepWish, scan}
 
--- A wish in no core must be kept if breaking it would cost more than is left: its weight would add to the bound, which is broken at least.
+-- A wish in no core must be kept if breaking it would take more than d: its weight comes on top of the bound. A free variable weighs nothing, so this is false of it wherever the bound is within d.
 abbrev pub mustKeep : List ℕ → ℕ → List ℕ → ℕ → ℕ → Bool
 mustKeep row d taken bound v = isLeft taken v && ltb d (bound + weight (value row v))
 
@@ -28,7 +28,7 @@ keepFrom (suc k) row d taken bound a v = keepFrom k row d taken bound (keepIf ro
 abbrev pub keepAll : List ℕ → ℕ → List ℕ → ℕ → List ℕ → List ℕ
 keepAll row d taken bound b = keepFrom (length b) row d taken bound b 1
 
--- where a wish had to be kept, which makes the state a of b, it is narrowed on; else b is the narrowed state
+-- where a wish had to be kept, which makes the state a of b and is told by the number of unassigned variables, it is narrowed on; else b is the narrowed state
 abbrev pub unlessKept : (List ℕ → Option (List ℕ)) → List ℕ → List ℕ → Option (List ℕ)
 unlessKept rest b a = cond (eqb (unassigned a) (unassigned b)) (some b) (rest a)
 
@@ -36,11 +36,11 @@ unlessKept rest b a = cond (eqb (unassigned a) (unassigned b)) (some b) (rest a)
 abbrev pub byCores : (List ℕ → Option (List ℕ)) → List ℕ → ℕ → List ℕ → Scan → Option (List ℕ)
 byCores rest row d b s = cond (ltb d (s .bound)) none (unlessKept rest b (keepAll row d (s .taken) (s .bound) b))
 
--- of a state to which unit propagation adds nothing
+-- one round, of a state to which unit propagation adds nothing
 abbrev pub narrowed : (List ℕ → Option (List ℕ)) → List (List ℤ) → List ℕ → ℕ → List ℕ → Option (List ℕ)
 narrowed rest f row d b = cond (isDeadEnd f row d b) none (byCores rest row d b (scan f row b))
 
--- less than k rounds
+-- at most k rounds
 abbrev pub narrowBy : ℕ → List (List ℤ) → List ℕ → ℕ → List ℕ → Option (List ℕ)
 narrowBy zero f row d a = none
 narrowBy (suc k) f row d a = narrowed (narrowBy k f row d) f row d (propagate f a)

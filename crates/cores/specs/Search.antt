@@ -1,4 +1,4 @@
--- The search by disjoint cores: document 01's steps 2 to 5 at narrowed states. A completion goes by a guide, a row that asks of every wished variable its wish (`Guides` of SearchRight) and of a free one what a choice at hand has, so that a choice close to that one is found at once.
+-- The search by disjoint cores: document 01's steps 2 to 5 at narrowed states. A completion goes by a guide, a row that asks of every wished variable its wish (`Guides` of SearchRight) and of a free one what a choice at hand has, so that a choice close to that one is mostly found soon.
 use mathlib.Core.Bool.{cond}
 use mathlib.Core.List.{List}
 use mathlib.Core.Option.{Option, none, some}

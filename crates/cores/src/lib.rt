@@ -1,1 +1,1 @@
-// The search by disjoint cores, by which nearest finds: definitions and theorems (specs).
+// The search by disjoint cores, by which nearest searches: definitions and theorems (specs).

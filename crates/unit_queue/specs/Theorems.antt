@@ -2,7 +2,7 @@
 use mathlib.Core.Path.{_≡_, refl, sym, ap, subst, _∙_}
 use mathlib.Core.Logic.{_⊎_, inl, inr}
 use mathlib.Core.Bool.{Bool, true, false, cond, _||_, true≢false}
-use mathlib.Core.List.{List, [], _∷_, _++_, List·Memᴰ, List·Memᴰ·head, List·Memᴰ·tail, List·Memᴰ·not-nil, List·Memᴰ·eq-of-singleton}
+use mathlib.Core.List.{List, [], _∷_, _++_, List·Memᴰ, List·Memᴰ·head, List·Memᴰ·tail, List·Memᴰ·not-nil, List·Memᴰ·append-cases, List·Memᴰ·eq-of-singleton, Memᴰ·append-left, Memᴰ·append-right}
 use mathlib.Core.Option.{Option, none, some}
 use Prim.Native.Nat.{ℕ, zero, suc, _+_, _-_, _≤_, _<_}
 use native.Mathlib.Omega.{arith}
@@ -18,7 +18,8 @@ use Rattle.walk.specs.State.{State, unassigned, assign, isFalsified, fits}
 use Rattle.walk.specs.Propagation.{propagate}
 use Rattle.walk.specs.Walk.{isDeadEnd}
 use Rattle.walk.specs.WalkLaws.{dead-early, dead-causes}
-use Rattle.walk.specs.Assignment.{assign-value}
+use Rattle.walk.specs.Assignment.{assign-value, assign-extends}
+use Rattle.walk.specs.Extension.{keeps-value}
 use Rattle.rule_list.specs.Sound.{SoundList}
 use Rattle.searches.specs.Fits.{sound-fits}
 use Rattle.unit_order.specs.Steps.{Quiet, propagate-ends}
@@ -163,19 +164,48 @@ module _ (n : ℕ) (f : List (List ℤ)) (fit : fits n f ≡ true) (row : List �
             covered = λ j l h. inr (c .covered j l h);
           })
 
--- After a fork: from a state in which no clause asks for anything, only the clauses that hold the false literal of the variable that was assigned can
-pub fork-covers : {n : ℕ} (f : List (List ℤ)) {a : List ℕ} → State n a → NoneDue f a → (v b : ℕ) → 0 < v → v ≤ n → value a v ≡ 2 → b < 2
-    → Covers f (record { values = assign a v b; queue = v ∷ [] })
-fork-covers f {a} s none-due v b low high free bit =
+-- where no clause asks for anything, the queue can be empty
+pub none-covers : (f : List (List ℤ)) {a : List ℕ} → NoneDue f a → Covers f (record { values = a; queue = [] })
+none-covers f none-due =
+    record { assigned = λ v w. absurd (List·Memᴰ·not-nil w); covered = λ j l h. absurd (none-due (getD f j []) (member-at [] f j l) h) }
+
+-- a variable is assigned, and comes into the queue
+pub assign-covers : {n : ℕ} (f : List (List ℤ)) {a q : List ℕ} → State n a → Covers f (record { values = a; queue = q }) → (v b : ℕ) → 0 < v → v ≤ n → value a v ≡ 2 → b < 2
+    → Covers f (record { values = assign a v b; queue = q ++ (v ∷ []) })
+assign-covers f {a} {q} s c v b low high free bit =
     record {
-      assigned = λ u w. omega (arith, ap (value (assign a v b)) (List·Memᴰ·eq-of-singleton w), assign-value s v b low high);
+      assigned = λ u w. queued u (List·Memᴰ·append-cases q w);
       covered = λ j l h. go j l (due-later s v b low high free bit (getD f j []) h);
     }
   where
-    go : (j : ℕ) → j < length f → Due a (getD f j []) ⊎ (contains v (1 - b) (getD f j []) ≡ true) → Held (record { values = assign a v b; queue = v ∷ [] }) (getD f j [])
-    go j l (inl w) = absurd (none-due (getD f j []) (member-at [] f j l) w)
+    v-value : value (assign a v b) v ≡ b
+    v-value = assign-value s v b low high
+
+    -- a variable of the queue keeps its value
+    kept : (u : ℕ) → List·Memᴰ u q → value (assign a v b) u ≡ value a u
+    kept u w = keeps-value (assign-extends a v b free) u (λ e. omega (arith, c .assigned u w))
+
+    queued : (u : ℕ) → List·Memᴰ u q ⊎ List·Memᴰ u (v ∷ []) → value (assign a v b) u < 2
+    queued u (inl w) = omega (arith, kept u w, c .assigned u w)
+    queued u (inr w) = omega (arith, ap (value (assign a v b)) (List·Memᴰ·eq-of-singleton w), v-value)
+
+    old : (j : ℕ) → Held (record { values = a; queue = q }) (getD f j []) → Held (record { values = assign a v b; queue = q ++ (v ∷ []) }) (getD f j [])
+    old j w =
+        record {
+          by = w .by;
+          queued = Memᴰ·append-left (v ∷ []) (w .queued);
+          holds-it = ap (λ (k : ℕ). contains (w .by) (1 - k) (getD f j [])) (kept (w .by) (w .queued)) ∙ w .holds-it;
+        }
+
+    go : (j : ℕ) → j < length f → Due a (getD f j []) ⊎ (contains v (1 - b) (getD f j []) ≡ true) → Held (record { values = assign a v b; queue = q ++ (v ∷ []) }) (getD f j [])
+    go j l (inl w) = old j (c .covered j l w)
     go j l (inr w) =
-        record { by = v; queued = List·Memᴰ·head refl; holds-it = ap (λ (k : ℕ). contains v (1 - k) (getD f j [])) (assign-value s v b low high) ∙ w }
+        record { by = v; queued = Memᴰ·append-right q (List·Memᴰ·head refl); holds-it = ap (λ (k : ℕ). contains v (1 - k) (getD f j [])) v-value ∙ w }
+
+-- After a fork: from a state in which no clause asks for anything, only the clauses that hold the false literal of the variable that was assigned can
+pub fork-covers : {n : ℕ} (f : List (List ℤ)) {a : List ℕ} → State n a → NoneDue f a → (v b : ℕ) → 0 < v → v ≤ n → value a v ≡ 2 → b < 2
+    → Covers f (record { values = assign a v b; queue = v ∷ [] })
+fork-covers f {a} s none-due v b low high free bit = assign-covers f s (none-covers f none-due) v b low high free bit
 
 -- and where propagation has ended without a dead end, no clause asks for anything
 pub settled-none-due : (n : ℕ) (f : List (List ℤ)) → fits n f ≡ true → (row : List ℕ) (d : ℕ) {a : List ℕ} → State n a → isDeadEnd f row d (propagate f a) ≡ false → NoneDue f (propagate f a)

@@ -236,8 +236,12 @@ open-unassigned a f h c m e = go (unassignedIn a c) refl
         absurd (true≢false (sym falsified ∙ any-false (isFalsified a) h m))
     go (suc k) z = omega arith
 
+-- some clause of a formula is open
+abbrev pub SomeOpen : List ℕ → List (List ℤ) → Type 0
+SomeOpen a f = (c : List ℤ) × List·Memᴰ c f × (satisfied a c ≡ false)
+
 -- where the completion is no model, some clause is open
-undecided-open : (row a : List ℕ) (f : List (List ℤ)) → models (complete row a) f ≡ false → (c : List ℤ) × List·Memᴰ c f × (satisfied a c ≡ false)
+pub undecided-open : (row a : List ℕ) (f : List (List ℤ)) → models (complete row a) f ≡ false → SomeOpen a f
 undecided-open row a f h = let r = all-false (satisfied (complete row a)) f h in (r .0, r .1, go (r .0) (r .2) (satisfied a (r .0)) refl)
   where
     go : (c : List ℤ) → satisfied (complete row a) c ≡ false → (t : Bool) → satisfied a c ≡ t → t ≡ false
@@ -245,22 +249,27 @@ undecided-open row a f h = let r = all-false (satisfied (complete row a)) f h in
     go c q false e = refl
 
 -- a clause that gives candidates
-source-exists : (row a : List ℕ) (f : List (List ℤ)) → models (complete row a) f ≡ false
+source-exists : (row a : List ℕ) (f : List (List ℤ)) → SomeOpen a f
     → (c : List ℤ) × List·Memᴰ c f × (satisfied a c ≡ false) × (isSource row a (fewest row a f) c ≡ true)
-source-exists row a f h = go (fewest row a f) refl
+source-exists row a f r = go (fewest row a f) refl
   where
     go : (o : Option ℕ) → fewest row a f ≡ o → (c : List ℤ) × List·Memᴰ c f × (satisfied a c ≡ false) × (isSource row a o c ≡ true)
-    go none e = let r = undecided-open row a f h in (r .0, r .1, r .2, ap not (r .2))
+    go none e = (r .0, r .1, r .2, ap not (r .2))
     go (some k) e =
         let r = fewest-member row a f e in
         (r .0, r .1, opposed-open row a (r .0) (r .2), and-eq-true-iff (isOpposed row a (r .0)) (eqb (unassignedIn a (r .0)) k) .1 (r .2, eq-eqb (unassignedIn a (r .0)) k (r .3)))
 
-pub branching-exists : {n : ℕ} {a : List ℕ} → State n a → (row : List ℕ) (f : List (List ℤ)) → fits n f ≡ true
-    → any (isFalsified a) f ≡ false → models (complete row a) f ≡ false → (v : ℕ) × (branchingVariable row a f ≡ some v)
-branching-exists {n} {a} h row f fit alive incomplete =
-    let r = source-exists row a f incomplete in
+-- where a clause is open and none is falsified there is a branching variable
+pub branching-open : {n : ℕ} {a : List ℕ} → State n a → (row : List ℕ) (f : List (List ℤ)) → fits n f ≡ true
+    → any (isFalsified a) f ≡ false → SomeOpen a f → (v : ℕ) × (branchingVariable row a f ≡ some v)
+branching-open {n} {a} h row f fit alive some-open =
+    let r = source-exists row a f some-open in
     let x = find-some (isUnassigned a) (r .0) (open-unassigned a f alive (r .0) (r .1) (r .2)) in
     let w = find-member (isUnassigned a) (r .0) (x .1) in
     let b = fits-at n f fit (r .1) (w .0) in
     best-exists (isCandidate row a f) (score a f) (length a) (variable (x .0)) (b .0) (omega (arith, h .size, b .1))
     (source-candidate row a f (r .0) (r .1) (r .3) (x .0) (w .0) (w .1))
+
+pub branching-exists : {n : ℕ} {a : List ℕ} → State n a → (row : List ℕ) (f : List (List ℤ)) → fits n f ≡ true
+    → any (isFalsified a) f ≡ false → models (complete row a) f ≡ false → (v : ℕ) × (branchingVariable row a f ≡ some v)
+branching-exists {a = a} h row f fit alive incomplete = branching-open h row f fit alive (undecided-open row a f incomplete)

@@ -14,7 +14,7 @@ use Rattle.choices.specs.Choices.{Model}
 use Rattle.walk.specs.State.{State, unassigned, assign, fits}
 use Rattle.walk.specs.Propagation.{propagate}
 use Rattle.walk.specs.Branching.{fewest}
-use Rattle.walk.specs.Walk.{Answer, Outcome, isDeadEnd, complete, completed, firstValue, firstAnswer, walkBy, walkFrom}
+use Rattle.walk.specs.Walk.{Answer, Outcome, isDeadEnd, complete, completed, firstValue, firstAnswer, walkBy, walkFrom, walk}
 use Rattle.walk.specs.Promises.{ModelWithin, Branches}
 use Rattle.walk.specs.Extension.{Extends, extends-trans}
 use Rattle.walk.specs.Assignment.{extends-branch, assign-extends}
@@ -55,7 +55,7 @@ module _ (n : ℕ) (f : List (List ℤ)) (fit : fits n f ≡ true) (row : List �
     complete-extends row a,
   )
 
-  after-fork : (a : List ℕ) (v b : ℕ) → Branches a n v → b < 2 → (x y : Option Answer)
+  pub after-fork : (a : List ℕ) (v b : ℕ) → Branches a n v → b < 2 → (x y : Option Answer)
       → Right n f row d (assign a v b) x → Right n f row d (assign a v (1 - b)) y → Right n f row d a (firstAnswer x y)
   after-fork a v b k l (some x) y p q = (p .0, extends-trans (p .1) (assign-extends a v b (k .unset)))
   after-fork a v b k l none (some y) p q = (q .0, extends-trans (q .1) (assign-extends a v (1 - b) (k .unset)))
@@ -77,3 +77,7 @@ module _ (n : ℕ) (f : List (List ℤ)) (fit : fits n f ≡ true) (row : List �
   -- the walk from any state
   pub walk-right : (a : List ℕ) → State n a → Right n f row d a (walkFrom f row d a .answer)
   walk-right a s = by-depth (suc (unassigned a)) a s (omega arith)
+
+  -- the walk from the start
+  pub start-right : Right n f row d (replicate n 2) (walk n f row d .answer)
+  start-right = walk-right (replicate n 2) (start-state n)

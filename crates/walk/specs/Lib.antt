@@ -8,7 +8,6 @@ pub mod Extension
 pub mod Fits
 pub mod Induction
 pub mod Loops
-pub mod Nearest
 pub mod Promises
 pub mod Propagation
 pub mod PropagationLaws

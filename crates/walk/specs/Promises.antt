@@ -16,12 +16,6 @@ pub record ModelWithin (n : ℕ) (f : List (List ℤ)) (row : List ℕ) (d : ℕ
   pub own-count : disagreement row (x .choice) ≡ x .broken
   pub limited : x .broken ≤ d
 
--- an answer of the walks with rising limits: a model, with its own count, and no model breaks fewer
-pub record Closest (n : ℕ) (f : List (List ℤ)) (row : List ℕ) (x : Answer) : Type 0 where
-  pub model : Model n f (x .choice)
-  pub own-count : disagreement row (x .choice) ≡ x .broken
-  pub below : (a : List ℕ) → Model n f a → x .broken ≤ disagreement row a
-
 -- steps 1 to 3 decide nothing
 pub record Undecided (f : List (List ℤ)) (row : List ℕ) (d : ℕ) (a : List ℕ) : Type 0 where
   pub alive : isDeadEnd f row d a ≡ false

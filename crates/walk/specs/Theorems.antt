@@ -1,26 +1,25 @@
 -- The theorems of the wish search, from its start; `walk-right` in Correctness is that from any state. Each holds for every n, every formula whose literals have their variables in 1 to n (`fits`), every wish row and every limit.
-use mathlib.Core.Path.{_≡_, refl, sym, subst}
+use mathlib.Core.Path.{_≡_, refl, subst}
 use mathlib.Core.Logic.{_↔_, Iff·trans, Iff·symm}
 use mathlib.Core.Bool.{true}
 use mathlib.Core.List.{List, [], List·Memᴰ}
-use mathlib.Core.Option.{Option, none, some, Option·map}
+use mathlib.Core.Option.{Option, none, some}
 use Prim.Native.Nat.{ℕ, suc, _<_}
 use native.Mathlib.Omega.{arith}
 use lib.IntN.{ℤ}
 use lib.ListN.{replicate}
 use Rattle.formula.specs.Formula.{clauses}
-use Rattle.wish.specs.Wish.{freeByte, totalWeight}
-use Rattle.distance.specs.Distance.{disagreement, within, nearest}
-use Rattle.distance.specs.Laws.{disagreement-most, disagreement-free}
-use Rattle.choices.specs.Choices.{Model, within-iff, within-none, nearest-none, nearest-some}
+use Rattle.wish.specs.Wish.{freeByte}
+use Rattle.distance.specs.Distance.{disagreement, within}
+use Rattle.distance.specs.Laws.{disagreement-free}
+use Rattle.choices.specs.Choices.{Model, within-iff, within-none}
 use Rattle.walk.specs.State.{State, unassigned, fits}
 use Rattle.walk.specs.Branching.{branchingVariable}
 use Rattle.walk.specs.Walk.{Answer, walkBy, walk, plainWalk}
-use Rattle.walk.specs.Promises.{ModelWithin, Closest, Undecided, Branches}
+use Rattle.walk.specs.Promises.{ModelWithin, Undecided, Branches}
 use Rattle.walk.specs.WalkLaws.{walk-enough}
 use Rattle.walk.specs.Induction.{branching}
-use Rattle.walk.specs.Correctness.{start-state, start-unassigned, start-extends, Right}
-use Rattle.walk.specs.Nearest.{nearestWalk, RightUpTo, start-right, nearest-right}
+use Rattle.walk.specs.Correctness.{start-state, start-unassigned, start-extends, Right, start-right}
 
 -- Soundness: what the walk finds is a choice that meets all rules, with the count that it breaks, and that is at most d.
 pub walk-sound : (n : ℕ) (f : List (List ℤ)) → fits n f ≡ true → (row : List ℕ) (d : ℕ) (x : Answer) → walk n f row d .answer ≡ some x → ModelWithin n f row d x
@@ -67,21 +66,6 @@ plain-sound n f fit x e = walk-sound n f fit (replicate n freeByte) 0 x e .model
 pub plain-none : (n : ℕ) (f : List (List ℤ)) → fits n f ≡ true → (plainWalk n f .answer ≡ none) ↔ ((a : List ℕ) → Model n f a → ⊥)
 plain-none n f fit =
     (λ e a m. omega (arith, walk-none n f fit (replicate n freeByte) 0 .0 e a m, disagreement-free n a), λ g. walk-none n f fit (replicate n freeByte) 0 .1 (λ a m. absurd (g a m)))
-
--- The walks with rising limits find a choice that meets all rules, with the count that it breaks, and no such choice breaks fewer.
-pub nearest-sound : (n : ℕ) (f : List (List ℤ)) → fits n f ≡ true → (row : List ℕ) (x : Answer) → nearestWalk n f row ≡ some x → Closest n f row x
-nearest-sound n f fit row x e = subst (RightUpTo n f row (totalWeight row)) e (nearest-right n f fit row)
-
--- Their count is the nearest count: none exactly when the rules can't be met.
-pub nearest-count : (n : ℕ) (list : List ℤ) → fits n (clauses list) ≡ true → (row : List ℕ)
-    → Option·map (λ (x : Answer). x .broken) (nearestWalk n (clauses list) row) ≡ nearest n list row
-nearest-count n list fit row = go (nearestWalk n (clauses list) row) (nearest-right n (clauses list) fit row)
-  where
-    go : (o : Option Answer) → RightUpTo n (clauses list) row (totalWeight row) o → Option·map (λ (x : Answer). x .broken) o ≡ nearest n list row
-    go none p = sym (nearest-none n list row .1 (λ a m. omega (arith, p a m, disagreement-most row a)))
-    go (some x) p =
-        let r : Closest n (clauses list) row x = p in
-        sym (nearest-some n list row (x .broken) .1 (record { attained = (x .choice, r .model, r .own-count); below = r .below }))
 
 -- Where steps 1 to 3 decide nothing there is a branching variable; it is unassigned and one of 1 to n.
 pub branching-variable : (n : ℕ) (f : List (List ℤ)) → fits n f ≡ true → (row : List ℕ) (d : ℕ) (a : List ℕ) → State n a → Undecided f row d a

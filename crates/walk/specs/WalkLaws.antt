@@ -131,8 +131,8 @@ branch-state h v b k = assign-state h v b (omega arith)
 pub branch-fewer : {n : ℕ} {a : List ℕ} → State n a → (v b : ℕ) → Branches a n v → b < 2 → unassigned (assign a v b) < unassigned a
 branch-fewer h v b k l = omega (arith, assign-fewer h v b (k .above) (k .upTo) (k .unset) l)
 
--- two walks that agree on smaller states agree after a fork
-fork-same : {n : ℕ} {a : List ℕ} → State n a → (f : List (List ℤ)) (row : List ℕ) (s t : List ℕ → Outcome)
+-- two searches that agree on smaller states agree after a fork
+pub fork-same : {n : ℕ} {a : List ℕ} → State n a → (f : List (List ℤ)) (row : List ℕ) (s t : List ℕ → Outcome)
     → ((b : List ℕ) → State n b → unassigned b < unassigned a → s b ≡ t b)
     → (m o : Option ℕ) → branchingVariable row a f ≡ o → forkOn s row a m o ≡ forkOn t row a m o
 fork-same h f row s t same m none e = refl

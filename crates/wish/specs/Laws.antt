@@ -136,6 +136,12 @@ keeping-wanted k w = literal-wanted k (wishedValue w) (wished-bit w)
 other : (w b : ℕ) → isWish w ≡ true → wishedValue w ≡ b → unwishedValue w ≡ 1 - b
 other w b e q = rw (e) (ap (λ (k : ℕ). 1 - k) (rw e at q))
 
+-- a value of a wish that costs nothing is the wished one
+pub kept-wished : (w b : ℕ) → isWish w ≡ true → b < 2 → cost w b ≡ 0 → b ≡ wishedValue w
+kept-wished w b e h z =
+    let kept : b ≡ unwishedValue w → ⊥ = λ q. omega (arith, cost-broken w b q, weight-wish w e) in
+    omega (arith, other w (wishedValue w) e refl, wished-bit w)
+
 -- of a wish for on, what a value breaks and what it keeps make up the weight; of a wish for off, what it breaks is the weight where it is on
 pub cost-on : (w b : ℕ) → isWish w ≡ true → wishedValue w ≡ 1 → b < 2 → cost w b + weight w * b ≡ weight w
 cost-on w zero e on h = omega (arith, cost-broken w 0 (sym (other w 1 e on)))
