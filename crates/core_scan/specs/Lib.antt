@@ -1,0 +1,7 @@
+pub mod Assuming
+pub mod Broken
+pub mod Closing
+pub mod Going
+pub mod ScanLaws
+pub mod Scanning
+pub mod Taking
