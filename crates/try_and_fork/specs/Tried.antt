@@ -1,4 +1,4 @@
--- What trying a state promises: the walk's answer from it, in the lent assignment, or nothing, with an earlier state in it again.
+-- What trying a state promises: the answer of the walk, or of any search that forks, from it, in the lent assignment, or nothing, with an earlier state in it again.
 use mathlib.Core.Path.{_≡_}
 use mathlib.Core.List.{List}
 use mathlib.Core.Option.{none, some}
@@ -10,7 +10,7 @@ use Rattle.walk_result.specs.declared.Tried.the-variants.{Found, Nothing}
 use Rattle.walk_result.specs.Tried.{clip}
 use Rattle.propagation.specs.Trail.{undone}
 
--- Where the walk comes to o. If that is nothing, the assignment is the state `back` again, and the first k places of the trail are as they were.
+-- Where that comes to o. If that is nothing, the assignment is the state `back` again, and the first k places of the trail are as they were.
 abbrev pub TriedBy : Outcome → ℕ → List ℕ → List ℕ → List ℕ → List ℕ → Tried → Type 0
 TriedBy o k back trail trail′ a′ (Found broken forks) = (o .answer ≡ some (record { choice = a′; broken = broken })) × (forks ≡ clip (o .forks))
 TriedBy o k back trail trail′ a′ (Nothing forks) = (o .answer ≡ none) × (forks ≡ clip (o .forks)) × (a′ ≡ back) × (take k trail′ ≡ take k trail)

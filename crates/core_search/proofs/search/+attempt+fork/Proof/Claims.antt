@@ -1,0 +1,44 @@
+-- The measures of the cycle of calls {attempt, fork}, and what each is given and asks at a measure: the number of unassigned variables falls from a fork to each of its tries.
+use Prim.Native.Nat.{ℕ, _+_, _*_, _<_}
+use borrow.Fn.Kinds.{In}
+use borrow.Fn.PlainCycle.{Measures, is, falls, and}
+use Rattle.walk.specs.State.{unassigned}
+use Rattle.completion.proofs.fill_completion.Reads as fill-completion-reads
+use Rattle.completion.proofs.completes.Reads as completes-reads
+use Rattle.narrowing.proofs.narrow.Reads as narrow-reads
+use Rattle.pick.proofs.pick_branch.Reads as pick-branch-reads
+use Rattle.propagation.proofs.assign_to.Reads as assign-to-reads
+use Rattle.try_and_fork.proofs.unwind.Reads as unwind-reads
+use Rattle.walk_result.proofs.add_forks.Reads as add-forks-reads
+use Rattle.walk_result.proofs.with_forks.Reads as with-forks-reads
+use Rattle.core_search.proofs.search.attempt.Reads as attempt
+use Rattle.core_search.proofs.search.attempt.Kinds as attempt-kinds
+use Rattle.core_search.proofs.search.+attempt+fork.Lts-attempt as attempt-lts
+use Rattle.core_search.proofs.search.fork.Reads as fork
+use Rattle.core_search.proofs.search.fork.Kinds as fork-kinds
+use Rattle.core_search.proofs.search.+attempt+fork.Lts-fork as fork-lts
+
+abbrev pub μ-attempt : Measures 13 attempt-kinds.ps ℕ
+μ-attempt κs a = 2 * unassigned (a .1 .1 .1 .1 .1 .1 .1 .1 .1 .0 .now) + 1
+
+abbrev pub μ-fork : Measures 13 fork-kinds.ps ℕ
+μ-fork κs a = 2 * unassigned (a .1 .1 .1 .1 .1 .1 .1 .1 .1 .1 .0 .now)
+
+-- what each is given at the measure t, and what a call of it asks below t
+abbrev pub attempt-at : ℕ → In 13 attempt-kinds.ps
+attempt-at t = and 13 attempt-kinds.ps (is 13 attempt-kinds.ps μ-attempt t) attempt.Pre
+
+abbrev pub attempt-below : ℕ → In 13 attempt-kinds.ps
+attempt-below t = and 13 attempt-kinds.ps (falls 13 attempt-kinds.ps _<_ μ-attempt t) attempt.Pre
+
+abbrev pub fork-at : ℕ → In 13 fork-kinds.ps
+fork-at t = and 13 fork-kinds.ps (is 13 fork-kinds.ps μ-fork t) fork.Pre
+
+abbrev pub fork-below : ℕ → In 13 fork-kinds.ps
+fork-below t = and 13 fork-kinds.ps (falls 13 fork-kinds.ps _<_ μ-fork t) fork.Pre
+
+abbrev pub attempt-claims : ℕ → attempt-lts.Claims
+attempt-claims t = (narrow-reads.Asked, narrow-reads.Learnt, unwind-reads.Asked, unwind-reads.Learnt, completes-reads.Asked, completes-reads.Learnt, fill-completion-reads.Asked, fill-completion-reads.Learnt, pick-branch-reads.Asked, pick-branch-reads.Learnt, fork-below t, fork.Post)
+
+abbrev pub fork-claims : ℕ → fork-lts.Claims
+fork-claims t = (assign-to-reads.Asked, assign-to-reads.Learnt, attempt-below t, attempt.Post, add-forks-reads.Asked, add-forks-reads.Learnt, with-forks-reads.Asked, with-forks-reads.Learnt)

@@ -1,0 +1,175 @@
+-- Trying a state in the search by cores: narrowing, completion by the guide, and what is left to a fork.
+use mathlib.Core.Path.{_≡_, refl, sym, ap, ap₂, subst, _∙_}
+use mathlib.Core.Bool.{Bool, true, false, cond}
+use mathlib.Core.List.{List}
+use mathlib.Core.Option.{Option, none, some}
+use Prim.Native.Nat.{ℕ, _≤_, _<_}
+use native.Mathlib.Omega.{arith}
+use lib.IntN.{ℤ}
+use lib.ListN.{length, take, drop}
+use lib.Seq.{slice, take-take}
+use Rattle.literal.specs.declared.Variable.{Variable}
+use Rattle.formula.specs.Formula.{models}
+use Rattle.opposed.specs.Opposed.{NoneShort}
+use Rattle.walk.specs.Branching.{fewest, branchingVariable}
+use Rattle.walk.specs.BranchingLaws.{branching-sound, opposed-open}
+use Rattle.walk.specs.Promises.{Branches}
+use Rattle.walk.specs.State.{State, fits, unassigned, unassignedIn}
+use Rattle.walk.specs.Walk.{Outcome, deadEnd, isDeadEnd, complete, isExhausted, firstValue, fork, forkOn}
+use Rattle.walk.specs.WalkLaws.{first-bit}
+use Rattle.pick.specs.declared.Pick.the-variants.{DeadEnd, Branch}
+use Rattle.pick.specs.Pick.{variable, picked, pickOf}
+use Rattle.tally.specs.declared.Tally.{Tally}
+use Rattle.propagation.specs.declared.propagated.Propagated.the-variants.{Dead, Settled}
+use Rattle.propagation.specs.Looked.{Moved, ComesTo}
+use Rattle.propagation.specs.Searching.{Searching, settled-most}
+use Rattle.propagation.specs.Trail.{undone, grown-undone}
+use Rattle.unit_queue.specs.Due.{NoneDue}
+use Rattle.unit_queue.specs.Theorems.{settled-none-due}
+use Rattle.walk_result.specs.declared.Tried.{Tried}
+use Rattle.walk_result.specs.declared.Tried.the-variants.{Found, Nothing}
+use Rattle.walk_result.specs.Tried.{clip}
+use Rattle.try_and_fork.specs.Tried.{TriedBy, unwound}
+use Rattle.cores.specs.Narrow.{narrow}
+use Rattle.cores.specs.Search.{completedBy, onward, searchFrom}
+use Rattle.cores.specs.NarrowRight.{Narrowed, NarrowedTo, narrow-right}
+use Rattle.cores.specs.SearchRight.{search-step}
+
+-- What a pick says of the narrowed state b, where its completion by the guide is no model.
+module _ (f : List (List ℤ)) (row guide : List ℕ) (d : ℕ) (try : List ℕ → Outcome) (b : List ℕ) (incomplete : models (complete guide b) f ≡ false) where
+  -- steps 3 to 5, by whether the state is exhausted and by its branching variable
+  abbrev left : Bool → Option ℕ → Outcome
+  left t o = cond t deadEnd (forkOn try row b (fewest row b f) o)
+
+  onward-left : (t : Bool) → isExhausted f row d b ≡ t → (o : Option ℕ) → branchingVariable row b f ≡ o → onward f row guide d try (some b) ≡ left t o
+  onward-left t p o q = ap (λ (m : Bool). cond m (completedBy row guide b) (left (isExhausted f row d b) (branchingVariable row b f))) incomplete ∙ ap₂ left p q
+
+  clash : {v : Variable} {c : ℕ} → DeadEnd ≡ Branch v c → ⊥
+  clash e = let z : _≡_ {A = ℕ} 0 1 = cc in omega arith
+
+  pub onward-none : pickOf f row d b ≡ DeadEnd → onward f row guide d try (some b) ≡ deadEnd
+  onward-none e = go (isExhausted f row d b) refl (branchingVariable row b f) refl e
+    where
+      go : (t : Bool) → isExhausted f row d b ≡ t → (o : Option ℕ) → branchingVariable row b f ≡ o → picked t row (fewest row b f) o ≡ DeadEnd → onward f row guide d try (some b) ≡ deadEnd
+      go true p o q r = onward-left true p o q
+      go false p none q r = onward-left false p none q
+      go false p (some v) q r = cc
+
+  pub onward-fork : {n : ℕ} → State n b → (v : Variable) (c : ℕ) → pickOf f row d b ≡ Branch v c
+      → (onward f row guide d try (some b) ≡ fork try b (v .0) c) × Branches b n (v .0) × (c < 2)
+  onward-fork {n} h v c e = go (isExhausted f row d b) refl (branchingVariable row b f) refl e
+    where
+      go : (t : Bool) → isExhausted f row d b ≡ t → (o : Option ℕ) → branchingVariable row b f ≡ o → picked t row (fewest row b f) o ≡ Branch v c
+          → (onward f row guide d try (some b) ≡ fork try b (v .0) c) × Branches b n (v .0) × (c < 2)
+      go true p o q r = absurd (clash r)
+      go false p none q r = absurd (clash r)
+      go false p (some u) q r =
+          let at : variable u ≡ v = cc in
+          let same : u ≡ v .0 = ap (λ (w : Variable). w .0) at in
+          let first : firstValue row (fewest row b f) u ≡ c = cc in (
+            onward-left false p (some u) q ∙ ap₂ (fork try b) same first,
+            subst (Branches b n) same (branching-sound h row f q),
+            subst (λ (k : ℕ). k < 2) first (first-bit row (fewest row b f) u),
+          )
+
+-- the state before the variables from a place of the trail on were assigned
+abbrev pub before : ℕ → Tally → List ℕ → List ℕ → List ℕ
+before from t a trail = undone (slice from (t .settled) trail) a
+
+-- a state a of the search with its tally t, tried from a place of its trail on
+pub record Tries (n : ℕ) (f : List (List ℤ)) (row : List ℕ) (from : ℕ) (t : Tally) (a trail : List ℕ) : Type 0 where
+  pub given : Searching n row a trail (t .settled) (t .broken)
+  pub fit : fits n f ≡ true
+  pub inside : from ≤ t .settled
+
+module _ {n : ℕ} {f : List (List ℤ)} {row : List ℕ} {from : ℕ} {t : Tally} {a trail : List ℕ} (p : Tries n f row from t a trail) (guide : List ℕ) (d : ℕ) where
+  -- the search from it goes on from the narrowed state
+  step : searchFrom f row guide d a ≡ onward f row guide d (searchFrom f row guide d) (narrow f row d a)
+  step = search-step n f (p .fit) row guide d a (p .given .state)
+
+  -- a dead end in a later state, which is undone
+  ended : {t′ : Tally} {a′ trail′ : List ℕ} → Moved n row t a trail t′ a′ trail′ → searchFrom f row guide d a ≡ deadEnd → (a″ : List ℕ) → a″ ≡ before from t′ a′ trail′
+      → TriedBy (searchFrom f row guide d a) from (before from t a trail) trail trail′ a″ (Nothing 0)
+  ended {t′} {a′} {trail′} m e a″ q = (
+    ap (λ (o : Outcome). o .answer) e,
+    sym (ap (λ (o : Outcome). clip (o .forks)) e),
+    q ∙ grown-undone (omega (arith, settled-most (m .searching), m .searching .long)) (m .grown) from (p .inside),
+    sym (take-take from (t .settled) trail′ (p .inside)) ∙ ap (take from) (m .grown .kept) ∙ take-take from (t .settled) trail (p .inside),
+  )
+
+  -- narrowing comes to a dead end
+  pub by-narrowing : {t′ : Tally} {a′ trail′ : List ℕ} → ComesTo n row (narrow f row d a) t a trail a′ trail′ (Dead t′) → (a″ : List ℕ) → a″ ≡ before from t′ a′ trail′
+      → TriedBy (searchFrom f row guide d a) from (before from t a trail) trail trail′ a″ (Nothing 0)
+  by-narrowing told a″ q = ended (told .1) (step ∙ ap (onward f row guide d (searchFrom f row guide d)) (told .0)) a″ q
+
+-- from the state a with its tally t to the narrowed state a′ with its tally t′
+pub record Alive (n : ℕ) (f : List (List ℤ)) (row : List ℕ) (d from : ℕ) (t : Tally) (a trail : List ℕ) (t′ : Tally) (a′ trail′ : List ℕ) : Type 0 where
+  pub tries : Tries n f row from t a trail
+  pub told : ComesTo n row (narrow f row d a) t a trail a′ trail′ (Settled t′)
+
+module _ {n : ℕ} {f : List (List ℤ)} {row : List ℕ} {d from : ℕ} {t : Tally} {a trail : List ℕ} {t′ : Tally} {a′ trail′ : List ℕ} (p : Alive n f row d from t a trail t′ a′ trail′) where
+  right : NarrowedTo n f row d a a′
+  right = subst (Narrowed n f row d a) (p .told .0) (narrow-right n f (p .tries .fit) row d a (p .tries .given .state))
+
+  pub narrowed : Searching n row a′ trail′ (t′ .settled) (t′ .broken)
+  narrowed = p .told .1 .searching
+
+  pub narrowed-fewer : unassigned a′ ≤ unassigned a
+  narrowed-fewer = right .fewer
+
+  -- no clause asks for anything in it: it was propagated, and is no dead end
+  pub narrowed-none-due : NoneDue f a′
+  narrowed-none-due =
+      let e = right .propagated in
+      subst (NoneDue f) (sym (e .2)) (settled-none-due n f (p .tries .fit) row d (e .1) (ap (isDeadEnd f row d) (sym (e .2)) ∙ right .alive))
+
+  -- so an opposed clause, which is open, has at least two unassigned literals
+  pub narrowed-none-short : NoneShort row a′ f
+  narrowed-none-short c m e =
+      let long : unassignedIn a′ c < 2 → ⊥ = λ l. narrowed-none-due c m (record { unmet = opposed-open row a′ c e; short = l }) in
+      omega (arith, long)
+
+  module _ (guide : List ℕ) where
+    abbrev try : List ℕ → Outcome
+    try = searchFrom f row guide d
+
+    decided : try a ≡ onward f row guide d try (some a′)
+    decided = step (p .tries) guide d ∙ ap (onward f row guide d try) (p .told .0)
+
+    -- step 2: the completion by the guide is the answer
+    pub by-completion : (a″ : List ℕ) → a″ ≡ complete guide a′ → models (complete guide a′) f ≡ true → TriedBy (try a) from (before from t a trail) trail trail′ a″ (Found (t′ .broken) 0)
+    by-completion a″ q m =
+        let o : try a ≡ completedBy row guide a′
+        = decided ∙ ap (λ (b : Bool). cond b (completedBy row guide a′) (cond (isExhausted f row d a′) deadEnd (forkOn try row a′ (fewest row a′ f) (branchingVariable row a′ f)))) m in
+        (ap (λ (o : Outcome). o .answer) o ∙ rw (q, narrowed .breaks), sym (ap (λ (o : Outcome). clip (o .forks)) o))
+
+    module _ (incomplete : models (complete guide a′) f ≡ false) where
+      -- steps 3 and 4: a dead end
+      pub by-exhaustion : pickOf f row d a′ ≡ DeadEnd → (a″ : List ℕ) → a″ ≡ before from t′ a′ trail′ → TriedBy (try a) from (before from t a trail) trail trail′ a″ (Nothing 0)
+      by-exhaustion e a″ q = ended (p .tries) guide d (p .told .1) (decided ∙ onward-none f row guide d try a′ incomplete e) a″ q
+
+      -- or a variable v to branch on, with the value c first
+      module _ (v : Variable) (c : ℕ) (e : pickOf f row d a′ ≡ Branch v c) where
+        branched : (onward f row guide d try (some a′) ≡ fork try a′ (v .0) c) × Branches a′ n (v .0) × (c < 2)
+        branched = onward-fork f row guide d try a′ incomplete (narrowed .state) v c e
+
+        pub branches : Branches a′ n (v .0) × (c < 2)
+        branches = (branched .1, branched .2)
+
+        forks : try a ≡ fork try a′ (v .0) c
+        forks = decided ∙ branched .0
+
+        -- step 5: what the fork says, undone where it found nothing
+        pub by-fork : (trail″ a″ a‴ : List ℕ) (r : Tried) → TriedBy (fork try a′ (v .0) c) (t′ .settled) a′ trail′ trail″ a″ r → length trail″ ≡ length trail′
+            → a‴ ≡ unwound r (slice from (t′ .settled) trail″) a″ → TriedBy (try a) from (before from t a trail) trail trail″ a‴ r
+        by-fork trail″ a″ a‴ (Found k g) w l q = rw (q, forks) w
+        by-fork trail″ a″ a‴ (Nothing g) w l q =
+            let grown = p .told .1 .grown in
+            let within : from ≤ t′ .settled = omega (arith, p .tries .inside, grown .more) in
+            let same : slice from (t′ .settled) trail″ ≡ slice from (t′ .settled) trail′ = ap (drop from) (w .3) in (
+              ap (λ (o : Outcome). o .answer) forks ∙ w .0,
+              w .1 ∙ sym (ap (λ (o : Outcome). clip (o .forks)) forks),
+              q ∙ ap₂ undone same (w .2) ∙ grown-undone (omega (arith, settled-most narrowed, narrowed .long)) grown from (p .tries .inside),
+              sym (take-take from (t′ .settled) trail″ within) ∙ ap (take from) (w .3) ∙ take-take from (t′ .settled) trail′ within
+                  ∙ sym (take-take from (t .settled) trail′ (p .tries .inside)) ∙ ap (take from) (grown .kept) ∙ take-take from (t .settled) trail (p .tries .inside),
+            )
