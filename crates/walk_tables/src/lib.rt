@@ -1,4 +1,4 @@
-// The tables that a walk works in, for the most variables there can be, and what is put into them and
+// The tables that a walk or a search works in, for the most variables there can be, and what is put into them and
 // taken from them as a whole.
 ghost use mathlib.Core.Path.{_≡_};
 ghost use mathlib.Core.List.{_++_};
@@ -31,6 +31,13 @@ pub fn no_trail() -> [u16; 640]
     ensures { λ r. ⌜ length r ≡ 640 ⌝ }
 {
     [0; 640]
+}
+
+// The wishes assumed on the way to a core: one for each variable, and one more.
+pub fn no_assumed() -> [u16; 641]
+    ensures { λ r. ⌜ length r ≡ 641 ⌝ }
+{
+    [0; 641]
 }
 
 // Of the arrangement: where each part ends.
