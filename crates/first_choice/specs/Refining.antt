@@ -42,6 +42,13 @@ abbrev pub handAfter : List ℕ → Option Answer → List ℕ
 handAfter c none = c
 handAfter c (some x) = x .choice
 
+-- a search that is right from the state a with variable v off: its answer decides the value, and the choice at hand then
+pub record Decided (n : ℕ) (f : List (List ℤ)) (row : List ℕ) (d : ℕ) (a : List ℕ) (v : ℕ) (c c′ : List ℕ) (bit : ℕ) : Type 0 where
+  pub answer : Option Answer
+  pub right : Right n f row d (assign a v 0) answer
+  pub value-is : bit ≡ valueAfter answer
+  pub hand-is : c′ ≡ handAfter c answer
+
 -- at the start nothing is fixed
 pub refining-start : (n : ℕ) (f : List (List ℤ)) (row : List ℕ) (d : ℕ) (c : List ℕ) → Model n f c → disagreement row c ≤ d → Refining n f row d 0 (replicate n 2) c
 refining-start n f row d c m l =

@@ -1,5 +1,5 @@
 // One variable after the other takes the value that it has in the first choice.
-use crate::from_state::value_by_walk;
+use crate::from_state::value_by_search;
 use crate::settle::settle;
 use literal::Variable;
 use tally::Tally;
@@ -79,7 +79,7 @@ fn first_value(
     if literal::value_of(v, choice) == 0 {
         return 0;
     }
-    value_by_walk(
+    value_by_search(
         list,
         ends,
         numbers,

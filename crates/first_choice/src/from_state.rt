@@ -1,10 +1,11 @@
-// A walk from a state in which propagation has nothing to do, with one more variable off. It goes in
+// A search from a state in which propagation has nothing to do, with one more variable off. It goes in
 // space of its own, so that the state stays.
 use literal::Variable;
 use tally::Tally;
 use walk_result::Tried;
 ghost use mathlib.Core.Path.{_≡_};
-ghost use Prim.Native.Nat.{_≤_};
+ghost use Prim.Native.Nat.{_≤_, _<_};
+ghost use Rattle.choices.specs.Choices.{Choice};
 ghost use lib.ListN.{length};
 ghost use Rattle.formula.specs.Formula.{clauses};
 ghost use Rattle.limits.specs.Limits.{maxVariables};
@@ -14,14 +15,12 @@ ghost use Rattle.rule_list.specs.Sound.{SoundList};
 ghost use Rattle.unit_queue.specs.Due.{NoneDue};
 ghost use Rattle.try_and_fork.specs.Ready.{Ready};
 ghost use Rattle.walk.specs.Promises.{Branches};
-ghost use Rattle.walk.specs.State.{assign};
-ghost use Rattle.walk.specs.Walk.{walkFrom};
 ghost use Rattle.witnesses.specs.Witnesses.{Witnesses};
-ghost use Rattle.first_choice.specs.Refining.{valueAfter, handAfter};
+ghost use Rattle.first_choice.specs.Refining.{Decided};
 
-// The variable's value in the first choice: off where the walk finds an answer, which is then the
-// choice at hand.
-pub fn value_by_walk(
+// The variable's value in the first choice: off where the search finds an answer, which is then the
+// choice at hand. The one at hand before guides the search.
+pub fn value_by_search(
     list: &[i32],
     ends: &[u16],
     numbers: &[u16],
@@ -36,9 +35,8 @@ pub fn value_by_walk(
     choice: &mut [u8],
 ) -> u8
     requires { ⌜ Searching (length (now a)) (now row) (now a) (now trail) (tally .settled) (tally .broken) × Branches (now a) (length (now a)) (v .0) × NoneDue (clauses (now list)) (now a) ⌝ }
-    requires { ⌜ SoundList (length (now a)) (now list) × Beside (length (now a)) (now list) (now ends) (now numbers) (now begins) × (length (now a) ≤ maxVariables) × (length (now choice) ≡ length (now a)) × Witnesses (now list) (now witnesses) ⌝ }
-    ensures value { λ r. ⌜ r ≡ valueAfter (walkFrom (clauses (now (list .entry))) (now (row .entry)) d (assign (now (a .entry)) (v .0) 0) .answer) ⌝ }
-    ensures hand { λ r. ⌜ now (choice .exit) ≡ handAfter (now (choice .entry)) (walkFrom (clauses (now (list .entry))) (now (row .entry)) d (assign (now (a .entry)) (v .0) 0) .answer) ⌝ }
+    requires { ⌜ SoundList (length (now a)) (now list) × Beside (length (now a)) (now list) (now ends) (now numbers) (now begins) × (length (now a) ≤ maxVariables) × Choice (length (now a)) (now choice) × Witnesses (now list) (now witnesses) ⌝ }
+    ensures decided { λ r. ⌜ Decided (length (now (a .entry))) (clauses (now (list .entry))) (now (row .entry)) d (now (a .entry)) (v .0) (now (choice .entry)) (now (choice .exit)) r ⌝ }
     ensures witness { λ r. ⌜ Witnesses (now (list .entry)) (now (witnesses .exit)) ⌝ }
 {
     let n = a.len();
@@ -46,6 +44,9 @@ pub fn value_by_walk(
     let mut trace = walk_tables::no_trail();
     let mut weights = walk_tables::no_weights();
     let mut marks = walk_tables::no_marks();
+    let mut taken = walk_tables::no_values();
+    let mut assumed = walk_tables::no_assumed();
+    let mut guide = walk_tables::no_values();
     // what n variables need of the tables: the weighing clears what it is lent
     let literals = 2 * n + 2;
     let variables = n + 1;
@@ -65,6 +66,9 @@ pub fn value_by_walk(
         witnesses,
         &mut weights[..literals],
         &mut marks[..variables],
+        &mut taken[..n],
+        &mut assumed,
+        &mut guide[..n],
         choice,
     )
 }
@@ -86,31 +90,39 @@ fn value_in(
     witnesses: &mut [u16],
     weights: &mut [u64],
     marks: &mut [u64],
+    taken: &mut [u8],
+    assumed: &mut [u16],
+    guide: &mut [u8],
     choice: &mut [u8],
 ) -> u8
     requires { ⌜ Searching (length (now a)) (now row) (now a) (now trail) (tally .settled) (tally .broken) × Branches (now a) (length (now a)) (v .0) × NoneDue (clauses (now list)) (now a) ⌝ }
     requires { ⌜ Ready (now list) (now ends) (now numbers) (now begins) (now witnesses) (length (now a)) (length (now weights)) (length (now marks)) ⌝ }
-    requires { ⌜ (length (now values) ≡ length (now a)) × (length (now trace) ≡ length (now a)) × (length (now choice) ≡ length (now a)) ⌝ }
-    ensures value { λ r. ⌜ r ≡ valueAfter (walkFrom (clauses (now (list .entry))) (now (row .entry)) d (assign (now (a .entry)) (v .0) 0) .answer) ⌝ }
-    ensures hand { λ r. ⌜ now (choice .exit) ≡ handAfter (now (choice .entry)) (walkFrom (clauses (now (list .entry))) (now (row .entry)) d (assign (now (a .entry)) (v .0) 0) .answer) ⌝ }
+    requires { ⌜ (length (now values) ≡ length (now a)) × (length (now trace) ≡ length (now a)) × Choice (length (now a)) (now choice) ⌝ }
+    requires { ⌜ (length (now taken) ≡ length (now a)) × (length (now a) < length (now assumed)) × (length (now guide) ≡ length (now a)) ⌝ }
+    ensures decided { λ r. ⌜ Decided (length (now (a .entry))) (clauses (now (list .entry))) (now (row .entry)) d (now (a .entry)) (v .0) (now (choice .entry)) (now (choice .exit)) r ⌝ }
     ensures witness { λ r. ⌜ Witnesses (now (list .entry)) (now (witnesses .exit)) ⌝ }
 {
+    guide::write_guide(row, choice, guide);
     walk_tables::copy_to(a, values);
     walk_tables::copy_trail(trail, trace);
     let off = propagation::assign_to(tally, row, v, 0, values, trace);
-    match try_and_fork::attempt(
+    match core_search::attempt(
         list,
         ends,
         numbers,
         begins,
         row,
+        guide,
         d,
+        tally.settled,
         off,
         values,
         trace,
         witnesses,
         weights,
         marks,
+        taken,
+        assumed,
     ) {
         Tried::Found(_, _) => {
             walk_tables::copy_to(values, choice);

@@ -1,89 +1,87 @@
--- From what the climb found to the first nearest choice.
+-- From the walk without a limit, and the least count, to the first nearest choice.
 use mathlib.Core.Path.{_≡_, refl, sym, ap, _∙_}
 use mathlib.Core.List.{List, _++_}
-use mathlib.Core.Option.{Option, none, some, Option·map, Option·some-injective, Option·none-ne-some}
+use mathlib.Core.Option.{Option, none, some, Option·some-injective, Option·none-ne-some}
 use Prim.Native.Nat.{ℕ, _≤_}
 use native.Mathlib.Omega.{arith}
 use lib.IntN.{ℤ}
 use lib.ListN.{take, drop}
 use lib.Seq.{take-at, drop-at}
 use Rattle.formula.specs.Formula.{clauses}
-use Rattle.distance.specs.Distance.{disagreement, firstWithin}
-use Rattle.choices.specs.Choices.{Model}
+use Rattle.wish.specs.Wish.{totalWeight}
+use Rattle.distance.specs.Distance.{disagreement, firstWithin, nearest}
+use Rattle.distance.specs.Laws.{disagreement-most}
+use Rattle.choices.specs.Choices.{Model, nearest-none, nearest-some}
 use Rattle.choices.specs.Order.{first-at}
 use Rattle.rule_list.specs.Sound.{SoundList}
-use Rattle.walk.specs.Nearest.{nearestWalk}
-use Rattle.walk.specs.Promises.{Closest}
-use Rattle.walk.specs.Theorems.{nearest-sound, nearest-count}
-use Rattle.walk.specs.Walk.{Answer}
-use Rattle.searches.specs.declared.Searched.{Searched}
-use Rattle.searches.specs.declared.Searched.the-variants.{Refused, Found, Nothing}
-use Rattle.searches.specs.Answers.{searchedOf}
+use Rattle.walk.specs.Promises.{ModelWithin}
+use Rattle.walk.specs.Theorems.{walk-sound, walk-none}
+use Rattle.walk.specs.Walk.{Answer, walk}
 use Rattle.searches.specs.Fits.{sound-fits}
 use Rattle.searches.specs.Meaning.{nearest-is}
 use Rattle.searches.specs.Searches.{brokenBy, withBroken, choiceAfter, nearestAnswer}
+use Rattle.nearest_search.specs.Least.{Least, least-nearest}
 
--- the count that an answer carries
-abbrev pub countIn : Searched → Option ℕ
-countIn (Refused r) = none
-countIn (Found k) = some k
-countIn Nothing = none
-
-pub counted : (s : Searched) (o : Option ℕ) → s ≡ searchedOf o → countIn s ≡ o
-counted s o e = ap countIn e ∙ go o
-  where
-    go : (o : Option ℕ) → countIn (searchedOf o) ≡ o
-    go none = refl
-    go (some k) = refl
+no-broken : (o : Option Answer) → none ≡ brokenBy o → o ≡ none
+no-broken none e = refl
+no-broken (some x) e = absurd (Option·none-ne-some (x .broken) e)
 
 module _ (n : ℕ) (rules : List ℤ) (sound : SoundList n rules) (row : List ℕ) where
-  -- the climb and the first nearest choice have the same count
-  pub same-count : brokenBy (nearestWalk n (clauses rules) row) ≡ brokenBy (nearestAnswer n rules row)
-  same-count = go (nearestWalk n (clauses rules) row) ∙ nearest-count n rules (sound-fits n rules sound) row ∙ sym (nearest-is n rules row)
-    where
-      go : (o : Option Answer) → brokenBy o ≡ Option·map (λ (x : Answer). x .broken) o
-      go none = refl
-      go (some x) = refl
+  -- the walk without a limit, which was lent the bytes `before` and left `after`
+  module _ (total : ℕ) (before after : List ℕ) (walked : after ≡ choiceAfter none (walk n (clauses rules) row total .answer) n before) where
+    abbrev answer : Option Answer
+    answer = walk n (clauses rules) row total .answer
 
-  -- the bytes before the climb and after it
-  module _ (before after : List ℕ) (climbed : after ≡ choiceAfter none (nearestWalk n (clauses rules) row) n before) where
-    -- it found none
-    pub none-written : none ≡ brokenBy (nearestWalk n (clauses rules) row) → after ≡ choiceAfter none (nearestAnswer n rules row) n before
-    none-written e = go (nearestWalk n (clauses rules) row) (nearestAnswer n rules row) e (e ∙ same-count) climbed
-      where
-        go : (o p : Option Answer) → none ≡ brokenBy o → none ≡ brokenBy p → after ≡ choiceAfter none o n before → after ≡ choiceAfter none p n before
-        go none none e g h = h
-        go none (some y) e g h = absurd (Option·none-ne-some (y .broken) g)
-        go (some x) p e g h = absurd (Option·none-ne-some (x .broken) e)
+    -- it found none: there is no model
+    module _ (all : total ≡ totalWeight row) (e : none ≡ brokenBy answer) where
+      nothing : nearestAnswer n rules row ≡ none
+      nothing =
+          let never = walk-none n (clauses rules) (sound-fits n rules sound) row total .0 (no-broken answer e) in
+          no-broken (nearestAnswer n rules row) (sym (nearest-is n rules row ∙ nearest-none n rules row .1 (λ a m. omega (arith, never a m, disagreement-most row a))))
+
+      pub none-answered : none ≡ brokenBy (nearestAnswer n rules row)
+      none-answered = sym (ap brokenBy nothing)
+
+      pub none-written : after ≡ choiceAfter none (nearestAnswer n rules row) n before
+      none-written = walked ∙ ap (λ (o : Option Answer). choiceAfter none o n before) (no-broken answer e) ∙ sym (ap (λ (o : Option Answer). choiceAfter none o n before) nothing)
 
     -- it found a model that breaks k wishes
-    module _ (k : ℕ) (e : some k ≡ brokenBy (nearestWalk n (clauses rules) row)) where
-      split : (x : Answer) × (nearestWalk n (clauses rules) row ≡ some x) × (x .broken ≡ k)
-      split = go (nearestWalk n (clauses rules) row) e
+    module _ (k : ℕ) (e : some k ≡ brokenBy answer) where
+      split : (x : Answer) × (answer ≡ some x) × (x .broken ≡ k)
+      split = go answer e
         where
           go : (o : Option Answer) → some k ≡ brokenBy o → (x : Answer) × (o ≡ some x) × (x .broken ≡ k)
           go none g = absurd (Option·none-ne-some k (sym g))
           go (some x) g = (x, refl, sym (Option·some-injective k (x .broken) g))
 
-      closest : Closest n (clauses rules) row (split .0)
-      closest = nearest-sound n (clauses rules) (sound-fits n rules sound) row (split .0) (split .1)
+      found : ModelWithin n (clauses rules) row total (split .0)
+      found = walk-sound n (clauses rules) (sound-fits n rules sound) row total (split .0) (split .1)
 
       written : after ≡ split .0 .choice ++ drop n before
-      written = climbed ∙ ap (λ (o : Option Answer). choiceAfter none o n before) (split .1)
+      written = walked ∙ ap (λ (o : Option Answer). choiceAfter none o n before) (split .1)
 
       front : take n after ≡ split .0 .choice
-      front = ap (take n) written ∙ take-at (split .0 .choice) (drop n before) n (closest .model .choice .size)
+      front = ap (take n) written ∙ take-at (split .0 .choice) (drop n before) n (found .model .choice .size)
 
       pub found-model : Model n (clauses rules) (take n after) × (disagreement row (take n after) ≤ k)
-      found-model = rw front (closest .model, omega (arith, closest .own-count, split .2))
+      found-model = rw front (found .model, omega (arith, found .own-count, split .2))
 
-      -- the first within that count is written over it
-      pub first-written : (last : List ℕ) → last ≡ choiceAfter none (withBroken row (firstWithin n rules row k)) n after → last ≡ choiceAfter none (nearestAnswer n rules row) n before
-      first-written last h =
-          h
-          ∙ ap (λ (o : Option (List ℕ)). choiceAfter none (withBroken row o) n after) (sym (first-at n rules row k (sym (nearest-is n rules row) ∙ sym (e ∙ same-count))))
-          ∙ go (nearestAnswer n rules row) (e ∙ same-count)
-        where
-          go : (o : Option Answer) → some k ≡ brokenBy o → choiceAfter none o n after ≡ choiceAfter none o n before
-          go none g = absurd (Option·none-ne-some k (sym g))
-          go (some y) g = ap (λ (l : List ℕ). y .choice ++ l) (ap (drop n) written ∙ drop-at (split .0 .choice) (drop n before) n (closest .model .choice .size))
+      pub found-rest : drop n after ≡ drop n before
+      found-rest = ap (drop n) written ∙ drop-at (split .0 .choice) (drop n before) n (found .model .choice .size)
+
+  -- the least count, with a model that has it in the first n bytes
+  module _ {before after : List ℕ} {k : ℕ} (h : Least n (clauses rules) row before after k) where
+    count : nearest n rules row ≡ some k
+    count = nearest-some n rules row k .1 (least-nearest h)
+
+    pub first-answered : some k ≡ brokenBy (nearestAnswer n rules row)
+    first-answered = sym (nearest-is n rules row ∙ count)
+
+    -- the first within that count is written over it
+    pub first-written : (start last : List ℕ) → drop n before ≡ drop n start → last ≡ choiceAfter none (withBroken row (firstWithin n rules row k)) n after → last ≡ choiceAfter none (nearestAnswer n rules row) n start
+    first-written start last same e =
+        e ∙ ap (λ (o : Option (List ℕ)). choiceAfter none (withBroken row o) n after) (sym (first-at n rules row k count)) ∙ go (nearestAnswer n rules row) first-answered
+      where
+        go : (o : Option Answer) → some k ≡ brokenBy o → choiceAfter none o n after ≡ choiceAfter none o n start
+        go none g = absurd (Option·none-ne-some k (sym g))
+        go (some y) g = ap (λ (l : List ℕ). y .choice ++ l) (h .rest ∙ same)

@@ -5,15 +5,18 @@ use searches::Searched;
 use walk_result::Tried;
 ghost use mathlib.Core.Path.{_≡_};
 ghost use mathlib.Core.Option.{none};
-ghost use lib.ListN.{length};
+ghost use Prim.Native.Nat.{_≤_};
+ghost use lib.ListN.{length, take};
+ghost use Rattle.choices.specs.Choices.{Model};
+ghost use Rattle.distance.specs.Distance.{disagreement};
 ghost use Rattle.formula.specs.Formula.{clauses};
 ghost use Rattle.wish.specs.Wish.{totalWeight};
 ghost use Rattle.occurrences.specs.Table.{Beside};
 ghost use Rattle.root_walk.specs.Into.{Startable};
 ghost use Rattle.searches.specs.Answers.{replyOf, NearestMeans, searchedOf};
 ghost use Rattle.searches.specs.Searches.{nearestReply, nearestAnswer, nearestChoice, brokenBy, choiceAfter};
-ghost use Rattle.walk.specs.Nearest.{nearestWalk};
 ghost use Rattle.witnesses.specs.Witnesses.{Witnesses};
+ghost use Rattle.nearest_search.specs.Least.{Least};
 
 // Searches from what was lent; a choice that is found goes to the first n bytes of the lent choice.
 pub fn search(n: usize, rules: &[i32], row: &[u8], choice: &mut [u8]) -> Searched
@@ -29,8 +32,8 @@ pub fn search(n: usize, rules: &[i32], row: &[u8], choice: &mut [u8]) -> Searche
 }
 
 // Arranges the clauses once, for all that follows.
-fn first_nearest(n: usize, rules: &[i32], row: &[u8], last: usize, choice: &mut [u8]) -> Searched
-    requires { ⌜ Startable n (now rules) (length (now choice)) × (last ≡ totalWeight (now row)) ⌝ }
+fn first_nearest(n: usize, rules: &[i32], row: &[u8], total: usize, choice: &mut [u8]) -> Searched
+    requires { ⌜ Startable n (now rules) (length (now choice)) × (total ≡ totalWeight (now row)) ⌝ }
     ensures answer { λ r. ⌜ r ≡ searchedOf (brokenBy (nearestAnswer n (now (rules .entry)) (now (row .entry)))) ⌝ }
     ensures output { λ r. ⌜ now (choice .exit) ≡ choiceAfter none (nearestAnswer n (now (rules .entry)) (now (row .entry))) n (now (choice .entry)) ⌝ }
 {
@@ -50,13 +53,14 @@ fn first_nearest(n: usize, rules: &[i32], row: &[u8], last: usize, choice: &mut 
         &numbers,
         &begins,
         row,
-        last,
+        total,
         &mut witnesses[..many],
         choice,
     )
 }
 
-// Finds the least count, and then the first choice that has it: as none has less, the first within it.
+// One walk with all that the wishes weigh for a limit, which no choice exceeds, tells whether the rules can be
+// met. Then the least count is found, and the first choice that has it: as none has less, the first within it.
 fn nearest_with(
     n: usize,
     rules: &[i32],
@@ -64,85 +68,79 @@ fn nearest_with(
     numbers: &[u16],
     begins: &[u16],
     row: &[u8],
-    last: usize,
+    total: usize,
     witnesses: &mut [u16],
     choice: &mut [u8],
 ) -> Searched
-    requires { ⌜ Startable n (now rules) (length (now choice)) × (last ≡ totalWeight (now row)) × Beside n (now rules) (now ends) (now numbers) (now begins) × Witnesses (now rules) (now witnesses) ⌝ }
+    requires { ⌜ Startable n (now rules) (length (now choice)) × (total ≡ totalWeight (now row)) × Beside n (now rules) (now ends) (now numbers) (now begins) × Witnesses (now rules) (now witnesses) ⌝ }
     ensures answer { λ r. ⌜ r ≡ searchedOf (brokenBy (nearestAnswer n (now (rules .entry)) (now (row .entry)))) ⌝ }
     ensures output { λ r. ⌜ now (choice .exit) ≡ choiceAfter none (nearestAnswer n (now (rules .entry)) (now (row .entry))) n (now (choice .entry)) ⌝ }
 {
-    let answer = climb(
+    match root_walk::walk_with(
         n,
         rules,
         ends,
         numbers,
         begins,
         row,
-        last,
+        total,
         witnesses,
         choice,
-    );
-    if let Searched::Found(broken) = answer {
-        first_choice::make_first(
-            n,
-            rules,
-            ends,
-            numbers,
-            begins,
-            row,
-            broken,
-            witnesses,
-            choice,
-        );
+    ) {
+        Tried::Nothing(_) => Searched::Nothing,
+        Tried::Found(most, _) => {
+            let least = least_count(
+                n,
+                rules,
+                ends,
+                numbers,
+                begins,
+                row,
+                most,
+                witnesses,
+                choice,
+            );
+            first_choice::make_first(
+                n,
+                rules,
+                ends,
+                numbers,
+                begins,
+                row,
+                least,
+                witnesses,
+                choice,
+            );
+            Searched::Found(least)
+        }
     }
-    answer
 }
 
-// Walks with the limits 0, 1, .. until one finds an answer. No choice breaks more than all wishes weigh,
-// so that is the last limit.
-fn climb(
+// A choice begins with a model that breaks no more than `most`; one that breaks the fewest wishes takes its place.
+// Limits below the root's bound have none; from there on they are searched one after the other, up to `most`. Where
+// none of these finds, the choice at hand has the least count.
+fn least_count(
     n: usize,
     rules: &[i32],
     ends: &[u16],
     numbers: &[u16],
     begins: &[u16],
     row: &[u8],
-    last: usize,
+    most: usize,
     witnesses: &mut [u16],
     choice: &mut [u8],
-) -> Searched
-    requires { ⌜ Startable n (now rules) (length (now choice)) × (last ≡ totalWeight (now row)) × Beside n (now rules) (now ends) (now numbers) (now begins) × Witnesses (now rules) (now witnesses) ⌝ }
-    ensures answer { λ r. ⌜ r ≡ searchedOf (brokenBy (nearestWalk n (clauses (now (rules .entry))) (now (row .entry)))) ⌝ }
-    ensures output { λ r. ⌜ now (choice .exit) ≡ choiceAfter none (nearestWalk n (clauses (now (rules .entry))) (now (row .entry))) n (now (choice .entry)) ⌝ }
+) -> usize
+    requires { ⌜ Startable n (now rules) (length (now choice)) × Beside n (now rules) (now ends) (now numbers) (now begins) × Witnesses (now rules) (now witnesses) ⌝ }
+    requires { ⌜ Model n (clauses (now rules)) (take n (now choice)) × (disagreement (now row) (take n (now choice)) ≤ most) ⌝ }
+    ensures least { λ r. ⌜ Least n (clauses (now (rules .entry))) (now (row .entry)) (now (choice .entry)) (now (choice .exit)) r ⌝ }
     ensures witness { λ r. ⌜ Witnesses (now (rules .entry)) (now (witnesses .exit)) ⌝ }
 {
-    let mut d: usize = 0;
-    while d < last {
-        if let Tried::Found(broken, _) = root_walk::walk_with(
-            n,
-            rules,
-            ends,
-            numbers,
-            begins,
-            row,
-            d,
-            witnesses,
-            choice,
-        ) {
-            return Searched::Found(broken);
+    let mut d = core_root::root_bound(n, rules, ends, numbers, begins, row);
+    while d < most {
+        if core_root::search_within(n, rules, ends, numbers, begins, row, d, witnesses, choice) {
+            return d;
         }
         d += 1;
     }
-    walk_result::answer_of(root_walk::walk_with(
-        n,
-        rules,
-        ends,
-        numbers,
-        begins,
-        row,
-        d,
-        witnesses,
-        choice,
-    ))
+    most
 }

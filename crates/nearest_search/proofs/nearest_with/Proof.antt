@@ -1,66 +1,68 @@
--- `nearest_search::nearest_with` meets its contract: the climb finds the count, and the first choice within it is the first nearest.
-use mathlib.Core.Path.{_≡_, refl, sym, ap, _∙_}
-use mathlib.Core.Logic.{⊎-elim}
-use mathlib.Core.List.{List, [], _∷_}
-use mathlib.Core.Option.{Option, none, some}
-use Prim.Native.Nat.{ℕ}
+-- `nearest_search::nearest_with` meets its contract: the least count is the nearest count, and the first choice within it is the first nearest.
+use mathlib.Core.Path.{_≡_, sym, ap, _∙_}
+use mathlib.Core.List.{List}
+use mathlib.Core.Option.{none, some}
+use Prim.Native.Nat.{ℕ, _≤_}
 use native.Mathlib.Omega.{arith}
-use denote.Enum.Declared.{tagOf}
-use types.Run.{OneOf}
-use borrow.Author.Needs.{needs}
+use lib.ListN.{length, take, drop}
 use Rattle.formula.specs.Formula.{clauses}
-use Rattle.searches.proofs.Searched.{the-type}
-use Rattle.searches.specs.declared.Searched.{Searched}
-use Rattle.searches.specs.declared.Searched.the-variants.{Found}
+use Rattle.choices.specs.Choices.{Model}
+use Rattle.distance.specs.Distance.{disagreement}
 use Rattle.searches.specs.Answers.{searchedOf}
 use Rattle.searches.specs.Searches.{brokenBy}
-use Rattle.walk.specs.Nearest.{nearestWalk}
-use Rattle.nearest_search.specs.First.{counted, same-count, none-written, found-model, first-written}
+use Rattle.walk.specs.Walk.{walk}
+use Rattle.walk_result.specs.Tried.{brokenIn}
+use Rattle.nearest_search.specs.First.{none-answered, none-written, found-model, found-rest, first-answered, first-written}
+use borrow.Author.Needs.{needs}
 use Rattle.nearest_search.proofs.nearest_with.Statement.{statement}
 use Rattle.nearest_search.proofs.nearest_with.Tie as tie
 
--- an answer with another tag than that of `Found` is not found
-unfound : (s : Searched) (o : Option ℕ) → s ≡ searchedOf o → OneOf (0 ∷ 2 ∷ []) (tagOf the-type s) → none ≡ o
-unfound s none e k = refl
-unfound s (some b) e k =
-    let one : tagOf the-type s ≡ 1 = ap (tagOf the-type) e in
-    absurd (⊎-elim (λ (z : tagOf the-type s ≡ 0). omega (arith, z, one)) (λ (z : tagOf the-type s ≡ 2). omega (arith, z, one)) k)
-
--- after the climb: the call
-module _ (c : tie.After-climb) where
+-- the walk without a limit found a model that breaks k wishes
+module _ (c : tie.After-known-told) where
   abbrev call : tie.Start
-  call = c .before .before .before .before .before .before .before .before .before
+  call = c .before .before .before .before .before .before .before .before .before .before .before .before .before .before .before .before
 
   abbrev after : List ℕ
-  after = c .climb .last .1 .1 .1 .1 .1 .1 .1 .1 .0
-
--- it found k
-module _ (c : tie.After-known-told) where
-  abbrev from : tie.After-climb
-  from = c .before .before .before .before .before .before .before
+  after = c .before .before .before .before .before .before .before .walk-with .last .1 .1 .1 .1 .1 .1 .1 .1 .0
 
   abbrev k : ℕ
-  k = c .before .answer .given .0 .0
+  k = c .before .most .given .0 .0
 
-  found : some k ≡ brokenBy (nearestWalk (call from .args .n) (clauses (call from .args .rules .now)) (call from .args .row .now))
-  found =
-      counted (Found k) (brokenBy (nearestWalk (call from .args .n) (clauses (call from .args .rules .now)) (call from .args .row .now)))
-      (sym (c .before .answer .given .1) ∙ from .climb .ensures .0)
+  found : some k ≡ brokenBy (walk (call .args .n) (clauses (call .args .rules .now)) (call .args .row .now) (call .args .total) .answer)
+  found = ap brokenIn (sym (c .before .most .given .1)) ∙ c .before .before .before .before .before .before .before .walk-with .ensures .0 .answered
 
-climb-requires : tie.Need-climb-requires
-climb-requires c κs = search needs
+  model : Model (call .args .n) (clauses (call .args .rules .now)) (take (call .args .n) after) × (disagreement (call .args .row .now) (take (call .args .n) after) ≤ k)
+  model = found-model (call .args .n) (call .args .rules .now) (call .pre .0 .sound) (call .args .row .now) (call .args .total) (call .args .choice .now) after (c .before .before .before .before .before .before .before .walk-with .ensures .0 .output) k found
 
-enum-known-answer : tie.Need-enum-known-answer
-enum-known-answer c = search needs
+  rest : drop (call .args .n) after ≡ drop (call .args .n) (call .args .choice .now)
+  rest = found-rest (call .args .n) (call .args .rules .now) (call .pre .0 .sound) (call .args .row .now) (call .args .total) (call .args .choice .now) after (c .before .before .before .before .before .before .before .walk-with .ensures .0 .output) k found
+
+  wide : length after ≡ length (call .args .choice .now)
+  wide = c .before .before .before .before .before .before .before .walk-with .kept .1 .1 .1 .1 .1 .1 .1 .1 .0
+
+walk-with-requires : tie.Need-walk-with-requires
+walk-with-requires c κs = search needs
+
+enum-told : tie.Need-enum-told
+enum-told c = search needs
+
+enum-known-most : tie.Need-enum-known-most
+enum-known-most c = search needs
+
+least-count-requires : tie.Need-least-count-requires
+least-count-requires c κs =
+    let known = c .before .before in
+    let given = call known .pre in
+    ((record { few = given .0 .few; sound = given .0 .sound; wide = omega (arith, given .0 .wide, wide known) }, given .2, c .before .before .before .before .before .before .before .before .before .walk-with .ensures .1), model known)
 
 make-first-requires : tie.Need-make-first-requires
 make-first-requires c κs =
-    let known = c .before .before in
-    let climbed = from known in
-    let args = call climbed .args in
-    let given = call climbed .pre .0 in (
-      (record { few = given .few; sound = given .sound; wide = omega (arith, given .wide, climbed .climb .kept .1 .1 .1 .1 .1 .1 .1 .1 .0) }, call climbed .pre .2, climbed .climb .ensures .1 .1),
-      found-model (args .n) (args .rules .now) (given .sound) (args .row .now) (args .choice .now) (after climbed) (climbed .climb .ensures .1 .0) (k known) (found known),
+    let known = c .before .before .before .before .before .before .before .before .before in
+    let given = call known .pre in
+    let counted = c .before .before .before .before .before .before .least-count in
+    let told = counted .ensures .0 in (
+      (record { few = given .0 .few; sound = given .0 .sound; wide = omega (arith, given .0 .wide, wide known, counted .kept .1 .1 .1 .1 .1 .1 .1 .1 .0) }, given .2, counted .ensures .1),
+      (told .model, told .limited),
     )
 
 same-length : tie.Need-same-length
@@ -71,14 +73,13 @@ same-length-2 c = search needs
 
 returns : tie.Need-returns
 returns c =
-    let made = c .before .before .before .before in
-    let known = made .before .before .before in
-    let climbed = from known in
-    let args = call climbed .args in
-    let sound = call climbed .pre .0 .sound in (
-      sym (known .before .answer .given .1) ∙ climbed .climb .ensures .0 ∙ ap searchedOf (same-count (args .n) (args .rules .now) sound (args .row .now)),
-      first-written (args .n) (args .rules .now) sound (args .row .now) (args .choice .now) (after climbed) (climbed .climb .ensures .1 .0) (k known) (found known) (made .make-first .last .1 .1 .1 .1 .1 .1 .1 .1 .0)
-          (made .make-first .ensures),
+    let walked = c .before .before .before .before .before .before .walk-with in
+    let call = c .before .before .before .before .before .before .before .before .before .before .before .before .before .before .before in
+    let args = call .args in
+    let answered : none ≡ brokenBy (walk (args .n) (clauses (args .rules .now)) (args .row .now) (args .total) .answer) = ap brokenIn (sym (c .enum-told .given .1)) ∙ walked .ensures .0 .answered in
+    let after = walked .last .1 .1 .1 .1 .1 .1 .1 .1 .0 in (
+      ap searchedOf (none-answered (args .n) (args .rules .now) (call .pre .0 .sound) (args .row .now) (args .total) (args .choice .now) after (walked .ensures .0 .output) (call .pre .1) answered),
+      none-written (args .n) (args .rules .now) (call .pre .0 .sound) (args .row .now) (args .total) (args .choice .now) after (walked .ensures .0 .output) (call .pre .1) answered,
     )
 
 same-length-3 : tie.Need-same-length-3
@@ -87,24 +88,25 @@ same-length-3 c = search needs
 same-length-4 : tie.Need-same-length-4
 same-length-4 c = search needs
 
--- it found none
 returns-2 : tie.Need-returns-2
 returns-2 c =
-    let climbed = c .before .before .before .before .before in
-    let args = call climbed .args in
-    let sound = call climbed .pre .0 .sound in
-    let told = climbed .climb .ensures in
-    let walks = brokenBy (nearestWalk (args .n) (clauses (args .rules .now)) (args .row .now)) in (
-      told .0 ∙ ap searchedOf (same-count (args .n) (args .rules .now) sound (args .row .now)),
-      none-written (args .n) (args .rules .now) sound (args .row .now) (args .choice .now) (after climbed) (told .1 .0) (unfound (climbed .climb .result) walks (told .0) (c .match .keys2)),
+    let known = c .before .before .before .before .before .before .before .before .before .before .before .before .before .before in
+    let made = c .before .before .before .before .make-first in
+    let counted = c .before .before .before .before .before .before .before .before .before .before .before .least-count in
+    let args = call known .args in
+    let sound = call known .pre .0 .sound in (
+      ap searchedOf (first-answered (args .n) (args .rules .now) sound (args .row .now) (counted .ensures .0)),
+      first-written (args .n) (args .rules .now) sound (args .row .now) (counted .ensures .0) (args .choice .now) (made .last .1 .1 .1 .1 .1 .1 .1 .1 .0) (rest known) (made .ensures),
     )
 
 pub nearest-with-spec : {M : Type 1} → statement M
 nearest-with-spec =
     tie.close
     (tie.spec
-    climb-requires
-    enum-known-answer
+    walk-with-requires
+    enum-told
+    enum-known-most
+    least-count-requires
     make-first-requires
     same-length
     same-length-2

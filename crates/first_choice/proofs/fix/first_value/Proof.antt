@@ -1,6 +1,5 @@
--- `first_choice::fix::first_value` meets its contract: the choice at hand has the variable off, or a walk from the state decides.
+-- `first_choice::fix::first_value` meets its contract: the choice at hand has the variable off, or a search from the state decides.
 use mathlib.Core.Path.{_≡_, refl, sym, subst, _∙_}
-use mathlib.Core.List.{List}
 use mathlib.Core.Option.{Option, none, some}
 use Prim.Native.Nat.{ℕ, _+_, _<_}
 use native.Mathlib.Omega.{arith}
@@ -8,11 +7,8 @@ use lib.ListN.{length}
 use borrow.Author.Needs.{needs}
 use Rattle.formula.specs.Formula.{clauses}
 use Rattle.literal.specs.Literal.{value}
-use Rattle.searches.specs.Fits.{sound-fits}
-use Rattle.walk.specs.Correctness.{walk-right}
 use Rattle.walk.specs.State.{assign}
-use Rattle.walk.specs.Walk.{Answer, walkFrom}
-use Rattle.walk.specs.WalkLaws.{branch-state}
+use Rattle.walk.specs.Walk.{Answer}
 use Rattle.first_choice.specs.Refining.{Refining, valueAfter, handAfter, refining-kept, refining-searched}
 use Rattle.first_choice.proofs.fix.first_value.Statement.{statement}
 use Rattle.first_choice.proofs.fix.first_value.Tie as tie
@@ -37,12 +33,12 @@ returns c =
     let off : value (call .args .choice .now) (call .args .i + 1) ≡ 0 = sym (c .before .value-of .ensures) ∙ c .if1 .taken in
     ((omega arith, refining-kept (given .0 .fixed .refining) (call .args .i + 1) refl (omega (arith, given .1)) (given .2) off), given .3)
 
-value-by-walk-requires : tie.Need-value-by-walk-requires
-value-by-walk-requires c κs =
+value-by-search-requires : tie.Need-value-by-search-requires
+value-by-search-requires c κs =
     let given = c .before .before .before .before .before .before .before .before .before .before .before .before .before .pre in
     let fixed = given .0 .fixed in (
       (fixed .searching, record { unset = given .2; above = omega arith; upTo = omega (arith, given .1) }, given .0 .quiet),
-      (fixed .sound, fixed .beside, fixed .few, fixed .refining .model .choice .size, given .3),
+      (fixed .sound, fixed .beside, fixed .few, fixed .refining .model .choice, given .3),
     )
 
 same-length-2 : tie.Need-same-length-2
@@ -53,23 +49,21 @@ same-length-3 c = search needs
 
 returns-2 : tie.Need-returns-2
 returns-2 c =
-    let walked = c .before .before .before .before .value-by-walk in
+    let searched = c .before .before .before .before .value-by-search in
+    let decided = searched .ensures .0 in
     let call = c .before .before .before .before .before .before .before .before .before .before .before .before .before .before .before .before .before .before in
     let given = call .pre in
     let n = length (call .args .a .now) in
     let f = clauses (call .args .list .now) in
     let u : ℕ = call .args .i + 1 in
-    let from : List ℕ = assign (call .args .a .now) u 0 in
-    let o : Option Answer = walkFrom f (call .args .row .now) (call .args .d) from .answer in
-    let right = walk-right n f (sound-fits n (call .args .list .now) (given .0 .fixed .sound)) (call .args .row .now) (call .args .d) from (branch-state (given .0 .fixed .refining .state) u 0 (omega arith)) in
-    let refined : Refining n f (call .args .row .now) (call .args .d) u (assign (call .args .a .now) u (valueAfter o)) (handAfter (call .args .choice .now) o)
-    = refining-searched (given .0 .fixed .refining) u refl (omega (arith, given .1)) (given .2) o right in (
+    let refined : Refining n f (call .args .row .now) (call .args .d) u (assign (call .args .a .now) u (valueAfter (decided .answer))) (handAfter (call .args .choice .now) (decided .answer))
+    = refining-searched (given .0 .fixed .refining) u refl (omega (arith, given .1)) (given .2) (decided .answer) (decided .right) in (
       (
-        subst (λ (k : ℕ). k < 2) (sym (walked .ensures .0)) (value-bit o),
-        subst (λ (k : ℕ). Refining n f (call .args .row .now) (call .args .d) u (assign (call .args .a .now) u k) (walked .last .1 .1 .1 .1 .1 .1 .1 .1 .1 .1 .1 .0)) (sym (walked .ensures .0))
-            (subst (Refining n f (call .args .row .now) (call .args .d) u (assign (call .args .a .now) u (valueAfter o))) (sym (walked .ensures .1 .0)) refined),
+        subst (λ (k : ℕ). k < 2) (sym (decided .value-is)) (value-bit (decided .answer)),
+        subst (λ (k : ℕ). Refining n f (call .args .row .now) (call .args .d) u (assign (call .args .a .now) u k) (searched .last .1 .1 .1 .1 .1 .1 .1 .1 .1 .1 .1 .0)) (sym (decided .value-is))
+            (subst (Refining n f (call .args .row .now) (call .args .d) u (assign (call .args .a .now) u (valueAfter (decided .answer)))) (sym (decided .hand-is)) refined),
       ),
-      walked .ensures .1 .1,
+      searched .ensures .1,
     )
 
 pub first-value-spec : {M : Type 1} → statement M
@@ -80,7 +74,7 @@ first-value-spec =
     value-of-requires
     same-length
     returns
-    value-by-walk-requires
+    value-by-search-requires
     same-length-2
     same-length-3
     returns-2)
