@@ -1,12 +1,13 @@
-//! walks table                     this library's nearest beside two Rust walks, as a table
+//! walks nearest                   this library's nearest beside the same search in Rust, as a table
+//! walks search                    its wish search beside two Rust walks, as a table
 //! walks reading                   this library's reader of rule files beside the reference's, as a table
 //! walks write FOLDER              the books of the process table: FOLDER/CLASS/SEED.cnf, .wish, .opb
 //! walks rewrite CNF WISH D OUT    the rewritten rule file at limit D
 
 mod books;
+mod cores;
 mod counted;
 mod reading;
-mod states;
 
 use books::Book;
 use reference::{first, rule_file, totalizer, walk, wish_file};
@@ -15,7 +16,24 @@ use std::fmt::Write;
 /// Kind, settings, rules, wishes, books timed.
 type Class = (&'static str, usize, usize, usize, usize);
 
-const TIMED: [Class; 8] = [
+/// Those of nearest: makers' books, and random ones of growing difficulty; the last are contradictory.
+const NEAREST: [Class; 12] = [
+    ("terminal", 40, 100, 20, 20),
+    ("terminal", 80, 250, 30, 20),
+    ("terminal", 120, 500, 40, 20),
+    ("terminal", 250, 600, 64, 10),
+    ("terminal", 250, 900, 64, 10),
+    ("terminal", 250, 1500, 64, 10),
+    ("random", 64, 180, 64, 20),
+    ("random", 256, 300, 64, 20),
+    ("random", 256, 400, 64, 20),
+    ("random", 128, 320, 64, 10),
+    ("random", 256, 700, 64, 5),
+    ("random", 128, 700, 64, 5),
+];
+
+/// Those of the wish search, with the least number of broken wishes as the limit.
+const SEARCHED: [Class; 8] = [
     ("random", 64, 180, 64, 20),
     ("random", 256, 300, 64, 20),
     ("terminal", 40, 100, 20, 20),
@@ -26,18 +44,22 @@ const TIMED: [Class; 8] = [
     ("terminal", 250, 1500, 64, 10),
 ];
 
-/// Of growing difficulty for a walk that learns nothing.
-const PROCESSES: [Class; 7] = [
+/// Those of the process table.
+const PROCESSES: [Class; 11] = [
     ("terminal", 40, 100, 20, 5),
     ("terminal", 80, 250, 30, 5),
     ("terminal", 120, 500, 40, 5),
+    ("terminal", 250, 600, 64, 5),
+    ("terminal", 250, 900, 64, 5),
     ("terminal", 250, 1500, 64, 5),
     ("random", 64, 180, 64, 5),
-    ("terminal", 250, 600, 64, 5),
     ("random", 256, 400, 64, 5),
+    ("random", 128, 320, 64, 5),
+    ("random", 256, 700, 64, 5),
+    ("random", 128, 700, 64, 5),
 ];
 
-/// A book on which nearest makes more forks is left out of the table, and counted there.
+/// A book on which document 01's walk makes more forks is left out of the table of the wish search, and counted there.
 const MOST_FORKS: u64 = 50_000;
 
 fn book((kind, n, rules, wishes, _): Class, seed: u64) -> Book {
@@ -109,74 +131,80 @@ fn milliseconds(seconds: f64) -> String {
     short(seconds * 1000.0)
 }
 
-/// Of the books of a class: the forks of a call, those for the count alone, and seconds: the library's nearest, and of
-/// each Rust walk nearest and the count alone.
+/// Of a table's columns: forks of a call, and of the library and each Rust program the seconds.
 #[derive(Default)]
 struct Measured {
-    left_out: usize,
     forks: Vec<f64>,
-    count_forks: Vec<f64>,
-    library: Vec<f64>,
-    plain: [Vec<f64>; 2],
-    counted: [Vec<f64>; 2],
+    seconds: Vec<Vec<f64>>,
 }
 
 impl Measured {
-    /// The library and both Rust walks must find what the reference finds, which has its own way to the first choice;
-    /// the Rust walks with as many forks, since they make the same searches.
-    fn add(&mut self, book: &Book) {
-        let (list, row) = (&book.list[..], &book.row[..]);
-        let Some(right) = first::by_searches(list, row, MOST_FORKS) else {
-            self.left_out += 1;
-            return;
-        };
-        let (plain, counted) = (|d| walk::Walk::new(list, row, d), |d| counted::Walk::new(list, row, d));
-        let (n, mut choice) = (row.len() as u64, vec![0; row.len()]);
-        let answer = powhanire::nearest(n, list, row, &mut choice);
-        assert_eq!((answer.verdict == 1).then_some(&choice), right.choice.as_ref(), "not the same choice");
-        let right = (right.choice, right.forks);
-        assert_eq!(states::nearest(row, plain), right, "not the same searches");
-        assert_eq!(states::nearest(row, counted), right, "not the same searches");
-        let mut count_forks = 0;
-        states::least(row, plain, &mut count_forks);
-        self.forks.push(right.1 as f64);
-        self.count_forks.push(count_forks as f64);
-        self.library.push(seconds(|| powhanire::nearest(n, list, row, &mut choice)));
-        self.plain[0].push(seconds(|| states::nearest(row, plain)));
-        self.plain[1].push(seconds(|| states::least(row, plain, &mut 0)));
-        self.counted[0].push(seconds(|| states::nearest(row, counted)));
-        self.counted[1].push(seconds(|| states::least(row, counted, &mut 0)));
+    fn add(&mut self, forks: u64, seconds: Vec<f64>) {
+        self.forks.push(forks as f64);
+        self.seconds.resize(seconds.len(), Vec::new());
+        self.seconds.iter_mut().zip(seconds).for_each(|(all, taken)| all.push(taken));
     }
 
-    /// The row of a table.
+    /// Milliseconds a call and forks a second, of each program.
     fn cells(&self) -> String {
-        let forks = [&self.forks, &self.count_forks].map(|forks| spread(forks, |f| f.to_string()));
         let rate = |times: &[f64]| format!("{:.0}", self.forks.iter().sum::<f64>() / times.iter().sum::<f64>());
-        let mut cells = vec![format!("{} ({})", self.forks.len(), self.left_out)];
-        cells.extend(forks);
-        cells.extend([spread(&self.library, milliseconds), rate(&self.library)]);
-        for [nearest, count] in [&self.plain, &self.counted] {
-            let count = milliseconds(quartiles(&mut count.clone())[1]);
-            cells.extend([spread(nearest, milliseconds), count, rate(nearest)]);
-        }
+        let mut cells = vec![spread(&self.forks, |f| f.to_string())];
+        self.seconds.iter().for_each(|times| cells.extend([spread(times, milliseconds), rate(times)]));
         cells.join(" | ")
     }
 }
 
-fn table() {
-    print!("| books | timed (left out) | forks a call | for the count | library: ms a call | forks/s ");
-    print!("| plain Rust: ms a call | for the count | forks/s ");
-    println!("| Rust with counts: ms a call | for the count | forks/s |");
-    println!("|{}", "---|".repeat(12));
-    for class in TIMED {
-        let mut measured = Measured::default();
-        for seed in 0.. {
-            measured.add(&book(class, seed));
+/// The library must find what the Rust program finds and, as far as document 01's walk reaches, what the reference
+/// finds by that.
+fn nearest() {
+    println!("| books | timed (held to the reference) | forks a call | library: ms a call | forks/s | Rust: ms a call | forks/s |");
+    println!("|{}", "---|".repeat(7));
+    for class in NEAREST {
+        let (mut measured, mut held) = (Measured::default(), 0);
+        for book in (0..class.4 as u64).map(|seed| book(class, seed)) {
+            let (list, row) = (&book.list[..], &book.row[..]);
+            let (n, mut choice) = (row.len() as u64, vec![0; row.len()]);
+            let (found, forks) = cores::nearest(list, row);
+            let answer = powhanire::nearest(n, list, row, &mut choice);
+            assert_eq!((answer.verdict == 1).then_some(&choice), found.as_ref(), "not the same choice");
+            if let Some(right) = first::by_searches(list, row, MOST_FORKS) {
+                assert_eq!(found, right.choice, "not the reference's choice");
+                held += 1;
+            }
+            let library = seconds(|| powhanire::nearest(n, list, row, &mut choice));
+            measured.add(forks, vec![library, seconds(|| cores::nearest(list, row))]);
+        }
+        println!("| {} | {} ({held}) | {} |", name(class), class.4, measured.cells());
+    }
+}
+
+/// The wish search at the least number of broken wishes. All must find the same choice, the Rust walks with as many forks.
+fn search() {
+    print!("| books | timed (left out) | forks a call | library: ms a call | forks/s ");
+    println!("| plain Rust: ms a call | forks/s | Rust with counts: ms a call | forks/s |");
+    println!("|{}", "---|".repeat(9));
+    for class in SEARCHED {
+        let (mut measured, mut left_out) = (Measured::default(), 0);
+        for book in (0..).map(|seed| book(class, seed)) {
             if measured.forks.len() == class.4 {
                 break;
             }
+            let (list, row) = (&book.list[..], &book.row[..]);
+            let (n, mut choice) = (row.len() as u64, vec![0; row.len()]);
+            let d = powhanire::nearest(n, list, row, &mut choice).value[0];
+            let Some(right) = walk::search_within(list, row, d, MOST_FORKS) else {
+                left_out += 1;
+                continue;
+            };
+            let counted = || counted::Walk::new(list, row, d).run();
+            let answer = powhanire::search(n, list, row, d, &mut choice);
+            assert_eq!((answer.verdict == 1).then_some(&choice), right.choice.as_ref(), "not the same choice");
+            assert_eq!(counted(), (right.choice, right.forks), "not the same walk");
+            let library = seconds(|| powhanire::search(n, list, row, d, &mut choice));
+            let plain = seconds(|| walk::search(list, row, d).choice);
+            measured.add(right.forks, vec![library, plain, seconds(counted)]);
         }
-        println!("| {} | {} |", name(class), measured.cells());
+        println!("| {} | {} ({left_out}) | {} |", name(class), class.4, measured.cells());
     }
 }
 
@@ -241,10 +269,11 @@ fn rewrite(cnf: &str, wish: &str, d: u64, out: &str) {
 fn main() {
     let words: Vec<String> = std::env::args().skip(1).collect();
     match words.iter().map(String::as_str).collect::<Vec<_>>()[..] {
-        ["table"] => table(),
+        ["nearest"] => nearest(),
+        ["search"] => search(),
         ["reading"] => readers(),
         ["write", folder] => write(folder),
         ["rewrite", cnf, wish, d, out] => rewrite(cnf, wish, d.parse().unwrap(), out),
-        _ => panic!("walks table | reading | write FOLDER | rewrite CNF WISH D OUT"),
+        _ => panic!("walks nearest | search | reading | write FOLDER | rewrite CNF WISH D OUT"),
     }
 }
