@@ -71,6 +71,13 @@ def chain(n, length):
     return n, [[-setting, setting + 1] for setting in range(1, n) if setting % length]
 
 
+def ladder(first, n, entries=()):
+    """A long path of forks: while a setting from `first` on is picked and put on, it is the only one in four open
+    rules of two entries. Every rule has further entries."""
+    path = [(i, j) for i in range(first, n) for j in range(i + 1, min(n, i + 4) + 1)]
+    return n, [[*entries, *([1 - i] if i > first else []), i, j] for i, j in path]
+
+
 def signs(n, left_out):
     """Every rule with all n settings, but some. Each one that is left out gives a choice."""
     rules = [[sign * (i + 1) for i, sign in enumerate(all_)] for all_ in itertools.product((1, -1), repeat=n)]

@@ -145,7 +145,8 @@ fn many_forks(both: &mut Both, random: &mut Random) {
     both.nearest(64, &list, &row, 64);
 }
 
-/// A book and a row on which nearest makes few enough forks for a test, for the count and for the first choice.
+/// A book and a row on which the reference's nearest, which climbs the limits by the walk, makes few enough forks for a
+/// test. The library's makes fewer; tests/programs/run has it on larger books.
 pub fn within_reach(
     random: &mut Random,
     most: u64,
@@ -220,13 +221,14 @@ fn deepest(both: &mut Both, _: &mut Random) {
             both.nearest(256, &list, &row, 256);
         }
     }
-    // a path that only the search for the first choice comes to
+    // a path that nearest comes to for the first choice alone; where nothing is wished there are no cores, and the
+    // library forks as the walk does
     let (list, mut row) = (met_ladder(256), vec![2; 256]);
     for wishes in [0, 64] {
         row[1..1 + wishes].fill(1);
         let searches = [walk::least_within, first::by_searches];
-        let [climbed, made] = searches.map(|search| search(&list, &row, u64::MAX).unwrap().deepest);
-        both.hold((climbed, made) == (1, 254), || format!("{climbed} and then {made} forks on a path"));
+        let [counted, made] = searches.map(|search| search(&list, &row, u64::MAX).unwrap().deepest);
+        both.hold((counted, made) == (1, 254), || format!("{counted} and then {made} forks on a path"));
         both.nearest(256, &list, &row, 256);
     }
 }

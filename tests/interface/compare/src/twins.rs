@@ -15,7 +15,7 @@ pub const GROUPS: &[crate::Group] = &[
 
 type Book = (Vec<i32>, Vec<u8>);
 
-/// The most forks of a call.
+/// The most forks of a call of the reference.
 const MOST: u64 = 5_000;
 
 /// So many books, each beside a twin of the same rules in another order and one that has other rules too. For a
