@@ -205,10 +205,10 @@ static size_t ladder(int32_t first, int met, int32_t n, int32_t *list) {
     return length;
 }
 
-/* The ladder from setting 2 on, and rules by which setting 1 is picked before it. With settings 1, 255 and 256 wished off
- * the walk without a limit puts 1 and 255 on, and nearest goes on with the limit 1. By the cores 1 on is a dead end then;
- * with 1 off it forks on 2 to 255, and 256 is left to be assumed: 255 forks on a path, and the longest way from its
- * last one. The reference takes too long on this book. */
+/* The ladder from setting 2 on, and rules by which setting 1 is picked before it. With settings 1, 255 and 256 wished
+ * off the walk without a limit puts 1 and 255 on, and nearest goes on with the limit 1. By the cores 1 on is a dead end
+ * then; with 1 off it forks on 2 to 255, and 256 is left to be assumed: 255 forks on a path, and the longest way from
+ * its last one. The reference takes too long on this book, and tests/solvers/large.py has it. */
 static size_t turned(int32_t *list) {
     size_t length = ladder(2, 0, 256, list);
     for (int32_t i = 10; i <= 70; i += 10) {
