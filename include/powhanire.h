@@ -33,9 +33,9 @@
  *   A call that refuses with 15 says in `place` how many elements it needs.
  *
  * The calls keep no state and use no heap, so several threads may call at once on separate buffers.
- * Stack, measured by tests/interface/run at the deepest inputs there are: plain up to 495,648 bytes
- * (560 for each fork on a path, of which 640 settings allow 639), search and nearest up to 299,424,
- * the other calls up to 3,208. A thread with 512 KB suffices for all.
+ * Stack, measured by tests/interface/run at the deepest inputs there are: plain up to 505,888 bytes
+ * (576 for each fork on a path, of which 640 settings allow 639), nearest up to 325,680, search up to
+ * 284,144, the other calls up to 3,208. A thread with 512 KB suffices for all.
  */
 #ifndef POWHANIRE_H
 #define POWHANIRE_H
