@@ -1,6 +1,6 @@
 -- A wish is assumed: its variable is assigned as wished, and unit propagation follows.
 use mathlib.Core.Path.{_≡_, refl, sym, ap, ap₂, subst, _∙_}
-use mathlib.Core.Bool.{Bool, true, false, _||_}
+use mathlib.Core.Bool.{Bool, true, false, _||_, or-false}
 use mathlib.Core.List.{List, [], _∷_, _++_}
 use Prim.Native.Nat.{ℕ, _*_, _≤_, _<_, zero-le}
 use native.Mathlib.Omega.{arith}
@@ -47,10 +47,6 @@ disagreement-length (w ∷ row) (b ∷ a) = omega (arith, cost-most w b, disagre
 -- so that with the greatest limit a dead end is a falsified clause
 abbrev pub noLimit : ℕ
 noLimit = 18446744073709551615
-
-or-false : (x : Bool) → x || false ≡ x
-or-false true = refl
-or-false false = refl
 
 pub dead-falsified : (f : List (List ℤ)) (row a : List ℕ) → length a ≤ maxVariables → isDeadEnd f row noLimit a ≡ any (isFalsified a) f
 dead-falsified f row a few =

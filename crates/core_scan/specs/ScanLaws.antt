@@ -23,12 +23,13 @@ use Rattle.propagation.specs.Searching.{searching-kept, settled-most, undoable}
 use Rattle.propagation.specs.Trail.{undone, grown-undone}
 use Rattle.propagation.specs.declared.propagated.Propagated.the-variants.{Dead, Settled}
 use Rattle.cores.specs.Cores.{Scan, isLeft, isAssumable, keepWish, firstBroken, leastWeight, takeAll, closeCore, withBroken, afterAssuming, scanWish}
+use Rattle.cores.specs.Taken.{take-length}
 use Rattle.core_scan.specs.declared.progress.Progress.{Progress}
 use Rattle.core_scan.specs.Assuming.{AssumedBy}
 use Rattle.core_scan.specs.Broken.{Unbroken, unbroken-none, none-unbroken, free-unbroken, unbroken-still}
 use Rattle.core_scan.specs.Closing.{Among, Closed, BrokenThen, among-none, among-more, assumed-more}
 use Rattle.core_scan.specs.Scanning.{present, Scanning, Scanned}
-use Rattle.core_scan.specs.Taking.{least-most, left-free-taken, taken-length}
+use Rattle.core_scan.specs.Taking.{least-most, left-free-taken}
 
 -- what the definition does with one variable
 module _ (f : List (List ℤ)) (row b : List ℕ) (s : Scan) (v : ℕ) where
@@ -138,7 +139,7 @@ module _ {list : List ℤ} {ends numbers begins row : List ℕ} {base : Tally} {
             among = among-none (length b);
             few = omega arith;
             room = omega (arith, h .room, same-size);
-            wide = taken-length taken core ∙ h .wide ∙ sym same-size;
+            wide = take-length core taken ∙ h .wide ∙ sym same-size;
             small = omega (arith, h .small, same-size, least-most row core);
           }
 

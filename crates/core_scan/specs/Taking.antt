@@ -1,28 +1,20 @@
 -- Variables are taken, and what their wishes weigh at least.
 use mathlib.Core.Path.{_≡_, refl, sym, ap, ap₂, _∙_}
-use mathlib.Core.Bool.{Bool, true, false, cond}
-use mathlib.Core.List.{List, [], _∷_, _++_, map}
-use Prim.Native.Nat.{ℕ, zero, suc, _+_, _-_, _≤_, _<_, min}
-use native.Mathlib.Decide.{ℕ-discrete}
+use mathlib.Core.List.{List, [], _∷_, _++_, map, map-append}
+use Prim.Native.Nat.{ℕ, _+_, _-_, _≤_, _<_, min}
 use native.Mathlib.Numerals.{add-one}
 use native.Mathlib.Omega.{arith}
-use lib.Dec.{eqb, ltb}
-use lib.ListN.{length, getD, set, take, drop, length-set, drop-of-length-le}
-use lib.Seq.{take-suc, take-suc-set, take-all, drop-cons, getD-set-same, set-out}
-use borrow.Author.Tests.{eqb-true, ltb-true, ltb-false}
+use lib.ListN.{length, getD, set, take, drop, drop-of-length-le}
+use lib.Seq.{take-suc, take-suc-set, take-all, drop-cons}
+use borrow.Author.Tests.{eq-eqb}
 use Rattle.literal.specs.Literal.{value}
 use Rattle.wish.specs.Wish.{maxWeight, weight}
 use Rattle.walk.specs.Assignment.{assign-set}
-use Rattle.walk.specs.State.{isUnset, assign}
-use Rattle.unit_queue.specs.Due.{other-value}
-use Rattle.cores.specs.Cores.{takenByte, isLeft, leastWeight, takeAll}
+use Rattle.cores.specs.Cores.{takenByte, leastWeight, takeAll}
+use Rattle.cores.specs.Taken.{left-zero, take-left, free-start}
 use Rattle.core_scan.specs.Broken.{LeftFree}
 
 -- The loop that takes what is assigned: one byte more, and all of them.
-map-append : (f : ℕ → ℕ) (xs ys : List ℕ) → map f (xs ++ ys) ≡ map f xs ++ map f ys
-map-append f [] ys = refl
-map-append f (x ∷ xs) ys = ap (λ (l : List ℕ). f x ∷ l) (map-append f xs ys)
-
 pub mapped-next : (a taken : List ℕ) (i b : ℕ) → i < length a → i < length taken → b ≡ takenByte (getD a i 0) → take i taken ≡ map takenByte (take i a)
     → take (i + 1) (set taken i b) ≡ map takenByte (take (i + 1) a)
 mapped-next a taken i b h q e w =
@@ -59,37 +51,9 @@ pub take-end : (taken core : List ℕ) (k : ℕ) → length core ≤ k → takeA
 take-end taken core k h = rw (drop-of-length-le core {i = k} h)
 
 -- what is not taken after more is taken was not taken before
-left-before : (taken : List ℕ) (u v : ℕ) → isLeft (assign taken u 1) v ≡ true → isLeft taken v ≡ true
-left-before taken zero v e = e
-left-before taken (suc i) v e =
-    elim (ℕ-discrete v (suc i)) [
-      | yes q ↦ same (ltb i (length taken)) refl (ap (isLeft (set taken i 1)) (sym q) ∙ e) q
-      | no q ↦ ap (λ (b : ℕ). eqb b 0) (sym (other-value taken (suc i) 1 v q)) ∙ e
-    ]
-  where
-    same : (t : Bool) → ltb i (length taken) ≡ t → isLeft (set taken i 1) (suc i) ≡ true → v ≡ suc i → isLeft taken v ≡ true
-    same true p k q = absurd (omega (arith, eqb-true (getD (set taken i 1) i 2) 0 k, getD-set-same taken i 1 2 (ltb-true i (length taken) p)))
-    same false p k q = ap (λ (l : List ℕ). isLeft l v) (sym (set-out taken i 1 (ltb-false i (length taken) p))) ∙ e
-
 pub left-free-taken : (b taken core : List ℕ) → LeftFree b taken → LeftFree b (takeAll taken core)
-left-free-taken b taken [] h = h
-left-free-taken b taken (u ∷ core) h = left-free-taken b (assign taken u 1) core (λ v e. h v (left-before taken u v e))
+left-free-taken b taken core h v e = h v (eq-eqb (value taken v) 0 (take-left core taken v (left-zero (takeAll taken core) v e) .0))
 
 -- at the start
 pub left-free-start : (b : List ℕ) → LeftFree b (map takenByte b)
-left-free-start b zero e = refl
-left-free-start b (suc i) e = at b i e
-  where
-    byte : (x : ℕ) (t : Bool) → isUnset x ≡ t → eqb (cond t 0 1) 0 ≡ true → x ≡ 2
-    byte x true p q = eqb-true x 2 p
-    byte x false p q = absurd (omega (arith, eqb-true 1 0 q))
-
-    at : (b : List ℕ) (i : ℕ) → eqb (getD (map takenByte b) i 2) 0 ≡ true → getD b i 2 ≡ 2
-    at [] i e = refl
-    at (x ∷ b) zero e = byte x (isUnset x) refl e
-    at (x ∷ b) (suc i) e = at b i e
-
-pub taken-length : (taken core : List ℕ) → length (takeAll taken core) ≡ length taken
-taken-length taken [] = refl
-taken-length taken (zero ∷ core) = taken-length taken core
-taken-length taken (suc i ∷ core) = taken-length (set taken i 1) core ∙ length-set taken i 1
+left-free-start b v e = free-start [] [] b .1 v (left-zero (map takenByte b) v e) .0

@@ -1,76 +1,38 @@
 -- Trying a state in the search by cores: narrowing, completion by the guide, and what is left to a fork.
-use mathlib.Core.Path.{_≡_, refl, sym, ap, ap₂, subst, _∙_}
+use mathlib.Core.Path.{_≡_, sym, ap, subst, _∙_}
 use mathlib.Core.Bool.{Bool, true, false, cond}
 use mathlib.Core.List.{List}
-use mathlib.Core.Option.{Option, none, some}
+use mathlib.Core.Option.{some}
 use Prim.Native.Nat.{ℕ, _≤_, _<_}
 use native.Mathlib.Omega.{arith}
 use lib.IntN.{ℤ}
-use lib.ListN.{length, take, drop}
-use lib.Seq.{slice, take-take}
+use lib.ListN.{length}
+use lib.Seq.{slice}
 use Rattle.literal.specs.declared.Variable.{Variable}
 use Rattle.formula.specs.Formula.{models}
 use Rattle.opposed.specs.Opposed.{NoneShort}
-use Rattle.walk.specs.Branching.{fewest, branchingVariable}
-use Rattle.walk.specs.BranchingLaws.{branching-sound, opposed-open}
+use Rattle.walk.specs.BranchingLaws.{opposed-open}
 use Rattle.walk.specs.Promises.{Branches}
-use Rattle.walk.specs.State.{State, fits, unassigned, unassignedIn}
-use Rattle.walk.specs.Walk.{Outcome, deadEnd, isDeadEnd, complete, isExhausted, firstValue, fork, forkOn}
-use Rattle.walk.specs.WalkLaws.{first-bit}
+use Rattle.walk.specs.State.{fits, unassigned, unassignedIn}
+use Rattle.walk.specs.Walk.{Outcome, deadEnd, isDeadEnd, complete, fork}
 use Rattle.pick.specs.declared.Pick.the-variants.{DeadEnd, Branch}
-use Rattle.pick.specs.Pick.{variable, picked, pickOf}
+use Rattle.pick.specs.Pick.{pickOf, afterCompletion, picked-none, picked-fork}
 use Rattle.tally.specs.declared.Tally.{Tally}
 use Rattle.propagation.specs.declared.propagated.Propagated.the-variants.{Dead, Settled}
 use Rattle.propagation.specs.Looked.{Moved, ComesTo}
-use Rattle.propagation.specs.Searching.{Searching, settled-most}
-use Rattle.propagation.specs.Trail.{undone, grown-undone}
+use Rattle.propagation.specs.Searching.{Searching}
+use Rattle.propagation.specs.Trail.{undone}
 use Rattle.unit_queue.specs.Due.{NoneDue}
 use Rattle.unit_queue.specs.Theorems.{settled-none-due}
 use Rattle.walk_result.specs.declared.Tried.{Tried}
 use Rattle.walk_result.specs.declared.Tried.the-variants.{Found, Nothing}
 use Rattle.walk_result.specs.Tried.{clip}
 use Rattle.try_and_fork.specs.Tried.{TriedBy, unwound}
+use Rattle.try_and_fork.specs.Undoing.{dead-undone, fork-undone}
 use Rattle.cores.specs.Narrow.{narrow}
 use Rattle.cores.specs.Search.{completedBy, onward, searchFrom}
 use Rattle.cores.specs.NarrowRight.{Narrowed, NarrowedTo, narrow-right}
 use Rattle.cores.specs.SearchRight.{search-step}
-
--- What a pick says of the narrowed state b, where its completion by the guide is no model.
-module _ (f : List (List ℤ)) (row guide : List ℕ) (d : ℕ) (try : List ℕ → Outcome) (b : List ℕ) (incomplete : models (complete guide b) f ≡ false) where
-  -- steps 3 to 5, by whether the state is exhausted and by its branching variable
-  abbrev left : Bool → Option ℕ → Outcome
-  left t o = cond t deadEnd (forkOn try row b (fewest row b f) o)
-
-  onward-left : (t : Bool) → isExhausted f row d b ≡ t → (o : Option ℕ) → branchingVariable row b f ≡ o → onward f row guide d try (some b) ≡ left t o
-  onward-left t p o q = ap (λ (m : Bool). cond m (completedBy row guide b) (left (isExhausted f row d b) (branchingVariable row b f))) incomplete ∙ ap₂ left p q
-
-  clash : {v : Variable} {c : ℕ} → DeadEnd ≡ Branch v c → ⊥
-  clash e = let z : _≡_ {A = ℕ} 0 1 = cc in omega arith
-
-  pub onward-none : pickOf f row d b ≡ DeadEnd → onward f row guide d try (some b) ≡ deadEnd
-  onward-none e = go (isExhausted f row d b) refl (branchingVariable row b f) refl e
-    where
-      go : (t : Bool) → isExhausted f row d b ≡ t → (o : Option ℕ) → branchingVariable row b f ≡ o → picked t row (fewest row b f) o ≡ DeadEnd → onward f row guide d try (some b) ≡ deadEnd
-      go true p o q r = onward-left true p o q
-      go false p none q r = onward-left false p none q
-      go false p (some v) q r = cc
-
-  pub onward-fork : {n : ℕ} → State n b → (v : Variable) (c : ℕ) → pickOf f row d b ≡ Branch v c
-      → (onward f row guide d try (some b) ≡ fork try b (v .0) c) × Branches b n (v .0) × (c < 2)
-  onward-fork {n} h v c e = go (isExhausted f row d b) refl (branchingVariable row b f) refl e
-    where
-      go : (t : Bool) → isExhausted f row d b ≡ t → (o : Option ℕ) → branchingVariable row b f ≡ o → picked t row (fewest row b f) o ≡ Branch v c
-          → (onward f row guide d try (some b) ≡ fork try b (v .0) c) × Branches b n (v .0) × (c < 2)
-      go true p o q r = absurd (clash r)
-      go false p none q r = absurd (clash r)
-      go false p (some u) q r =
-          let at : variable u ≡ v = cc in
-          let same : u ≡ v .0 = ap (λ (w : Variable). w .0) at in
-          let first : firstValue row (fewest row b f) u ≡ c = cc in (
-            onward-left false p (some u) q ∙ ap₂ (fork try b) same first,
-            subst (Branches b n) same (branching-sound h row f q),
-            subst (λ (k : ℕ). k < 2) first (first-bit row (fewest row b f) u),
-          )
 
 -- the state before the variables from a place of the trail on were assigned
 abbrev pub before : ℕ → Tally → List ℕ → List ℕ → List ℕ
@@ -90,12 +52,7 @@ module _ {n : ℕ} {f : List (List ℤ)} {row : List ℕ} {from : ℕ} {t : Tall
   -- a dead end in a later state, which is undone
   ended : {t′ : Tally} {a′ trail′ : List ℕ} → Moved n row t a trail t′ a′ trail′ → searchFrom f row guide d a ≡ deadEnd → (a″ : List ℕ) → a″ ≡ before from t′ a′ trail′
       → TriedBy (searchFrom f row guide d a) from (before from t a trail) trail trail′ a″ (Nothing 0)
-  ended {t′} {a′} {trail′} m e a″ q = (
-    ap (λ (o : Outcome). o .answer) e,
-    sym (ap (λ (o : Outcome). clip (o .forks)) e),
-    q ∙ grown-undone (omega (arith, settled-most (m .searching), m .searching .long)) (m .grown) from (p .inside),
-    sym (take-take from (t .settled) trail′ (p .inside)) ∙ ap (take from) (m .grown .kept) ∙ take-take from (t .settled) trail (p .inside),
-  )
+  ended m e a″ q = dead-undone m from (p .inside) (searchFrom f row guide d a) e a″ q
 
   -- narrowing comes to a dead end
   pub by-narrowing : {t′ : Tally} {a′ trail′ : List ℕ} → ComesTo n row (narrow f row d a) t a trail a′ trail′ (Dead t′) → (a″ : List ℕ) → a″ ≡ before from t′ a′ trail′
@@ -140,36 +97,26 @@ module _ {n : ℕ} {f : List (List ℤ)} {row : List ℕ} {d from : ℕ} {t : Ta
     pub by-completion : (a″ : List ℕ) → a″ ≡ complete guide a′ → models (complete guide a′) f ≡ true → TriedBy (try a) from (before from t a trail) trail trail′ a″ (Found (t′ .broken) 0)
     by-completion a″ q m =
         let o : try a ≡ completedBy row guide a′
-        = decided ∙ ap (λ (b : Bool). cond b (completedBy row guide a′) (cond (isExhausted f row d a′) deadEnd (forkOn try row a′ (fewest row a′ f) (branchingVariable row a′ f)))) m in
+        = decided ∙ ap (λ (b : Bool). cond b (completedBy row guide a′) (afterCompletion f row d try a′)) m in
         (ap (λ (o : Outcome). o .answer) o ∙ rw (q, narrowed .breaks), sym (ap (λ (o : Outcome). clip (o .forks)) o))
 
     module _ (incomplete : models (complete guide a′) f ≡ false) where
+      after : try a ≡ afterCompletion f row d try a′
+      after = decided ∙ ap (λ (b : Bool). cond b (completedBy row guide a′) (afterCompletion f row d try a′)) incomplete
+
       -- steps 3 and 4: a dead end
       pub by-exhaustion : pickOf f row d a′ ≡ DeadEnd → (a″ : List ℕ) → a″ ≡ before from t′ a′ trail′ → TriedBy (try a) from (before from t a trail) trail trail′ a″ (Nothing 0)
-      by-exhaustion e a″ q = ended (p .tries) guide d (p .told .1) (decided ∙ onward-none f row guide d try a′ incomplete e) a″ q
+      by-exhaustion e a″ q = ended (p .tries) guide d (p .told .1) (after ∙ picked-none f row d try a′ e) a″ q
 
       -- or a variable v to branch on, with the value c first
       module _ (v : Variable) (c : ℕ) (e : pickOf f row d a′ ≡ Branch v c) where
-        branched : (onward f row guide d try (some a′) ≡ fork try a′ (v .0) c) × Branches a′ n (v .0) × (c < 2)
-        branched = onward-fork f row guide d try a′ incomplete (narrowed .state) v c e
+        branched : (afterCompletion f row d try a′ ≡ fork try a′ (v .0) c) × Branches a′ n (v .0) × (c < 2)
+        branched = picked-fork f row d try a′ (narrowed .state) v c e
 
         pub branches : Branches a′ n (v .0) × (c < 2)
         branches = (branched .1, branched .2)
 
-        forks : try a ≡ fork try a′ (v .0) c
-        forks = decided ∙ branched .0
-
         -- step 5: what the fork says, undone where it found nothing
         pub by-fork : (trail″ a″ a‴ : List ℕ) (r : Tried) → TriedBy (fork try a′ (v .0) c) (t′ .settled) a′ trail′ trail″ a″ r → length trail″ ≡ length trail′
             → a‴ ≡ unwound r (slice from (t′ .settled) trail″) a″ → TriedBy (try a) from (before from t a trail) trail trail″ a‴ r
-        by-fork trail″ a″ a‴ (Found k g) w l q = rw (q, forks) w
-        by-fork trail″ a″ a‴ (Nothing g) w l q =
-            let grown = p .told .1 .grown in
-            let within : from ≤ t′ .settled = omega (arith, p .tries .inside, grown .more) in
-            let same : slice from (t′ .settled) trail″ ≡ slice from (t′ .settled) trail′ = ap (drop from) (w .3) in (
-              ap (λ (o : Outcome). o .answer) forks ∙ w .0,
-              w .1 ∙ sym (ap (λ (o : Outcome). clip (o .forks)) forks),
-              q ∙ ap₂ undone same (w .2) ∙ grown-undone (omega (arith, settled-most narrowed, narrowed .long)) grown from (p .tries .inside),
-              sym (take-take from (t′ .settled) trail″ within) ∙ ap (take from) (w .3) ∙ take-take from (t′ .settled) trail′ within
-                  ∙ sym (take-take from (t .settled) trail′ (p .tries .inside)) ∙ ap (take from) (grown .kept) ∙ take-take from (t .settled) trail (p .tries .inside),
-            )
+        by-fork trail″ a″ a‴ r w l q = fork-undone (p .told .1) from (p .tries .inside) (try a) (fork try a′ (v .0) c) (after ∙ branched .0) trail″ a″ a‴ r w q

@@ -12,9 +12,10 @@ use Rattle.wish.specs.Wish.{isWish, wishedValue, weight, cost, breaks}
 use Rattle.wish.specs.Laws.{weight-free, cost-broken, cost-kept, cost-unwished, kept-wished}
 use Rattle.distance.specs.Distance.{disagreement}
 use Rattle.choices.specs.Choices.{Choice, Model, choice-value}
+use Rattle.walk.specs.Promises.{Branches}
 use Rattle.walk.specs.State.{State, assign}
 use Rattle.walk.specs.Extension.{Extends, disagreement-grows}
-use Rattle.walk.specs.Assignment.{set-at, extends-assign, assign-state, assign-cost}
+use Rattle.walk.specs.Assignment.{assign-other, extends-assign, assign-state, assign-cost}
 use Rattle.cores.specs.Cores.{leastWeight}
 
 -- one of the wishes of some variables is broken
@@ -45,11 +46,9 @@ abbrev pub Distinct : List ℕ → Type 0
 Distinct [] = Unit {0}
 Distinct (v ∷ vs) = (List·Memᴰ v vs → ⊥) × Distinct vs
 
--- a variable of 1 to n that the state a leaves unassigned
-pub record Unset (n : ℕ) (a : List ℕ) (v : ℕ) : Type 0 where
-  pub above : 0 < v
-  pub upTo : v ≤ n
-  pub unset : value a v ≡ 2
+-- a variable of 1 to n that the state a leaves unassigned: one that a fork could branch on
+abbrev pub Unset : ℕ → List ℕ → ℕ → Type 0
+Unset n a v = Branches a n v
 
 -- disjoint cores: their variables are unassigned, and none stands in two of them or twice in one
 pub record Disjoint (n : ℕ) (a : List ℕ) (cores : List (List ℕ)) : Type 0 where
@@ -92,12 +91,6 @@ cores-cost n f row a (vs ∷ cores) each c m e =
     let here : leastWeight row vs ≤ costAll row c vs = core-least n f row a vs (each vs (List·Memᴰ·head refl)) c m e in
     let rest : leastSum row cores ≤ costAll row c (variablesOf cores) = cores-cost n f row a cores (λ us q. each us (List·Memᴰ·tail q)) c m e in
     omega (arith, cost-append row c vs (variablesOf cores))
-
--- a variable keeps its value where another is assigned
-pub assign-other : (a : List ℕ) (v b u : ℕ) → (u ≡ v → ⊥) → value (assign a v b) u ≡ value a u
-assign-other a zero b u q = refl
-assign-other a (suc j) b zero q = refl
-assign-other a (suc j) b (suc i) q = set-at a j i b .1 (λ e. q (ap suc e))
 
 -- what a choice breaks of distinct unassigned variables adds to what the state breaks
 pub costs-add : {n : ℕ} {c : List ℕ} → Choice n c → (row vs a : List ℕ) → State n a → Extends c a → Distinct vs → ((v : ℕ) → List·Memᴰ v vs → Unset n a v)

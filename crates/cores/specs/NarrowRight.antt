@@ -19,12 +19,12 @@ use Rattle.walk.specs.State.{State, isUnset, unassigned, assign, fits}
 use Rattle.walk.specs.Propagation.{propagate}
 use Rattle.walk.specs.Walk.{isDeadEnd}
 use Rattle.walk.specs.Extension.{Extends, extends-refl, extends-trans}
-use Rattle.walk.specs.Assignment.{extends-assign, assign-state}
+use Rattle.walk.specs.Assignment.{extends-assign, assign-state, assign-other}
 use Rattle.walk.specs.PropagationLaws.{propagate-state, propagate-extends, propagate-forced, propagate-fewer}
 use Rattle.walk.specs.WalkLaws.{dead-none}
 use Rattle.cores.specs.Cores.{Scan, isLeft, keepWish, scan}
 use Rattle.cores.specs.Narrow.{mustKeep, keepIf, keepFrom, keepAll, unlessKept, byCores, narrowed, narrowBy, narrow}
-use Rattle.cores.specs.Facts.{assign-other, cores-add, must-keep}
+use Rattle.cores.specs.Facts.{cores-add, must-keep}
 use Rattle.cores.specs.ScanRight.{Found, scan-found}
 pub use Rattle.cores.specs.ScanRight.{left-unassigned, left-above, left-upTo}
 
@@ -186,6 +186,12 @@ module _ (n : ℕ) (f : List (List ℤ)) (fit : fits n f ≡ true) (row : List �
 extends-over : {a b : List ℕ} → Extends a b → (v x : ℕ) → value b v ≡ 2 → Extends (assign a v x) b
 extends-over {a} {b} h v x e = record { keeps = λ i q. assign-other a v x (suc i) (λ z. q (ap (value b) z ∙ e)) ∙ h .keeps i q }
 
+-- what must be kept is left, and costs more than is left of d
+pub must-both : (row : List ℕ) (d : ℕ) (taken : List ℕ) (bound v : ℕ) → mustKeep row d taken bound v ≡ true → (isLeft taken v ≡ true) × (d < bound + weight (value row v))
+must-both row d taken bound v e =
+    let r = and-eq-true-iff (isLeft taken v) (ltb d (bound + weight (value row v))) .0 e in
+    (r .0, ltb-true d (bound + weight (value row v)) (r .1))
+
 module _ (n : ℕ) (f : List (List ℤ)) (row : List ℕ) (d : ℕ) (b : List ℕ) (st : State n b) where
   found : Found n f row b (scan f row b)
   found = scan-found n f row b st
@@ -196,17 +202,11 @@ module _ (n : ℕ) (f : List (List ℤ)) (row : List ℕ) (d : ℕ) (b : List �
   abbrev must : ℕ → Type 0
   must v = mustKeep row d (scan f row b .taken) (scan f row b .bound) v ≡ true
 
-  -- what must be kept is left, and costs more than is left of d
-  must-both : (v : ℕ) → must v → (isLeft (scan f row b .taken) v ≡ true) × (d < scan f row b .bound + weight (value row v))
-  must-both v e =
-      let r = and-eq-true-iff (isLeft (scan f row b .taken) v) (ltb d (scan f row b .bound + weight (value row v))) .0 e in
-      (r .0, ltb-true d (scan f row b .bound + weight (value row v)) (r .1))
-
   -- keeping the wishes that must be kept extends the state
   pub keep-extends : Extends keptAll b
   keep-extends =
       keeping-keeps row d (scan f row b .taken) (scan f row b .bound) (λ (a : List ℕ). Extends a b)
-      (λ a v e h. extends-over h v (wishedValue (value row v)) (left-unassigned f row b v (must-both v e .0)))
+      (λ a v e h. extends-over h v (wishedValue (value row v)) (left-unassigned f row b v (must-both row d (scan f row b .taken) (scan f row b .bound) v e .0)))
       (length b) b 1 (extends-refl b)
 
   -- and every model within d keeps them
@@ -219,8 +219,8 @@ module _ (n : ℕ) (f : List (List ℤ)) (row : List ℕ) (d : ℕ) (b : List �
       wished : (v : ℕ) → must v → value c v ≡ wishedValue (value row v)
       wished v e =
           must-keep st (found .are-cores) v
-          (record { above = left-above f row b v (must-both v e .0); upTo = left-upTo f row b st v (must-both v e .0); unset = left-unassigned f row b v (must-both v e .0) })
-          (found .apart v (must-both v e .0)) d (omega (arith, must-both v e .1, found .sum)) c m h l
+          (record { above = left-above f row b v (must-both row d (scan f row b .taken) (scan f row b .bound) v e .0); upTo = left-upTo f row b st v (must-both row d (scan f row b .taken) (scan f row b .bound) v e .0); unset = left-unassigned f row b v (must-both row d (scan f row b .taken) (scan f row b .bound) v e .0) })
+          (found .apart v (must-both row d (scan f row b .taken) (scan f row b .bound) v e .0)) d (omega (arith, must-both row d (scan f row b .taken) (scan f row b .bound) v e .1, found .sum)) c m h l
 
   -- every model that extends the state breaks at least the bound
   pub bound-broken : (c : List ℕ) → Model n f c → Extends c b → scan f row b .bound ≤ disagreement row c

@@ -1,6 +1,6 @@
 -- Keeping the wishes that must be kept: one after the other, by rising variable.
 use mathlib.Core.Path.{_≡_, refl, sym, ap, ap₂, subst, _∙_}
-use mathlib.Core.Bool.{Bool, true, false, cond, _&&_, and-eq-true-iff}
+use mathlib.Core.Bool.{Bool, true, false, cond, _&&_}
 use mathlib.Core.List.{List, [], _∷_, _++_}
 use Prim.Native.Nat.{ℕ, suc, _+_, _-_, _≤_, _<_}
 use native.Mathlib.Omega.{arith}
@@ -12,16 +12,17 @@ use borrow.Author.Tests.{eq-eqb, ne-eqb, lt-ltb, le-ltb, ltb-true, ltb-false}
 use Rattle.literal.specs.Literal.{value}
 use Rattle.wish.specs.Wish.{wishedValue, weight}
 use Rattle.wish.specs.Laws.{wished-bit}
+use Rattle.walk.specs.Assignment.{assign-other}
 use Rattle.walk.specs.State.{assign}
 use Rattle.tally.specs.declared.Tally.{Tally}
 use Rattle.propagation.specs.Assigned.{AssignedTo, assigned-searching, assigned-grown}
 use Rattle.propagation.specs.Looked.{pending, Moved, moved-none, moved-more}
 use Rattle.propagation.specs.Searching.{Searching, not-all}
 use Rattle.propagation.specs.Trail.{slice-stored}
-use Rattle.unit_queue.specs.Due.{other-value}
 use Rattle.unit_queue.specs.Theorems.{Covers, assign-covers}
 use Rattle.cores.specs.Cores.{isLeft, keepWish}
 use Rattle.cores.specs.Narrow.{mustKeep, keepIf, keepFrom, keepAll}
+use Rattle.cores.specs.NarrowRight.{must-both}
 
 -- From one state of the search to a later one, with the variables assigned since in the queue: where only clauses of a queue's variables can ask for anything, that stays so.
 pub record KeptTo (n : ℕ) (row : List ℕ) (t : Tally) (a trail : List ℕ) (t′ : Tally) (a′ trail′ : List ℕ) : Type 0 where
@@ -35,10 +36,6 @@ module _ {n : ℕ} {row : List ℕ} {t : Tally} {a trail : List ℕ} where
   kept-more : {t′ t″ : Tally} {a′ trail′ a″ trail″ : List ℕ} → KeptTo n row t a trail t′ a′ trail′ → KeptTo n row t′ a′ trail′ t″ a″ trail″ → KeptTo n row t a trail t″ a″ trail″
   kept-more p q =
       record { moved = moved-more (p .moved) (q .moved); covers = λ f head l c. q .covers f head (omega (arith, p .moved .grown .more)) (p .covers f head l c) }
-
--- a wish that must be kept is left
-must-left : (row : List ℕ) (d : ℕ) (taken : List ℕ) (bound v : ℕ) → mustKeep row d taken bound v ≡ true → isLeft taken v ≡ true
-must-left row d taken bound v e = and-eq-true-iff (isLeft taken v) (ltb d (bound + weight (value row v))) .0 e .0
 
 -- the test by what is left of the limit
 sub-less : (d bound w : ℕ) → bound ≤ d → ltb (d - bound) w ≡ ltb d (bound + w)
@@ -83,7 +80,7 @@ module _ {n : ℕ} {row a trail : List ℕ} {t : Tally} (h : Searching n row a t
 
   module _ (low : 0 < v) (high : v ≤ n) (free : isLeft taken v ≡ true → value a v ≡ 2) (must : mustKeep row d taken bound v ≡ true) where
     unset : value a v ≡ 2
-    unset = free (must-left row d taken bound v must)
+    unset = free (must-both row d taken bound v must .0)
 
     pub one-room : t .settled < n
     one-room = keep-room h v (wishedValue (value row v)) low high unset (wished-bit (value row v))
@@ -100,7 +97,7 @@ if-other : (row : List ℕ) (d : ℕ) (taken : List ℕ) (bound : ℕ) (a : List
 if-other row d taken bound a v u ne = go (mustKeep row d taken bound v)
   where
     go : (b : Bool) → value (cond b (keepWish row a v) a) u ≡ value a u
-    go true = other-value a v (wishedValue (value row v)) u ne
+    go true = assign-other a v (wishedValue (value row v)) u ne
     go false = refl
 
 -- The loop over the variables, of which i are done: from the state a₀ to a.

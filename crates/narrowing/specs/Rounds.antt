@@ -37,7 +37,7 @@ RoundBy n f row d t a trail a′ trail′ (Kept place t′) =
     (narrow f row d a ≡ narrow f row d a′) × Moved n row t a trail t′ a′ trail′ × (place ≤ t′ .settled) × Covers f (pending place t′ a′ trail′) × (t .settled < t′ .settled)
 
 -- What the search for cores leaves of the state a with its trail and tally t: the state, and as much of the trail as is assigned.
-pub record Scanned (f : List (List ℤ)) (row : List ℕ) (t : Tally) (a trail : List ℕ) (bound : ℕ) (taken a′ trail′ : List ℕ) : Type 0 where
+pub record CoresFound (f : List (List ℤ)) (row : List ℕ) (t : Tally) (a trail : List ℕ) (bound : ℕ) (taken a′ trail′ : List ℕ) : Type 0 where
   pub least : bound ≡ scan f row a .bound
   pub marks : taken ≡ scan f row a .taken
   pub state : a′ ≡ a
@@ -64,7 +64,7 @@ module _ {n : ℕ} {row : List ℕ} {t : Tally} {a trail : List ℕ} (given : Se
     lives = step ∙ ap (narrowed rest f row d) (sym (told .0)) ∙ ap (λ (b : Bool). cond b none (byCores rest row d a′ (scan f row a′))) (told .1)
 
     -- the cores are found
-    module _ {bound : ℕ} {taken a″ trail″ : List ℕ} (found : Scanned f row t′ a′ trail′ bound taken a″ trail″) where
+    module _ {bound : ℕ} {taken a″ trail″ : List ℕ} (found : CoresFound f row t′ a′ trail′ bound taken a″ trail″) where
       pub round-left : (v : ℕ) → isLeft taken v ≡ true → value a″ v ≡ 2
       round-left v e = ap (λ (b : List ℕ). value b v) (found .state) ∙ left-unassigned f row a′ v (ap (λ (l : List ℕ). isLeft l v) (sym (found .marks)) ∙ e)
 

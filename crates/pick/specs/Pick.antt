@@ -1,6 +1,6 @@
 -- Where a state forks: steps 3 and 4 of the walk, as one answer.
 use mathlib.Core.Path.{_≡_, refl, sym, ap, ap₂, subst, _∙_}
-use mathlib.Core.Bool.{Bool, true, false, _&&_, true≢false}
+use mathlib.Core.Bool.{Bool, true, false, cond, _&&_, true≢false}
 use mathlib.Core.List.{List}
 use mathlib.Core.Option.{Option, none, some}
 use Prim.Native.Nat.{ℕ, _<_}
@@ -17,7 +17,7 @@ use Rattle.walk.specs.BranchingLaws.{branching-sound}
 use Rattle.walk.specs.Promises.{Branches}
 use Rattle.walk.specs.State.{State}
 use Rattle.walk.specs.Walk.{Outcome, deadEnd, isDeadEnd, complete, isExhausted, firstValue, fork, forkOn, decide}
-use Rattle.walk.specs.WalkLaws.{decide-exhausted, decide-fork, first-bit}
+use Rattle.walk.specs.WalkLaws.{first-bit}
 use Rattle.pick.specs.declared.Pick.{Pick}
 use Rattle.pick.specs.declared.Pick.the-variants.{DeadEnd, Branch}
 
@@ -54,32 +54,49 @@ branch-value u v k c e = cc
 abbrev number : Variable → ℕ
 number v = v .0
 
--- what it says of the walk
-module _ (f : List (List ℤ)) (row : List ℕ) (d : ℕ) (try : List ℕ → Outcome) (a : List ℕ) (alive : isDeadEnd f row d a ≡ false) (open′ : models (complete row a) f ≡ false) where
-  pub pick-none : pickOf f row d a ≡ DeadEnd → decide f row d try a ≡ deadEnd
-  pick-none e = go (isExhausted f row d a) refl (branchingVariable row a f) refl e
+-- what it says of steps 3 to 5, where the search goes on as `try` says
+module _ (f : List (List ℤ)) (row : List ℕ) (d : ℕ) (try : List ℕ → Outcome) (a : List ℕ) where
+  abbrev pub afterCompletion : Outcome
+  afterCompletion = cond (isExhausted f row d a) deadEnd (forkOn try row a (fewest row a f) (branchingVariable row a f))
+
+  by-tests : (t : Bool) → isExhausted f row d a ≡ t → (o : Option ℕ) → branchingVariable row a f ≡ o → afterCompletion ≡ cond t deadEnd (forkOn try row a (fewest row a f) o)
+  by-tests t p o q = ap₂ (λ (u : Bool) (x : Option ℕ). cond u deadEnd (forkOn try row a (fewest row a f) x)) p q
+
+  pub picked-none : pickOf f row d a ≡ DeadEnd → afterCompletion ≡ deadEnd
+  picked-none e = go (isExhausted f row d a) refl (branchingVariable row a f) refl e
     where
-      go : (t : Bool) → isExhausted f row d a ≡ t → (o : Option ℕ) → branchingVariable row a f ≡ o → picked t row (fewest row a f) o ≡ DeadEnd → decide f row d try a ≡ deadEnd
-      go true p o q r = decide-exhausted f row d try a alive open′ p
-      go false p none q r = decide-fork f row d try a alive open′ p ∙ ap (forkOn try row a (fewest row a f)) q
+      go : (t : Bool) → isExhausted f row d a ≡ t → (o : Option ℕ) → branchingVariable row a f ≡ o → picked t row (fewest row a f) o ≡ DeadEnd → afterCompletion ≡ deadEnd
+      go true p o q r = by-tests true p o q
+      go false p none q r = by-tests false p none q
       go false p (some v) q r = cc
 
-  pub pick-fork : {n : ℕ} → State n a → (v : Variable) (c : ℕ) → pickOf f row d a ≡ Branch v c
-      → (decide f row d try a ≡ fork try a (v .0) c) × Branches a n (v .0) × (c < 2)
-  pick-fork {n} h v c e = go (isExhausted f row d a) refl (branchingVariable row a f) refl e
+  pub picked-fork : {n : ℕ} → State n a → (v : Variable) (c : ℕ) → pickOf f row d a ≡ Branch v c → (afterCompletion ≡ fork try a (v .0) c) × Branches a n (v .0) × (c < 2)
+  picked-fork {n} h v c e = go (isExhausted f row d a) refl (branchingVariable row a f) refl e
     where
       go : (t : Bool) → isExhausted f row d a ≡ t → (o : Option ℕ) → branchingVariable row a f ≡ o → picked t row (fewest row a f) o ≡ Branch v c
-          → (decide f row d try a ≡ fork try a (v .0) c) × Branches a n (v .0) × (c < 2)
+          → (afterCompletion ≡ fork try a (v .0) c) × Branches a n (v .0) × (c < 2)
       go true p o q r = absurd (clash r)
       go false p none q r = absurd (clash r)
       go false p (some u) q r =
           let at : variable u ≡ v = branch-variable u v (firstValue row (fewest row a f) u) c r in
           let same : u ≡ v .0 = ap number at in
           let first : firstValue row (fewest row a f) u ≡ c = branch-value (variable u) v (firstValue row (fewest row a f) u) c r in (
-            decide-fork f row d try a alive open′ p ∙ ap (forkOn try row a (fewest row a f)) q ∙ ap₂ (fork try a) same first,
+            by-tests false p (some u) q ∙ ap₂ (fork try a) same first,
             subst (Branches a n) same (branching-sound h row f q),
             subst (λ (k : ℕ). k < 2) first (first-bit row (fewest row a f) u),
           )
+
+-- and of the walk
+module _ (f : List (List ℤ)) (row : List ℕ) (d : ℕ) (try : List ℕ → Outcome) (a : List ℕ) (alive : isDeadEnd f row d a ≡ false) (open′ : models (complete row a) f ≡ false) where
+  decided : decide f row d try a ≡ afterCompletion f row d try a
+  decided = rw (alive, open′)
+
+  pub pick-none : pickOf f row d a ≡ DeadEnd → decide f row d try a ≡ deadEnd
+  pick-none e = decided ∙ picked-none f row d try a e
+
+  pub pick-fork : {n : ℕ} → State n a → (v : Variable) (c : ℕ) → pickOf f row d a ≡ Branch v c
+      → (decide f row d try a ≡ fork try a (v .0) c) × Branches a n (v .0) × (c < 2)
+  pick-fork h v c e = let r = picked-fork f row d try a h v c e in (decided ∙ r .0, r .1, r .2)
 
 -- the answer, by whether the limit is spent
 module _ (f : List (List ℤ)) (row : List ℕ) (d : ℕ) (a : List ℕ) (broken : ℕ) (breaks : broken ≡ disagreement row a) where

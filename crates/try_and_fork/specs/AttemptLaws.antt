@@ -1,12 +1,12 @@
 -- Trying a state: propagation, completion, and what is left to a fork (document 01, steps 1 to 4).
-use mathlib.Core.Path.{_≡_, sym, ap, ap₂, _∙_}
+use mathlib.Core.Path.{_≡_, sym, ap, _∙_}
 use mathlib.Core.Bool.{true, false}
 use mathlib.Core.List.{List}
 use Prim.Native.Nat.{ℕ, _-_, _≤_, _<_}
 use native.Mathlib.Omega.{arith}
 use lib.IntN.{ℤ}
-use lib.ListN.{length, take, drop}
-use lib.Seq.{slice, take-take}
+use lib.ListN.{length}
+use lib.Seq.{slice}
 use Rattle.literal.specs.declared.Variable.{Variable}
 use Rattle.formula.specs.Formula.{models}
 use Rattle.opposed.specs.Opposed.{NoneShort}
@@ -24,14 +24,15 @@ use Rattle.tally.specs.declared.Tally.{Tally}
 use Rattle.propagation.specs.declared.propagated.Propagated.the-variants.{Dead, Settled}
 use Rattle.propagation.specs.Looked.{Moved}
 use Rattle.propagation.specs.Propagated.{PropagatedBy}
-use Rattle.propagation.specs.Searching.{Searching, settled-most}
-use Rattle.propagation.specs.Trail.{undone, grown-undone}
+use Rattle.propagation.specs.Searching.{Searching}
+use Rattle.propagation.specs.Trail.{undone}
 use Rattle.unit_queue.specs.Theorems.{settled-none-due}
 use Rattle.walk_result.specs.declared.Tried.{Tried}
 use Rattle.walk_result.specs.declared.Tried.the-variants.{Found, Nothing}
 use Rattle.walk_result.specs.Tried.{clip}
 use Rattle.unit_queue.specs.Due.{NoneDue}
 use Rattle.try_and_fork.specs.Tried.{TriedBy, unwound}
+use Rattle.try_and_fork.specs.Undoing.{dead-undone, fork-undone}
 
 -- where the newest variable stands on the trail: a state is tried after a fork assigned one, or at the root
 abbrev pub newest : Tally → ℕ
@@ -49,12 +50,7 @@ module _ {n : ℕ} {row : List ℕ} {t : Tally} {a trail : List ℕ} (given : Se
   -- a dead end in a later state, which is undone
   ended : {t′ : Tally} {a′ trail′ : List ℕ} → Moved n row t a trail t′ a′ trail′ → walkFrom f row d a ≡ deadEnd → (a″ : List ℕ) → a″ ≡ undone (slice (newest t) (t′ .settled) trail′) a′
       → TriedBy (walkFrom f row d a) (newest t) (before t a trail) trail trail′ a″ (Nothing 0)
-  ended {t′} {a′} {trail′} m e a″ q = (
-    ap (λ (o : Outcome). o .answer) e,
-    sym (ap (λ (o : Outcome). clip (o .forks)) e),
-    q ∙ grown-undone (omega (arith, settled-most (m .searching), m .searching .long)) (m .grown) (newest t) (omega arith),
-    sym (take-take (newest t) (t .settled) trail′ (omega arith)) ∙ ap (take (newest t)) (m .grown .kept) ∙ take-take (newest t) (t .settled) trail (omega arith),
-  )
+  ended m e a″ q = dead-undone m (newest t) (omega arith) (walkFrom f row d a) e a″ q
 
   -- step 1: a dead end
   pub by-propagation : {t′ : Tally} {a′ trail′ : List ℕ} → PropagatedBy n f row d t a trail a′ trail′ (Dead t′) → (a″ : List ℕ) → a″ ≡ undone (slice (newest t) (t′ .settled) trail′) a′
@@ -111,12 +107,4 @@ module _ {n : ℕ} {f : List (List ℤ)} {row : List ℕ} {d : ℕ} {t : Tally} 
       -- step 5: what the fork says, undone where it found nothing
       pub by-fork : (trail″ a″ a‴ : List ℕ) (r : Tried) → TriedBy (fork try a′ (v .0) c) (t′ .settled) a′ trail′ trail″ a″ r → length trail″ ≡ length trail′
           → a‴ ≡ unwound r (slice (newest t) (t′ .settled) trail″) a″ → TriedBy (try a) (newest t) (before t a trail) trail trail″ a‴ r
-      by-fork trail″ a″ a‴ (Found k g) w l q = rw (q, decided ∙ branched .0) w
-      by-fork trail″ a″ a‴ (Nothing g) w l q =
-          let same : slice (newest t) (t′ .settled) trail″ ≡ slice (newest t) (t′ .settled) trail′ = ap (drop (newest t)) (w .3) in (
-            ap (λ (o : Outcome). o .answer) (decided ∙ branched .0) ∙ w .0,
-            w .1 ∙ sym (ap (λ (o : Outcome). clip (o .forks)) (decided ∙ branched .0)),
-            q ∙ ap₂ undone same (w .2) ∙ grown-undone (omega (arith, settled-most propagated, propagated .long)) (p .told .2 .grown) (newest t) (omega arith),
-            sym (take-take (newest t) (t′ .settled) trail″ (omega (arith, p .told .2 .grown .more))) ∙ ap (take (newest t)) (w .3) ∙ take-take (newest t) (t′ .settled) trail′ (omega (arith, p .told .2 .grown .more))
-                ∙ sym (take-take (newest t) (t .settled) trail′ (omega arith)) ∙ ap (take (newest t)) (p .told .2 .grown .kept) ∙ take-take (newest t) (t .settled) trail (omega arith),
-          )
+      by-fork trail″ a″ a‴ r w l q = fork-undone (p .told .2) (newest t) (omega arith) (try a) (fork try a′ (v .0) c) (decided ∙ branched .0) trail″ a″ a‴ r w q

@@ -8,13 +8,12 @@ use native.Mathlib.Omega.{arith}
 use native.Mathlib.Decide.{ℕ-discrete}
 use lib.Dec.{eqb}
 use lib.IntN.{ℤ}
-use lib.Seq.{getD-set-other}
 use borrow.Author.Tests.{eq-eqb, eqb-true}
 use Rattle.literal.specs.Literal.{variable, wanted, value, holds, isLiteral}
 use Rattle.literal.specs.Slots.{wanted-bit}
 use Rattle.formula.specs.Formula.{contains, satisfied}
 use Rattle.walk.specs.State.{State, assign, isUnset, isUnassigned, unassignedIn, isUnit, isFalsified}
-use Rattle.walk.specs.Assignment.{assign-value, assign-extends}
+use Rattle.walk.specs.Assignment.{assign-value, assign-extends, assign-other}
 use Rattle.walk.specs.Extension.{satisfied-kept}
 use Rattle.unit_order.specs.Order.{two-left}
 
@@ -45,17 +44,11 @@ due-unit a c = short-due a c 1 (omega arith)
 pub due-falsified : (a : List ℕ) (c : List ℤ) → (Due a c → ⊥) → isFalsified a c ≡ false
 due-falsified a c = short-due a c 0 (omega arith)
 
--- another variable keeps its value
-pub other-value : (a : List ℕ) (v b u : ℕ) → (u ≡ v → ⊥) → value (assign a v b) u ≡ value a u
-other-value a zero b u h = refl
-other-value a (suc i) b zero h = refl
-other-value a (suc i) b (suc j) h = getD-set-other a i j b 2 (λ e. h (ap suc e))
-
 -- a variable v takes the value b
 module _ {n : ℕ} {a : List ℕ} (s : State n a) (v b : ℕ) (low : 0 < v) (high : v ≤ n) (free : value a v ≡ 2) (bit : b < 2) where
   -- a literal that does not hold then, and is not the one that wants the other value, is as it was
   as-before : (x : ℤ) → holds (assign a v b) x ≡ false → isLiteral v (1 - b) x ≡ false → isUnassigned (assign a v b) x ≡ isUnassigned a x
-  as-before x h k = elim (ℕ-discrete (variable x) v) [ yes e ↦ absurd (same e) | no e ↦ ap isUnset (other-value a v b (variable x) e) ]
+  as-before x h k = elim (ℕ-discrete (variable x) v) [ yes e ↦ absurd (same e) | no e ↦ ap isUnset (assign-other a v b (variable x) e) ]
     where
       same : variable x ≡ v → ⊥
       same e = elim (ℕ-discrete (wanted x) b) [

@@ -29,6 +29,12 @@ assign-set a (suc i) b h = let e : i ≡ suc i - 1 = omega arith in ap (λ (j : 
 pub set-at : (a : List ℕ) (j i b : ℕ) → (i ≡ j → j < length a → getD (set a j b) i 2 ≡ b) × ((i ≡ j → ⊥) → getD (set a j b) i 2 ≡ getD a i 2)
 set-at a j i b = (λ e h. ap (λ (k : ℕ). getD (set a j b) k 2) e ∙ getD-set-same a j b 2 h, λ q. getD-set-other a j i b 2 q)
 
+-- another variable keeps its value
+pub assign-other : (a : List ℕ) (v b u : ℕ) → (u ≡ v → ⊥) → value (assign a v b) u ≡ value a u
+assign-other a zero b u h = refl
+assign-other a (suc i) b zero h = refl
+assign-other a (suc i) b (suc j) h = getD-set-other a i j b 2 (λ e. h (ap suc e))
+
 -- an assignment that extends a, and gives variable v the value b, extends a with v assigned b
 pub extends-assign : {c a : List ℕ} → Extends c a → (v b : ℕ) → value c v ≡ b → Extends c (assign a v b)
 extends-assign h zero b e = h

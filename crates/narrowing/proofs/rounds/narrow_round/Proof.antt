@@ -97,7 +97,7 @@ module _ (c : tie.After-find-cores) where
   abbrev taken : List ℕ
   taken = c .find-cores .last .1 .1 .1 .1 .1 .1 .1 .1 .0
 
-  found : rounds.Scanned (f begun) (begun .args .row .now) (tally (alive c)) (a (propagation (alive c))) (trail (propagation (alive c))) (c .find-cores .result) taken a″ trail″
+  found : rounds.CoresFound (f begun) (begun .args .row .now) (tally (alive c)) (a (propagation (alive c))) (trail (propagation (alive c))) (c .find-cores .result) taken a″ trail″
   found =
       record {
         least = c .find-cores .ensures .0;
