@@ -47,7 +47,19 @@
 extern "C" {
 #endif
 
-/* What every call returns.
+/* The version of this header: one number, which grows from version to version, and a text. MAJOR changes where a caller
+ * has to change, MINOR where something is new, PATCH else. */
+#define POWHANIRE_VERSION_MAJOR 1
+#define POWHANIRE_VERSION_MINOR 0
+#define POWHANIRE_VERSION_PATCH 0
+#define POWHANIRE_VERSION_TEXT "1.0.0"
+#define POWHANIRE_VERSION \
+    (POWHANIRE_VERSION_MAJOR * 10000 + POWHANIRE_VERSION_MINOR * 100 + POWHANIRE_VERSION_PATCH)
+
+/* The version of the archive: POWHANIRE_VERSION of the header that it was made with. */
+uint64_t powhanire_version(void);
+
+/* What every call but powhanire_version returns.
  *
  * refusal, place (the first that applies; places count from 0)
  *    1  rule file: header absent or malformed        first byte of the first line that is neither comment nor

@@ -1,0 +1,1 @@
+// Words in definitions: see specs/Words.antt.
