@@ -1,39 +1,28 @@
 use borrow.Author.Needs.{needs}
 use Rattle.refusal_words.proofs.put_wrong_count.Statement.{statement}
 use Rattle.refusal_words.proofs.put_wrong_count.Tie as tie
-use Rattle.refusal_words.proofs.put_wrong_count.Reads as reads
-use Rattle.refusal_words.proofs.put_wrong_count.Lts as lts
-use Rattle.text.proofs.put_bytes.Reads as put-bytes-reads
 
--- src/lib.rt:85:13
 slice-aggregate-put-bytes : tie.Need-slice-aggregate-put-bytes
 slice-aggregate-put-bytes c = search needs
 
--- src/lib.rt:84:9
 put-bytes-requires : tie.Need-put-bytes-requires
 put-bytes-requires c κs = search needs
 
--- src/lib.rt:91:13
 slice-aggregate-put-bytes-2 : tie.Need-slice-aggregate-put-bytes-2
 slice-aggregate-put-bytes-2 c = search needs
 
--- src/lib.rt:90:9
 put-bytes-requires-2 : tie.Need-put-bytes-requires-2
 put-bytes-requires-2 c κs = search needs
 
--- src/lib.rt:79:1
 same-length : tie.Need-same-length
 same-length c = search needs
 
--- src/lib.rt:79:1
 returns : tie.Need-returns
 returns c = rw (c .before .before .before .before .before .if1 .taken) (c .before .before .put-bytes .ensures)
 
--- src/lib.rt:79:1
 same-length-2 : tie.Need-same-length-2
 same-length-2 c = search needs
 
--- src/lib.rt:79:1
 returns-2 : tie.Need-returns-2
 returns-2 c = rw (c .before .before .before .before .before .if1 .left) (c .before .before .put-bytes2 .ensures)
 
