@@ -1,0 +1,3 @@
+pub mod Empty
+pub mod Laws
+pub mod Placed
