@@ -1,0 +1,49 @@
+// Where a refusal can be mended.
+ghost use mathlib.Core.Path.{_≡_};
+ghost use Rattle.diagnostics.specs.Diagnostic.{spotOf, spotTooLong};
+
+const MAX_FILE: usize = 65536;
+
+// A place in the wish file, or in the rule file.
+pub struct Spot {
+    pub wishes: bool,
+    pub place: usize,
+}
+
+// The spot of a refusal's number and place.
+pub fn spot_of(number: usize, place: usize, rules: &[u8]) -> Spot
+    ensures { λ r. ⌜ r ≡ spotOf number place (now (rules .entry)) ⌝ }
+{
+    if number <= 7 {
+        return Spot {
+            wishes: false,
+            place,
+        };
+    }
+    if number <= 11 {
+        return Spot {
+            wishes: true,
+            place,
+        };
+    }
+    if number == 12 {
+        return Spot {
+            wishes: false,
+            place: rule_header::past_comments(rules),
+        };
+    }
+    Spot {
+        wishes: false,
+        place: empty_rule::find_empty(rules),
+    }
+}
+
+// The first byte too many of files of which one is too long.
+pub fn too_long(rules: &[u8]) -> Spot
+    ensures { λ r. ⌜ r ≡ spotTooLong (now (rules .entry)) ⌝ }
+{
+    Spot {
+        wishes: rules.len() <= MAX_FILE,
+        place: MAX_FILE,
+    }
+}
