@@ -165,8 +165,8 @@ fn nearest() {
             let (list, row) = (&book.list[..], &book.row[..]);
             let (n, mut choice) = (row.len() as u64, vec![0; row.len()]);
             let (found, forks) = cores::nearest(list, row);
-            let answer = powhanire::nearest(n, list, row, &mut choice);
-            assert_eq!((answer.verdict == 1).then_some(&choice), found.as_ref(), "not the same choice");
+            let broken = powhanire::nearest(n, list, row, &mut choice).unwrap();
+            assert_eq!(broken.map(|_| &choice), found.as_ref(), "not the same choice");
             if let Some(right) = first::by_searches(list, row, MOST_FORKS) {
                 assert_eq!(found, right.choice, "not the reference's choice");
                 held += 1;
@@ -191,14 +191,14 @@ fn search() {
             }
             let (list, row) = (&book.list[..], &book.row[..]);
             let (n, mut choice) = (row.len() as u64, vec![0; row.len()]);
-            let d = powhanire::nearest(n, list, row, &mut choice).value[0];
+            let d = powhanire::nearest(n, list, row, &mut choice).unwrap().unwrap_or(0);
             let Some(right) = walk::search_within(list, row, d, MOST_FORKS) else {
                 left_out += 1;
                 continue;
             };
             let counted = || counted::Walk::new(list, row, d).run();
-            let answer = powhanire::search(n, list, row, d, &mut choice);
-            assert_eq!((answer.verdict == 1).then_some(&choice), right.choice.as_ref(), "not the same choice");
+            let broken = powhanire::search(n, list, row, d, &mut choice).unwrap();
+            assert_eq!(broken.map(|_| &choice), right.choice.as_ref(), "not the same choice");
             assert_eq!(counted(), (right.choice, right.forks), "not the same walk");
             let library = seconds(|| powhanire::search(n, list, row, d, &mut choice));
             let plain = seconds(|| walk::search(list, row, d).choice);
@@ -212,11 +212,11 @@ fn readers() {
     println!("| file | bytes | library: ms a call | MB/s | reference: ms a call | MB/s |");
     println!("|---|---|---|---|---|---|");
     for (name, file) in reading::files() {
-        let mut rules = vec![0; 40_000];
-        let answer = powhanire::read_rules(&file, &mut rules);
-        let book = rule_file::read(&file).unwrap();
-        assert_eq!((answer.refusal, &rules[..answer.value[2] as usize]), (0, &book.list[..]), "not the same rules");
-        let times = [seconds(|| powhanire::read_rules(&file, &mut rules)), seconds(|| rule_file::read(&file))];
+        let mut rules = vec![0; powhanire::room::RULES];
+        let list = powhanire::read_rules(&file, &mut rules).unwrap().list;
+        assert_eq!(list, rule_file::read(&file).unwrap().list, "not the same rules");
+        let library = seconds(|| powhanire::read_rules(&file, &mut rules).is_ok());
+        let times = [library, seconds(|| rule_file::read(&file))];
         let cells = times.map(|t| format!("{} | {:.0}", short(t * 1000.0), file.len() as f64 / t / 1e6));
         println!("| {name} | {} | {} |", file.len(), cells.join(" | "));
     }

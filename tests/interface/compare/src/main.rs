@@ -5,6 +5,7 @@ mod exports;
 mod files;
 mod page;
 mod random;
+mod safe;
 mod searches;
 mod twins;
 mod values;

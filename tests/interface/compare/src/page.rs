@@ -47,4 +47,9 @@ impl Page {
             before.iter().all(|&b| b == MARK).then(|| lent.to_vec())
         }
     }
+
+    /// Whether that is what was lent.
+    pub fn kept<T: Copy + PartialEq>(&self, lent: &[T]) -> bool {
+        self.after(lent.len()).as_deref() == Some(lent)
+    }
 }
