@@ -1,6 +1,6 @@
-/* The calls from C: document 01's examples, comment lines, repeated entries, the first nearest choice, the export to
- * OPB, each call on its largest and deepest input, the stack that each takes, and several threads at once. Also compiled
- * as C++. */
+/* The calls from C: the version, document 01's examples, comment lines, repeated entries, the first nearest choice, the
+ * export to OPB, each call on its largest and deepest input, the stack that each takes, and several threads at once.
+ * Also compiled as C++. */
 #include "powhanire.h"
 
 #include <pthread.h>
@@ -42,6 +42,15 @@ enum { RULES = 40000, RULE_FILE = 173015, WISH_FILE = 720, REWRITTEN = 38914, OP
 
 static int32_t out_rules[RULES], out_rewritten[REWRITTEN];
 static uint8_t out_file[RULE_FILE], out_row[256], out_wishes[WISH_FILE], out_choice[640], out_opb[OPB_FILE];
+
+/* ---- the version ---- */
+
+static void version(void) {
+    char text[64];
+    snprintf(text, sizeof text, "%d.%d.%d", POWHANIRE_VERSION_MAJOR, POWHANIRE_VERSION_MINOR, POWHANIRE_VERSION_PATCH);
+    expect(powhanire_version() == POWHANIRE_VERSION, "the archive has the header's version");
+    expect(strcmp(text, POWHANIRE_VERSION_TEXT) == 0, "the version's text has its numbers");
+}
 
 /* ---- examples ---- */
 
@@ -417,6 +426,7 @@ static void small_thread(const char *what, void (*run)(void), uint64_t broken) {
 int main(void) {
     struct rlimit limit;
     expect(getrlimit(RLIMIT_STACK, &limit) == 0 && limit.rlim_cur <= STACK, "run under `ulimit -s 1024`");
+    version();
     examples();
     repeated_entries();
     first_choice();
