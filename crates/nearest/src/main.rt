@@ -1,14 +1,28 @@
 // `nearest RULES WISH`, or `nearest` alone for `rules.cnf` and `wish.txt` of the current folder: prints
 // the least number of broken wishes and the first choice, or the line of a refusal. What is printed is
-// `nearestPrinted` in nearest_text/specs/Printed.antt.
+// `nearestPrinted` in nearest_text/specs/Printed.antt, and what is said of a refusal on standard error
+// `diagnostic` in diagnostics/specs/Diagnostic.antt.
 use input_file::FilesRead;
 use libc::STDERR_FILENO;
 use libc::STDOUT_FILENO;
+use options::Asked;
 ghost use mathlib.Core.Path.{_≡_};
+ghost use Prim.Native.Nat.{_≤_};
 ghost use lib.ListN.{length};
 ghost use Rattle.solution_text.specs.Lines.{longest};
 
 fn main() {
+    match options::first_asked() {
+        Asked::Help => options::print_help(
+            b"usage: nearest [RULES WISH]\n\nPrints the least number of wishes that a permitted choice breaks, and the first such choice:\n`o` and the number, `s OPTIMUM FOUND`, and on `v` lines each setting's number, with a minus\nwhere it is off; or `s UNSATISFIABLE` where no choice meets the rules.\n\nRULES is a rule file and WISH a wish file, of at most 65536 bytes each; without them,\nrules.cnf and wish.txt of the current folder. A refusal prints its number and its place,\nand a line on standard error says where, what is wrong and what would be right.\n\n  --help     prints this\n  --version  prints the version\n",
+        ),
+        Asked::Version => options::print_version(b"nearest"),
+        Asked::Nothing => run_files(),
+    }
+}
+
+// Runs on the files of the current folder, or on those that the arguments name.
+fn run_files() {
     let words = os::arg_count();
     if words == 1 {
         run(b"rules.cnf", b"wish.txt");
@@ -38,7 +52,9 @@ fn run_named() {
     run(&rules[..k], &wishes[..w]);
 }
 
-fn run(rules_path: &[u8], wish_path: &[u8]) {
+fn run(rules_path: &[u8], wish_path: &[u8])
+    requires { ⌜ (length (now «rules_path») ≤ 4096) × (length (now «wish_path») ≤ 4096) ⌝ }
+{
     let mut rules = input_file::space();
     let mut wishes = input_file::space();
     let FilesRead::Bytes(k, w) = input_file::read_files(
@@ -49,7 +65,15 @@ fn run(rules_path: &[u8], wish_path: &[u8]) {
     ) else {
         return;
     };
-    show(&rules[..k], &wishes[..w]);
+    tell(rules_path, wish_path, &rules[..k], &wishes[..w]);
+}
+
+// Prints the answer, and says why if it is a refusal.
+fn tell(rules_path: &[u8], wish_path: &[u8], rules: &[u8], wishes: &[u8])
+    requires { ⌜ (length (now «rules_path») ≤ 4096) × (length (now «wish_path») ≤ 4096) ⌝ }
+{
+    show(rules, wishes);
+    explain::explain_refusal(rules_path, wish_path, rules, wishes, false);
 }
 
 fn show(rules: &[u8], wishes: &[u8]) {

@@ -3,11 +3,27 @@
 // opb_text/specs/Printed.antt.
 use input_file::FilesRead;
 use libc::STDOUT_FILENO;
+use options::Asked;
 ghost use mathlib.Core.Path.{_≡_};
 ghost use lib.ListN.{length};
 ghost use Rattle.opb_format.specs.Sizes.{longest};
 
 fn main() {
+    match options::first_asked() {
+        Asked::Help => options::print_help(
+            b"usage: opb\n\nPrints the rules, the wishes and their limit as an OPB file, for pseudo-Boolean solvers.\n\nThe files are rules.cnf and wish.txt of the current folder, of at most 65536 bytes each.\nA refusal prints its number and its place, and a line on standard error says where, what\nis wrong and what would be right.\n\n  --help     prints this\n  --version  prints the version\n",
+        ),
+        Asked::Version => options::print_version(b"opb"),
+        Asked::Nothing => {
+            options::warn_of_arguments(
+                b"opb: it takes no file names, and reads rules.cnf and wish.txt of the current folder\n",
+            );
+            run();
+        }
+    }
+}
+
+fn run() {
     let mut rules = input_file::space();
     let mut wishes = input_file::space();
     let FilesRead::Bytes(k, w) = input_file::read_files(
@@ -18,7 +34,13 @@ fn main() {
     ) else {
         return;
     };
-    show(&rules[..k], &wishes[..w]);
+    tell(&rules[..k], &wishes[..w]);
+}
+
+// Prints the answer, and says why if it is a refusal.
+fn tell(rules: &[u8], wishes: &[u8]) {
+    show(rules, wishes);
+    explain::explain_refusal(b"rules.cnf", b"wish.txt", rules, wishes, true);
 }
 
 fn show(rules: &[u8], wishes: &[u8]) {

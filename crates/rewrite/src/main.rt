@@ -2,11 +2,27 @@
 // rules, or the line of a refusal. What is printed is `printed` in rewrite_text/specs/Printed.antt.
 use input_file::FilesRead;
 use libc::STDOUT_FILENO;
+use options::Asked;
 ghost use mathlib.Core.Path.{_≡_};
 ghost use lib.ListN.{length};
 ghost use Rattle.rewrite_text.specs.Printed.{longest};
 
 fn main() {
+    match options::first_asked() {
+        Asked::Help => options::print_help(
+            b"usage: rewrite\n\nPrints plain rules, as a rule file, that can be met by just the choices that meet the given\nrules and break no more wishes than the limit of the wish file.\n\nThe files are rules.cnf and wish.txt of the current folder, of at most 65536 bytes each.\nA refusal prints its number and its place, and a line on standard error says where, what\nis wrong and what would be right.\n\n  --help     prints this\n  --version  prints the version\n",
+        ),
+        Asked::Version => options::print_version(b"rewrite"),
+        Asked::Nothing => {
+            options::warn_of_arguments(
+                b"rewrite: it takes no file names, and reads rules.cnf and wish.txt of the current folder\n",
+            );
+            run();
+        }
+    }
+}
+
+fn run() {
     let mut rules = input_file::space();
     let mut wishes = input_file::space();
     let FilesRead::Bytes(k, w) = input_file::read_files(
@@ -17,7 +33,13 @@ fn main() {
     ) else {
         return;
     };
-    show(&rules[..k], &wishes[..w]);
+    tell(&rules[..k], &wishes[..w]);
+}
+
+// Prints the answer, and says why if it is a refusal.
+fn tell(rules: &[u8], wishes: &[u8]) {
+    show(rules, wishes);
+    explain::explain_refusal(b"rules.cnf", b"wish.txt", rules, wishes, false);
 }
 
 fn show(rules: &[u8], wishes: &[u8]) {
