@@ -18,7 +18,8 @@
  *
  * Lending
  *   Every buffer is a pointer and a length in elements (bytes for uint8_t, numbers for int32_t).
- *   `const` buffers are read, the last buffer of a call is written (check writes none); no two may overlap.
+ *   `const` buffers are read, the last buffer of a call is written (check writes none), and it may overlap none of the
+ *   others.
  *   A pointer lent with length 0 is not followed and may be NULL.
  *   A refusal leaves every buffer as it was. So does "none". On success only the part that the call fills
  *   changes, and what lies past it stays. A longer output buffer than needed is accepted.
