@@ -10,23 +10,24 @@
 use powhanire::{nearest, read_rules, read_wishes, room, Refusal, FREE, ON};
 use std::error::Error;
 use std::io::Write;
+use std::path::PathBuf;
 use std::process::ExitCode;
 
 struct File {
-    name: String,
+    name: PathBuf,
     bytes: Vec<u8>,
 }
 
 impl File {
-    fn read(name: &str) -> Result<File, String> {
-        let bytes = std::fs::read(name).map_err(|_| format!("{name}: cannot be read"))?;
-        Ok(File { name: name.to_string(), bytes })
+    fn read(name: PathBuf) -> Result<File, String> {
+        let bytes = std::fs::read(&name).map_err(|_| format!("{}: cannot be read", name.display()))?;
+        Ok(File { name, bytes })
     }
 
     /// Where the file is refused, and what is wrong.
     fn refused(&self, refusal: Refusal) -> String {
         let (line, column) = refusal.position(&self.bytes);
-        format!("{}:{line}:{column}: {}", self.name, refusal.what())
+        format!("{}:{line}:{column}: {}", self.name.display(), refusal.what())
     }
 }
 
@@ -75,13 +76,13 @@ fn print_nearest(rule_file: &File, wish_file: &File) -> Result<(), Box<dyn Error
     Ok(())
 }
 
-fn run(rules: &str, wish: &str) -> Result<(), Box<dyn Error>> {
+fn run(rules: PathBuf, wish: PathBuf) -> Result<(), Box<dyn Error>> {
     print_nearest(&File::read(rules)?, &File::read(wish)?)
 }
 
 fn main() -> ExitCode {
-    let arguments: Vec<String> = std::env::args().skip(1).collect();
-    let [rules, wish] = &arguments[..] else {
+    let mut arguments = std::env::args_os().skip(1).map(PathBuf::from);
+    let (Some(rules), Some(wish), None) = (arguments.next(), arguments.next(), arguments.next()) else {
         eprintln!("usage: nearest RULES WISH");
         return ExitCode::from(2);
     };

@@ -1,6 +1,7 @@
 /* Powhanire: the permitted settings nearest to what was wished.
  *
- * Link with target/staticlib/libpowhanire.a (x86-64), which `rt staticlib powhanire` writes.
+ * Link with libpowhanire.a (x86-64), which `rt staticlib powhanire` writes to target/staticlib/ and tools/install
+ * installs.
  *
  * Data
  *   A setting has a number from 1 to n.

@@ -112,7 +112,7 @@ pub fn version() -> u64 {
     raw::version()
 }
 
-/// Reads a rule file, DIMACS CNF, into a rule list. Comment lines are skipped, and an entry that its rule holds already
+/// Reads a rule file, a narrowed DIMACS CNF, into a rule list. Comment lines are skipped, and an entry that its rule holds already
 /// is left out.
 ///
 /// ```

@@ -34,7 +34,7 @@ impl Refusal {
         match self.number {
             1 => "the header `p cnf N C` is missing or malformed",
             2 => "the header's N or C is out of range",
-            3 => "this is no number: an entry is V or -V, and 0 closes a rule",
+            3 => "this is neither an entry (V or -V, without leading zeros) nor the 0 that closes a rule",
             4 => "the entry's setting is above N",
             6 => "there are more rules than the header's C, or fewer, or the last is not closed",
             7 => "there are more than 31000 entries",
@@ -52,6 +52,7 @@ impl Refusal {
     }
 
     /// The line and the column of the place in the file that was refused, both counted from 1, columns in bytes.
+    /// It is for the refusals of a file, 1 to 10: the place of the others is no byte of one.
     ///
     /// ```
     /// use powhanire::{read_wishes, room};

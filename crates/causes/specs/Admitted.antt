@@ -12,9 +12,10 @@ use borrow.Author.Tests.{eqb-true, eqb-false, not-true, not-false, ltb-true, ltb
 use Rattle.formula.specs.Formula.{clauses, literals}
 use Rattle.refusal.specs.declared.Refusal.{Refusal}
 use Rattle.refusal.specs.Laws.{no-first, first-some, first-of-two, placeIf-none, none-found, each-unfound, first-number, enough-room, neither}
-use Rattle.refusal.specs.Reply.{placeIf, tooShort}
+use Rattle.refusal.specs.Passing.{Passes, last, more, no-cause, by-place, unfound, by-first}
+use Rattle.refusal.specs.Reply.{placeIf, causeAt, tooShort}
 use Rattle.limits.specs.Limits.{maxVariables, maxLimit, maxWishVariables, maxWishClauses, maxWishLiterals}
-use Rattle.rule_list.specs.Sound.{SoundList}
+use Rattle.rule_list.specs.Sound.{unread, badRule, SoundList}
 use Rattle.causes.specs.Empty.{emptyClause}
 use Rattle.causes.specs.Laws.{in-range}
 use Rattle.causes.specs.Lent.{Lent, plainProblem, wishedProblem, exportedProblem, wishesAlone, withLimit, withRoom, ofPart, outOfRange, wrongLength, oversized, causes, unadmitted, refusalOf}
@@ -184,6 +185,31 @@ lent-number s r e = (
   ltb-true 0 (r .number) (first-number (ltb 0) (causes s) refl r e),
   eqb-false (r .number) 15 (not-true (eqb (r .number) 15) (first-number (λ (k : ℕ). not (eqb k 15)) (causes s) refl r e)),
 )
+
+-- Of a call with wishes and no given choice, whose n and d are in range and whose rules and row are sound, these causes are left: 11, 12 and, where it asks that every rule has an entry, 16.
+module _ (test : ℕ → Bool) (n : ℕ) (rules : List ℤ) (row : List ℕ) (d : ℕ) (asksEntries : Bool) where
+  abbrev asked : Lent
+  asked = record { n = n; d = d; rules = rules; row = some row; choice = none; asksEntries = asksEntries; needed = 0; room = 0 }
+
+  pub sound-left : 0 < n → n ≤ maxVariables → d ≤ maxLimit → SoundList n rules → badWish 0 0 row ≡ none
+      → test 11 ≡ true → test 12 ≡ true → (asksEntries ≡ true → test 16 ≡ true) → Passes test (unadmitted asked)
+  sound-left p m h l w t11 t12 t16 =
+      by-first
+      (more (unfound 14 (placeIf (outOfRange n d) 0) ranged)
+      (more (unfound 13 (badRule n unread 0 rules) l)
+      (more (unfound 13 (badWish 0 0 row) w)
+      (more no-cause
+      (more (by-place 11 t11 (placeIf (wrongLength n row) 0))
+      (more no-cause
+      (more (by-place 12 t12 (placeIf (oversized n (length (clauses rules)) (literals (clauses rules))) 0))
+      (more (entries asksEntries t16) last))))))))
+    where
+      ranged : placeIf (outOfRange n d) 0 ≡ none
+      ranged = rw (ne-eqb n 0 (λ e. omega (arith, p)), le-ltb maxVariables n m, le-ltb maxLimit d h)
+
+      entries : (b : Bool) → (b ≡ true → test 16 ≡ true) → Passes test (causeAt 16 (cond b (emptyClause 0 (clauses rules)) none))
+      entries true t = by-place 16 (t refl) (emptyClause 0 (clauses rules))
+      entries false t = no-cause
 
 -- n variables in range and a sound list are admitted, where nothing else is lent
 pub plain-admitted : (n : ℕ) (rules : List ℤ) → 0 < n → n ≤ maxVariables → SoundList n rules → Admitted (plainProblem n rules)

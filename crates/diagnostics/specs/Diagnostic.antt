@@ -1,7 +1,7 @@
 -- What a program writes on standard error where it refuses its two files: one line with the file's name, the line and the column, what is wrong and what would be right. Standard output has what document 01 says ("Examples"), the number and the place.
 use mathlib.Core.Bool.{Bool, true, false, cond}
 use mathlib.Core.List.{List, [], _++_}
-use Prim.Native.Nat.{ℕ}
+use Prim.Native.Nat.{ℕ, _+_}
 use lib.Dec.{eqb, leb}
 use lib.ListN.{length}
 use Rattle.decimal.specs.Decimal.{decimal}
@@ -10,7 +10,7 @@ use Rattle.refusal.specs.declared.Refusal.{Refusal}
 use Rattle.dimacs.specs.Format.{pastComments}
 use Rattle.file_position.specs.Position.{positionAt}
 use Rattle.empty_rule.specs.Empty.{emptyRule}
-use Rattle.refusal_words.specs.Reasons.{reason}
+use Rattle.refusal_words.specs.Reasons.{reason, longest}
 use Rattle.problem_files.specs.Problem.{maxFile, problem}
 use Rattle.problem_check.specs.declared.ProblemCheck.the-variants.{TooLong, Refused, Passed}
 use Rattle.problem_check.specs.declared.ProblemCheck.{ProblemCheck}
@@ -66,4 +66,4 @@ diagnostic asksEntries f = saidOf f (checkOf asksEntries (problem (f .rules) (f 
 
 -- no line is longer than its name and so much: two numbers of twenty digits, five bytes around them, and the longest sentence
 abbrev pub most : ℕ
-most = 217
+most = 45 + longest

@@ -5,7 +5,6 @@ mod spot;
 use problem_check::ProblemCheck;
 use spot::Spot;
 ghost use Prim.Native.Nat.{_+_, _≤_};
-ghost use mathlib.Core.Path.{_≡_};
 ghost use lib.ListN.{length};
 ghost use Rattle.writing.specs.Wrote.{Wrote};
 ghost use Rattle.diagnostics.specs.Diagnostic.{lineAt, diagnostic, most};

@@ -14,7 +14,7 @@ abbrev pub emptyAt : Bool → ℕ → Option ℤ → (Bool → ℕ) → ℕ
 emptyAt filled place none rest = place
 emptyAt filled place (some x) rest = cond (closes x) (cond filled (rest false) place) (rest true)
 
--- The place of the 0 that closes the first clause without literals, among tokens of a file of so many bytes. It is asked of files that were read and have one; of any other it is the file's length, or the place of a malformed token, where reading ends.
+-- The place of the 0 that closes the first clause without literals, among tokens of a file of so many bytes. It is asked of files that were read and have one; where none comes first, it is the file's length, or the place of a malformed token.
 abbrev pub emptyAmong : Bool → ℕ → List Token → ℕ
 emptyAmong filled size [] = size
 emptyAmong filled size (t ∷ ts) = emptyAt filled (t .place) (signed (t .bytes)) (λ f. emptyAmong f size ts)

@@ -8,8 +8,8 @@ ghost use Rattle.dimacs.specs.Tokens.{tokensFrom};
 ghost use Rattle.empty_rule.specs.Empty.{emptyAmong, emptyRule};
 
 // The place of the 0 that closes the first rule without entries. It is asked of files that were read and
-// have one; of any other it is the place where the search ends: the file's end, a malformed token, or
-// where the header should be.
+// have one; where none comes first, it is the place where the search ends: the file's end, a malformed
+// token, or where the header should be.
 pub fn find_empty(file: &[u8]) -> usize
     ensures { λ r. ⌜ r ≡ emptyRule (now (file .entry)) ⌝ }
 {

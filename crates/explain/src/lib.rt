@@ -28,8 +28,8 @@ pub fn explain_refusal(
 }
 
 // Space for a path and the longest text behind it.
-fn space() -> [u8; 4313]
-    ensures { λ r. ⌜ 4313 ≡ length r ⌝ }
+fn space() -> [u8; 4336]
+    ensures { λ r. ⌜ 4336 ≡ length r ⌝ }
 {
-    [0; 4313]
+    [0; 4336]
 }

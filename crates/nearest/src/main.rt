@@ -14,7 +14,7 @@ ghost use Rattle.solution_text.specs.Lines.{longest};
 fn main() {
     match options::first_asked() {
         Asked::Help => options::print_help(
-            b"usage: nearest [RULES WISH]\n\nPrints the least number of wishes that a permitted choice breaks, and the first such choice:\n`o` and the number, `s OPTIMUM FOUND`, and on `v` lines each setting's number, with a minus\nwhere it is off; or `s UNSATISFIABLE` where no choice meets the rules.\n\nRULES is a rule file and WISH a wish file, of at most 65536 bytes each; without them,\nrules.cnf and wish.txt of the current folder. A refusal prints its number and its place,\nand a line on standard error says where, what is wrong and what would be right.\n\n  --help     prints this\n  --version  prints the version\n",
+            b"usage: nearest [RULES WISH]\n\nPrints the least number of wishes that a permitted choice breaks, and the first such choice:\n`o` and the number, `s OPTIMUM FOUND`, and on `v` lines each setting's number, with a minus\nwhere it is off; or `s UNSATISFIABLE` where no choice meets the rules.\n\nRULES is a rule file and WISH a wish file, of at most 65536 bytes each; without them,\nrules.cnf and wish.txt of the current folder.\n",
         ),
         Asked::Version => options::print_version(b"nearest"),
         Asked::Nothing => run_files(),

@@ -1,6 +1,7 @@
 // Reads `rules.cnf` and `wish.txt` of the current folder, and prints the rules, the wishes and the limit
 // as an OPB file, or the line of a refusal. What is printed is `opbPrinted` in
-// opb_text/specs/Printed.antt.
+// opb_text/specs/Printed.antt, and what is said of a refusal on standard error `diagnostic` in
+// diagnostics/specs/Diagnostic.antt.
 use input_file::FilesRead;
 use libc::STDOUT_FILENO;
 use options::Asked;
@@ -11,7 +12,7 @@ ghost use Rattle.opb_format.specs.Sizes.{longest};
 fn main() {
     match options::first_asked() {
         Asked::Help => options::print_help(
-            b"usage: opb\n\nPrints the rules, the wishes and their limit as an OPB file, for pseudo-Boolean solvers.\n\nThe files are rules.cnf and wish.txt of the current folder, of at most 65536 bytes each.\nA refusal prints its number and its place, and a line on standard error says where, what\nis wrong and what would be right.\n\n  --help     prints this\n  --version  prints the version\n",
+            b"usage: opb\n\nPrints the rules, the wishes and their limit as an OPB file, for pseudo-Boolean solvers.\n\nThe files are rules.cnf and wish.txt of the current folder, of at most 65536 bytes each.\n",
         ),
         Asked::Version => options::print_version(b"opb"),
         Asked::Nothing => {

@@ -11,13 +11,11 @@ pub enum Asked {
     Nothing,
 }
 
-// What the first argument asks for; a program without one asks for nothing.
+// What the first argument asks for. One that is absent or too long is an empty word here, and asks for
+// nothing.
 pub fn first_asked() -> Asked {
     let mut word = io::buffer();
     let k = os::arg(1, &mut word);
-    if os::errno() != 0 {
-        return Asked::Nothing;
-    }
     asked_by(&word[..k])
 }
 
@@ -50,9 +48,13 @@ fn same_bytes(a: &[u8], b: &[u8]) -> bool
     true
 }
 
-// Prints how to call the program.
-pub fn print_help(help: &[u8]) {
-    if !io::write_all(STDOUT_FILENO, help) {
+// Prints how to call the program, and what all programs have in common.
+pub fn print_help(usage: &[u8]) {
+    io::write_all(STDOUT_FILENO, usage);
+    if !io::write_all(
+        STDOUT_FILENO,
+        b"A refusal prints its number and its place, and a line on standard error says where, what\nis wrong and what would be right.\n\n  --help     prints this\n  --version  prints the version\n",
+    ) {
         os::fail(b"standard output");
     }
 }

@@ -2,12 +2,24 @@
 ghost use Prim.Native.Nat.{_+_, _≤_};
 ghost use lib.ListN.{length};
 ghost use Rattle.writing.specs.Wrote.{Wrote};
-ghost use Rattle.refusal_words.specs.Reasons.{reason, wrongCount};
+ghost use Rattle.refusal_words.specs.Reasons.{wrongCount, ruleReason, wishReason, reason, longest};
 
 // Puts the sentence for a refusal's number, or for a file that is too long, which has the number 0.
 pub fn put_reason(number: usize, at_end: bool, out: &mut [u8], at: usize) -> usize
-    requires { ⌜ at + 172 ≤ length (now out) ⌝ }
+    requires { ⌜ at + longest ≤ length (now out) ⌝ }
     ensures { λ r. ⌜ Wrote (reason number «at_end») (now (out .entry)) at (now (out .exit)) r ⌝ }
+{
+    if number <= 7 {
+        put_rule_reason(number, at_end, out, at)
+    } else {
+        put_wish_reason(number, out, at)
+    }
+}
+
+// The sentences of a rule file.
+fn put_rule_reason(number: usize, at_end: bool, out: &mut [u8], at: usize) -> usize
+    requires { ⌜ at + longest ≤ length (now out) ⌝ }
+    ensures { λ r. ⌜ Wrote (ruleReason number «at_end») (now (out .entry)) at (now (out .exit)) r ⌝ }
 {
     match number {
         0 => text::put_bytes(
@@ -16,7 +28,7 @@ pub fn put_reason(number: usize, at_end: bool, out: &mut [u8], at: usize) -> usi
             at,
         ),
         1 => text::put_bytes(
-            b"no header here; the first line that is no comment must be `p cnf N C`, with single spaces and a line feed right behind C",
+            b"no header here; the first line that is no comment must be `p cnf N C`, with single spaces, numbers of one to five digits without leading zeros, and a line feed right behind C",
             out,
             at,
         ),
@@ -26,7 +38,7 @@ pub fn put_reason(number: usize, at_end: bool, out: &mut [u8], at: usize) -> usi
             at,
         ),
         3 => text::put_bytes(
-            b"this is no number; an entry is a setting's number, with a minus for off, 0 closes a rule, and a comment has a line of its own that begins with c",
+            b"this is neither an entry nor 0; an entry is a setting's number without leading zeros, with a minus for off, 0 closes a rule, and a comment has a line of its own that begins with c",
             out,
             at,
         ),
@@ -41,8 +53,18 @@ pub fn put_reason(number: usize, at_end: bool, out: &mut [u8], at: usize) -> usi
             out,
             at,
         ),
+        _ => at,
+    }
+}
+
+// The sentences of a wish file, and of both files together.
+fn put_wish_reason(number: usize, out: &mut [u8], at: usize) -> usize
+    requires { ⌜ at + longest ≤ length (now out) ⌝ }
+    ensures { λ r. ⌜ Wrote (wishReason number) (now (out .entry)) at (now (out .exit)) r ⌝ }
+{
+    match number {
         8 => text::put_bytes(
-            b"this line is malformed; numbers stand right-justified in columns of 5, three on line 1 (n, wishes, limit), then two for each wish (setting, 1 or 0), and nothing behind them",
+            b"this line is missing, malformed or one too many; numbers stand right-justified in columns of 5, n, wishes and limit on line 1, then setting and 1 or 0 for each wish, with a line feed right behind",
             out,
             at,
         ),
@@ -52,22 +74,22 @@ pub fn put_reason(number: usize, at_end: bool, out: &mut [u8], at: usize) -> usi
             at,
         ),
         10 => text::put_bytes(
-            b"this wish is out of range; its setting is 1 to n and above that of the line before, and its value is 1 for on or 0 for off",
+            b"this wish is out of range or order; its setting is 1 to n and above that of the wish before, and its value is 1 for on or 0 for off",
             out,
             at,
         ),
         11 => text::put_bytes(
-            b"the files differ in how many settings there are; n of this file must be N of the rule file",
+            b"the files differ in how many settings there are; n of this file must be N of the rule file, which beside a wish file is at most 256",
             out,
             at,
         ),
         12 => text::put_bytes(
-            b"this rule file is too large for wishes; with wishes there are at most 4096 rules and 16384 entries",
+            b"this rule file is too large; beside a wish file there are at most 4096 rules and 16384 entries",
             out,
             at,
         ),
         16 => text::put_bytes(
-            b"this rule has no entries, which OPB has no line for; give it an entry, or take it out",
+            b"this rule has no entries, which OPB has no line for; give it an entry, or take it out and count one rule less in C",
             out,
             at,
         ),
@@ -75,9 +97,9 @@ pub fn put_reason(number: usize, at_end: bool, out: &mut [u8], at: usize) -> usi
     }
 }
 
-// Puts what is wrong with the number of rules.
+// What is wrong with the number of rules.
 fn put_wrong_count(at_end: bool, out: &mut [u8], at: usize) -> usize
-    requires { ⌜ at + 172 ≤ length (now out) ⌝ }
+    requires { ⌜ at + longest ≤ length (now out) ⌝ }
     ensures { λ r. ⌜ Wrote (wrongCount «at_end») (now (out .entry)) at (now (out .exit)) r ⌝ }
 {
     if at_end {

@@ -1,5 +1,6 @@
 // Reads `rules.cnf` and `wish.txt` of the current folder, and prints the rule file of the rewritten
-// rules, or the line of a refusal. What is printed is `printed` in rewrite_text/specs/Printed.antt.
+// rules, or the line of a refusal. What is printed is `printed` in rewrite_text/specs/Printed.antt, and what
+// is said of a refusal on standard error `diagnostic` in diagnostics/specs/Diagnostic.antt.
 use input_file::FilesRead;
 use libc::STDOUT_FILENO;
 use options::Asked;
@@ -10,7 +11,7 @@ ghost use Rattle.rewrite_text.specs.Printed.{longest};
 fn main() {
     match options::first_asked() {
         Asked::Help => options::print_help(
-            b"usage: rewrite\n\nPrints plain rules, as a rule file, that can be met by just the choices that meet the given\nrules and break no more wishes than the limit of the wish file.\n\nThe files are rules.cnf and wish.txt of the current folder, of at most 65536 bytes each.\nA refusal prints its number and its place, and a line on standard error says where, what\nis wrong and what would be right.\n\n  --help     prints this\n  --version  prints the version\n",
+            b"usage: rewrite\n\nPrints plain rules, as a rule file, which just those choices can be completed to meet that\nmeet the given rules and break no more wishes than the limit of the wish file.\n\nThe files are rules.cnf and wish.txt of the current folder, of at most 65536 bytes each.\n",
         ),
         Asked::Version => options::print_version(b"rewrite"),
         Asked::Nothing => {

@@ -1,40 +1,43 @@
--- What a program prints and what it says on standard error speak of the same refusal: the line of a refusal is printed for just the files that the check behind the diagnostic refuses, and it is that refusal's.
-use mathlib.Core.Path.{_≡_, refl, sym, ap, _∙_}
-use mathlib.Core.Bool.{Bool, true, false, cond, _||_}
-use mathlib.Core.List.{List}
+-- What a program prints and what it says on standard error, by what its two files are. Both speak of the same refusal.
+use mathlib.Core.Path.{_≡_, refl, ap, _∙_}
+use mathlib.Core.Bool.{Bool, true, false, cond}
+use mathlib.Core.List.{List, []}
 use mathlib.Core.Option.{Option, none, some}
 use Prim.Native.Nat.{ℕ, _≤_}
 use native.Mathlib.Nat.{le-refl}
 use native.Mathlib.Omega.{arith}
-use lib.Dec.{eqb, ltb}
 use lib.IntN.{ℤ}
 use lib.ListN.{length}
 use borrow.Author.Tests.{le-ltb}
 use Rattle.refusal.specs.declared.Refusal.{Refusal}
 use Rattle.refusal.specs.Laws.{room-enough}
-use Rattle.refusal.specs.Reply.{Cause, placeIf, first, causeAt, firstFound}
-use Rattle.limits.specs.Limits.{maxVariables, maxLimit}
+use Rattle.limits.specs.Limits.{maxLimit}
 use Rattle.causes.specs.Admitted.{refused-lent, room-decides}
-use Rattle.causes.specs.Lent.{Lent, withRoom, wishedProblem, exportedProblem, outOfRange, unadmitted, refusalOf}
+use Rattle.causes.specs.Lent.{Lent, withRoom, wishedProblem, exportedProblem, unadmitted, refusalOf}
 use Rattle.dimacs.specs.Format as rule
+use Rattle.dimacs.specs.Written.{written}
 use Rattle.wish_file.specs.Format as wish
 use Rattle.wish_file.specs.RoundTrip as accepted-wishes
 use Rattle.opb_format.specs.Opb.{opbOf}
 use Rattle.totalizer.specs.Totalizer.{rewrittenVariables, rewritten}
-use Rattle.dimacs.specs.Written.{written}
 use Rattle.distance.specs.Distance.{nearest}
 use Rattle.solution_text.specs.Lines.{solution}
 use Rattle.report.specs.Report.{refusalLine}
 use Rattle.problem_files.specs.Problem.{Problem, silent, refuses, gives, tooLong, together, withWishes, problem, unlessRefused, printedFor}
-use Rattle.problem_check.specs.Check.{lentOf, refusedFor}
-use Rattle.nearest_text.specs.Printed.{nearestRefused, chosen, withoutLimit, nearestPrinted}
-use Rattle.rewrite_text.specs.Printed.{rewritingRefused, rewrittenText, printed}
-use Rattle.opb_text.specs.Printed.{exportRefused, opbText, opbPrinted}
+use Rattle.problem_check.specs.Check.{lentOf, refusedFor, verdict, checkOf}
+use Rattle.problem_check.specs.declared.ProblemCheck.the-variants.{Refused, Passed}
+use Rattle.diagnostics.specs.Diagnostic.{Named, spotOf, spotTooLong, lineAt, saidOf, diagnostic}
+use Rattle.nearest_text.specs.Printed.{nearestRefused, chosen, nearestPrinted}
+use Rattle.rewrite_text.specs.Printed.{rewritingRefused, printed}
+use Rattle.opb_text.specs.Printed.{exportRefused, opbPrinted}
 
--- a refused problem has the line of its refusal, and one that is not has its own text
-pub record Alike (asksEntries : Bool) (answer : ℕ → List ℤ → List ℕ → ℕ → List ℕ) (text : ℕ → List ℤ → List ℕ → ℕ → List ℕ) (p : Problem) : Type 0 where
-  pub line : (r : Refusal) → refusedFor asksEntries p ≡ some r → printedFor answer p ≡ refusalLine r
-  pub passed : refusedFor asksEntries p ≡ none → printedFor answer p ≡ printedFor text p
+-- Of two files of which one is too long, nothing is printed, and the line names the first byte too many. Of two that are refused, the refusal's line is printed, and the line on standard error is of that refusal. Of two others the text of the answer is printed, and nothing is said.
+pub record Alike (asksEntries : Bool) (f : Named) (out : List ℕ) (text : ℕ → List ℤ → List ℕ → ℕ → List ℕ) : Type 0 where
+  pub long : problem (f .rules) (f .wishes) ≡ silent → (out ≡ []) × (diagnostic asksEntries f ≡ lineAt f (spotTooLong (f .rules)) 0)
+  pub refused : (r : Refusal) → refusedFor asksEntries (problem (f .rules) (f .wishes)) ≡ some r
+      → (out ≡ refusalLine r) × (diagnostic asksEntries f ≡ lineAt f (spotOf (r .number) (r .place) (f .rules)) (r .number))
+  pub passed : (n : ℕ) (l : List ℤ) (row : List ℕ) (d : ℕ) → problem (f .rules) (f .wishes) ≡ gives n l row d → refusedFor asksEntries (gives n l row d) ≡ none
+      → (out ≡ text n l row d) × (diagnostic asksEntries f ≡ [])
 
 -- the refusal of a call that is lent just the room that it needs
 with-room : (s : Lent) (needed : ℕ) → refusalOf (withRoom needed needed s) ≡ unadmitted s
@@ -47,29 +50,43 @@ with-room s needed = go (unadmitted s) refl
 -- a program whose call is refused for the first cause of what it is lent
 module _ (asksEntries : Bool) (refusedBy : ℕ → List ℤ → List ℕ → ℕ → Option Refusal) (text : ℕ → List ℤ → List ℕ → ℕ → List ℕ) where
   abbrev answer : ℕ → List ℤ → List ℕ → ℕ → List ℕ
-  answer n rules row d = unlessRefused (refusedBy n rules row d) (text n rules row d)
+  answer n l row d = unlessRefused (refusedBy n l row d) (text n l row d)
 
-  alike : (p : Problem) → ((n : ℕ) (rules : List ℤ) (row : List ℕ) (d : ℕ) → p ≡ gives n rules row d → refusedBy n rules row d ≡ unadmitted (lentOf asksEntries n rules row d))
-      → Alike asksEntries answer text p
-  alike silent same = record { line = λ r e. cc; passed = λ e. refl }
-  alike (refuses q) same = record { line = λ r e. let z : q ≡ r = cc in ap refusalLine z; passed = λ e. cc }
-  alike (gives n rules row d) same =
-      let is = same n rules row d refl in
+  -- its call is refused as the check of its files says
+  abbrev Checked : Problem → Type 0
+  Checked p =
+      (n : ℕ) (l : List ℤ) (row : List ℕ) (d : ℕ) → p ≡ gives n l row d → refusedBy n l row d ≡ unadmitted (lentOf asksEntries n l row d)
+
+  prints : (p : Problem) → Checked p → (r : Refusal) → refusedFor asksEntries p ≡ some r → (printedFor answer p ≡ refusalLine r) × (checkOf asksEntries p ≡ Refused r)
+  prints silent same r e = absurd (let z : _≡_ {A = ℕ} 0 1 = cc in omega arith)
+  prints (refuses q) same r e = let z : q ≡ r = cc in (ap refusalLine z, ap Refused z)
+  prints (gives n l row d) same r e = (ap (λ (o : Option Refusal). unlessRefused o (text n l row d)) (same n l row d refl ∙ e), ap verdict e)
+
+  passes : (p : Problem) → Checked p → (n : ℕ) (l : List ℤ) (row : List ℕ) (d : ℕ) → p ≡ gives n l row d → refusedFor asksEntries (gives n l row d) ≡ none
+      → (printedFor answer p ≡ text n l row d) × (checkOf asksEntries p ≡ Passed)
+  passes p same n l row d e f = (
+    ap (printedFor answer) e ∙ ap (λ (o : Option Refusal). unlessRefused o (text n l row d)) (same n l row d e ∙ f),
+    ap (checkOf asksEntries) e ∙ ap verdict f,
+  )
+
+  alike : (f : Named) → Checked (problem (f .rules) (f .wishes)) → Alike asksEntries f (printedFor answer (problem (f .rules) (f .wishes))) text
+  alike f same =
+      let p : Problem = problem (f .rules) (f .wishes) in
       record {
-        line = λ r e. ap (λ (o : Option Refusal). unlessRefused o (text n rules row d)) (is ∙ e);
-        passed = λ e. ap (λ (o : Option Refusal). unlessRefused o (text n rules row d)) (is ∙ e);
+        long = λ e. (ap (printedFor answer) e, ap (λ (q : Problem). saidOf f (checkOf asksEntries q)) e);
+        refused = λ r e. (prints p same r e .0, ap (saidOf f) (prints p same r e .1));
+        passed = λ n l row d e g. (passes p same n l row d e g .0, ap (saidOf f) (passes p same n l row d e g .1));
       }
 
--- `rewrite`, for any two files
-pub rewrite-alike : (rules wishes : List ℕ) → Alike false rewrittenText (λ n l row d. written (rewrittenVariables n row) (rewritten n l row d)) (problem rules wishes)
-rewrite-alike rules wishes =
-    alike false rewritingRefused (λ n l row d. written (rewrittenVariables n row) (rewritten n l row d)) (problem rules wishes)
+-- `rewrite`, for any two files and their names
+pub rewrite-alike : (f : Named) → Alike false f (printed (f .rules) (f .wishes)) (λ n l row d. written (rewrittenVariables n row) (rewritten n l row d))
+rewrite-alike f =
+    alike false rewritingRefused (λ n l row d. written (rewrittenVariables n row) (rewritten n l row d)) f
     (λ n l row d e. with-room (wishedProblem n l row d) (length (rewritten n l row d)))
 
 -- `opb`
-pub opb-alike : (rules wishes : List ℕ) → Alike true opbText opbOf (problem rules wishes)
-opb-alike rules wishes =
-    alike true exportRefused opbOf (problem rules wishes) (λ n l row d e. with-room (exportedProblem n l row d) (length (opbOf n l row d)))
+pub opb-alike : (f : Named) → Alike true f (opbPrinted (f .rules) (f .wishes)) opbOf
+opb-alike f = alike true exportRefused opbOf f (λ n l row d e. with-room (exportedProblem n l row d) (length (opbOf n l row d)))
 
 -- a limit that a wish file has is no cause to refuse, so that none at all is as good
 limit-alike : (n : ℕ) (l : List ℤ) (row : List ℕ) (d : ℕ) → d ≤ maxLimit → unadmitted (wishedProblem n l row 0) ≡ unadmitted (wishedProblem n l row d)
@@ -93,7 +110,7 @@ limit-read rules wishes n l row d e = long (tooLong rules wishes) e
     long false f = both (rule.reading rules) f
 
 -- `nearest`
-pub nearest-alike : (rules wishes : List ℕ) → Alike false withoutLimit (λ n l row d. solution (nearest n l row) (chosen n l row)) (problem rules wishes)
-nearest-alike rules wishes =
-    alike false (λ n l row d. nearestRefused n l row) (λ n l row d. solution (nearest n l row) (chosen n l row)) (problem rules wishes)
-    (λ n l row d e. with-room (wishedProblem n l row 0) n ∙ limit-alike n l row d (limit-read rules wishes n l row d e))
+pub nearest-alike : (f : Named) → Alike false f (nearestPrinted (f .rules) (f .wishes)) (λ n l row d. solution (nearest n l row) (chosen n l row))
+nearest-alike f =
+    alike false (λ n l row d. nearestRefused n l row) (λ n l row d. solution (nearest n l row) (chosen n l row)) f
+    (λ n l row d e. with-room (wishedProblem n l row 0) n ∙ limit-alike n l row d (limit-read (f .rules) (f .wishes) n l row d e))

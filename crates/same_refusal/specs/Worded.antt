@@ -12,11 +12,12 @@ use borrow.Author.Tests.{eqb-true, ltb-true, le-ltb, ne-eqb, not-true}
 use Rattle.literal.specs.Literal.{variable}
 use Rattle.formula.specs.Formula.{all, any, clauses, literals}
 use Rattle.refusal.specs.declared.Refusal.{Refusal}
-use Rattle.refusal.specs.Reply.{refusal, first, placeIf, causeAt}
+use Rattle.refusal.specs.Passing.{Passes, last, more, no-cause, some-cause, by-place, by-first}
+use Rattle.refusal.specs.Reply.{refusal, placeIf}
 use Rattle.limits.specs.Limits.{maxVariables, maxLiterals, maxLimit}
 use Rattle.rule_list.specs.Sound.{SoundList, Scan, unread, unclosed, badRule}
-use Rattle.causes.specs.Empty.{emptyClause}
-use Rattle.causes.specs.Lent.{Lent, outOfRange, wrongLength, oversized, unadmitted}
+use Rattle.causes.specs.Admitted.{sound-left}
+use Rattle.causes.specs.Lent.{unadmitted}
 use Rattle.causes.specs.Sound.{badWish}
 use Rattle.dimacs.specs.Accepted as accepted-rules
 use Rattle.dimacs.specs.Format as rule
@@ -58,36 +59,6 @@ each test (x ∷ l) k t e = go (test x) refl (eqb k x) refl t e (each test l k)
     go false f b g h i later = absurd (true≢false (sym h))
     go true f true g h i later = ap test (eqb-true k x g) ∙ f
     go true f false g h i later = later h i
-
--- a cause whose number, if it applies, passes a test
-record Passes (test : ℕ → Bool) (o : Option Refusal) : Type 0 where
-  number : (r : Refusal) → o ≡ some r → test (r .number) ≡ true
-
-data AllPass (test : ℕ → Bool) : List (Option Refusal) → Type 0 where
-  last : AllPass test []
-  more : {o : Option Refusal} {causes : List (Option Refusal)} → Passes test o → AllPass test causes → AllPass test (o ∷ causes)
-
-module _ {test : ℕ → Bool} where
-  no-cause : Passes test none
-  no-cause = record { number = λ r e. absurd (Option·some-ne-none r (sym e)) }
-
-  some-cause : (q : Refusal) → test (q .number) ≡ true → Passes test (some q)
-  some-cause q t = record { number = λ r e. (let same : q .number ≡ r .number = cc in ap test (sym same) ∙ t) }
-
-  by-place : (k : ℕ) → test k ≡ true → (o : Option ℕ) → Passes test (causeAt k o)
-  by-place k t none = no-cause
-  by-place k t (some place) = some-cause (refusal k place) t
-
-  unfound : (k : ℕ) (o : Option ℕ) → o ≡ none → Passes test (causeAt k o)
-  unfound k o e = rw (e) no-cause
-
-  or-later : (o : Option Refusal) (causes : List (Option Refusal)) → Passes test o → Passes test (first causes) → Passes test (first (o ∷ causes))
-  or-later none causes here later = later
-  or-later (some r) causes here later = here
-
-  by-first : {causes : List (Option Refusal)} → AllPass test causes → Passes test (first causes)
-  by-first last = no-cause
-  by-first (more {o} {causes} here later) = or-later o causes here (by-first later)
 
 -- The rule file.
 abbrev RuleCause : Option Refusal → Type 0
@@ -179,40 +150,11 @@ wish-number file r e = header (lineNumbers wish.headerColumns file) e
         ranged (wish.outside n m d) n m d _ (lines-cause n m 0 (lineSize wish.headerColumns) s) f
 
 -- Two good files: what was read of them is in range (not 14) and sound (not 13).
-record Good (n : ℕ) (l : List ℤ) (row : List ℕ) (d : ℕ) : Type 0 where
-  least : 1 ≤ n
-  most : n ≤ maxVariables
-  limit : d ≤ maxLimit
-  rules : SoundList n l
-  wishes : badWish 0 0 row ≡ none
-
-module _ (n : ℕ) (l : List ℤ) (row : List ℕ) (d : ℕ) (good : Good n l row d) where
-  in-range : placeIf (outOfRange n d) 0 ≡ none
-  in-range = rw (ne-eqb n 0 (λ e. omega (arith, good .least)), le-ltb maxVariables n (good .most), le-ltb maxLimit d (good .limit))
-
-  entry-cause : (asksEntries : Bool) → Passes (among (jointCauses asksEntries)) (causeAt 16 (cond asksEntries (emptyClause 0 (clauses l)) none))
-  entry-cause true = by-place 16 refl (emptyClause 0 (clauses l))
-  entry-cause false = no-cause
-
-  -- what both calls are lent, but for what they ask
-  abbrev lent : Bool → Lent
-  lent asksEntries = record { n = n; d = d; rules = l; row = some row; choice = none; asksEntries = asksEntries; needed = 0; room = 0 }
-
-  joint-cause : (asksEntries : Bool) → Passes (among (jointCauses asksEntries)) (unadmitted (lent asksEntries))
-  joint-cause asksEntries =
-      by-first
-      (more (unfound 14 (placeIf (outOfRange n d) 0) in-range)
-      (more (unfound 13 (badRule n unread 0 l) (good .rules))
-      (more (unfound 13 (badWish 0 0 row) (good .wishes))
-      (more no-cause
-      (more (by-place 11 refl (placeIf (wrongLength n row) 0))
-      (more no-cause
-      (more (by-place 12 refl (placeIf (oversized n (length (clauses l)) (literals (clauses l))) 0))
-      (more (entry-cause asksEntries) last))))))))
-
-  joint-number : (asksEntries : Bool) (r : Refusal) → unadmitted (lentOf asksEntries n l row d) ≡ some r → among (jointCauses asksEntries) (r .number) ≡ true
-  joint-number true r e = joint-cause true .number r e
-  joint-number false r e = joint-cause false .number r e
+joint-number : (n : ℕ) (l : List ℤ) (row : List ℕ) (d : ℕ) → 1 ≤ n → n ≤ maxVariables → d ≤ maxLimit → SoundList n l → badWish 0 0 row ≡ none → (asksEntries : Bool) (r : Refusal)
+    → unadmitted (lentOf asksEntries n l row d) ≡ some r → among (jointCauses asksEntries) (r .number) ≡ true
+joint-number n l row d p m h a b true r e = sound-left (among (jointCauses true)) n l row d true p m h a b refl refl (λ f. refl) .number r e
+joint-number n l row d p m h a b false r e =
+    sound-left (among (jointCauses false)) n l row d false p m h a b refl refl (λ f. absurd (true≢false (sym f))) .number r e
 
 -- a cause of any of the three kinds is a program's
 rule-programs : (asksEntries : Bool) (k : ℕ) → among ruleCauses k ≡ true → among (programCauses asksEntries) k ≡ true
@@ -239,8 +181,7 @@ program-number asksEntries rules wishes r e = long (tooLong rules wishes) e
     both n c l f (wish.gives v m d row) g h =
         let a = accepted-rules.accepted rules n c l f in
         let b = accepted-wishes.accepted wishes v m d row g in
-        let good : Good n l row d = record { least = a .least; most = a .most; limit = b .limit; rules = a .sound; wishes = b .sound } in
-        joint-programs asksEntries (r .number) (joint-number n l row d good asksEntries r h)
+        joint-programs asksEntries (r .number) (joint-number n l row d (a .least) (a .most) (b .limit) (a .sound) (b .sound) asksEntries r h)
 
     read : (g : rule.Reading) → rule.reading rules ≡ g → refusedFor asksEntries (together g (wish.reading wishes)) ≡ some r → among (programCauses asksEntries) (r .number) ≡ true
     read (rule.refuses q) f h = told q (rule-programs asksEntries (q .number) (rule-number rules q f)) h

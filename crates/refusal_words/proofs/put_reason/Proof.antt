@@ -1,232 +1,34 @@
--- `refusal_words::put_reason` meets its contract: each arm has the words of its number.
-use mathlib.Core.Path.{_≡_, sym}
-use mathlib.Core.Bool.{Bool}
-use mathlib.Core.List.{[]}
-use Prim.Native.Nat.{ℕ}
+-- `refusal_words::put_reason` meets its contract: by the file that the number is of.
+use borrow.Author.Tests.{le-leb, lt-leb}
 use borrow.Author.Needs.{needs}
-use borrow.Author.Tests.{ne-eqb}
-use Rattle.writing.specs.Wrote.{wrote-as, wrote-none}
-use Rattle.refusal_words.specs.Reasons.{reason}
 use Rattle.refusal_words.proofs.put_reason.Statement.{statement}
 use Rattle.refusal_words.proofs.put_reason.Tie as tie
 
--- a number without a word
-wordless : (number : ℕ) (atEnd : Bool) → (number ≡ 0 → ⊥) → (number ≡ 1 → ⊥) → (number ≡ 2 → ⊥) → (number ≡ 3 → ⊥) → (number ≡ 4 → ⊥) → (number ≡ 6 → ⊥) → (number ≡ 7 → ⊥) → (number ≡ 8 → ⊥) → (number ≡ 9 → ⊥) → (number ≡ 10 → ⊥) → (number ≡ 11 → ⊥) → (number ≡ 12 → ⊥) → (number ≡ 16 → ⊥) → reason number atEnd ≡ []
-wordless number atEnd n0 n1 n2 n3 n4 n6 n7 n8 n9 n10 n11 n12 n16 =
-    rw (ne-eqb number 0 n0, ne-eqb number 1 n1, ne-eqb number 2 n2, ne-eqb number 3 n3, ne-eqb number 4 n4, ne-eqb number 6 n6, ne-eqb number 7 n7, ne-eqb number 8 n8, ne-eqb number 9 n9, ne-eqb number 10 n10, ne-eqb number 11 n11, ne-eqb number 12 n12, ne-eqb number 16 n16)
+put-rule-reason-requires : tie.Need-put-rule-reason-requires
+put-rule-reason-requires c κs = search needs
 
-slice-aggregate-put-bytes : tie.Need-slice-aggregate-put-bytes
-slice-aggregate-put-bytes c = search needs
-
-put-bytes-requires : tie.Need-put-bytes-requires
-put-bytes-requires c κs = search needs
-
-slice-aggregate-put-bytes-2 : tie.Need-slice-aggregate-put-bytes-2
-slice-aggregate-put-bytes-2 c = search needs
-
-put-bytes-requires-2 : tie.Need-put-bytes-requires-2
-put-bytes-requires-2 c κs = search needs
-
-slice-aggregate-put-bytes-3 : tie.Need-slice-aggregate-put-bytes-3
-slice-aggregate-put-bytes-3 c = search needs
-
-put-bytes-requires-3 : tie.Need-put-bytes-requires-3
-put-bytes-requires-3 c κs = search needs
-
-slice-aggregate-put-bytes-4 : tie.Need-slice-aggregate-put-bytes-4
-slice-aggregate-put-bytes-4 c = search needs
-
-put-bytes-requires-4 : tie.Need-put-bytes-requires-4
-put-bytes-requires-4 c κs = search needs
-
-slice-aggregate-put-bytes-5 : tie.Need-slice-aggregate-put-bytes-5
-slice-aggregate-put-bytes-5 c = search needs
-
-put-bytes-requires-5 : tie.Need-put-bytes-requires-5
-put-bytes-requires-5 c κs = search needs
-
-put-wrong-count-requires : tie.Need-put-wrong-count-requires
-put-wrong-count-requires c κs = search needs
-
-slice-aggregate-put-bytes-6 : tie.Need-slice-aggregate-put-bytes-6
-slice-aggregate-put-bytes-6 c = search needs
-
-put-bytes-requires-6 : tie.Need-put-bytes-requires-6
-put-bytes-requires-6 c κs = search needs
-
-slice-aggregate-put-bytes-7 : tie.Need-slice-aggregate-put-bytes-7
-slice-aggregate-put-bytes-7 c = search needs
-
-put-bytes-requires-7 : tie.Need-put-bytes-requires-7
-put-bytes-requires-7 c κs = search needs
-
-slice-aggregate-put-bytes-8 : tie.Need-slice-aggregate-put-bytes-8
-slice-aggregate-put-bytes-8 c = search needs
-
-put-bytes-requires-8 : tie.Need-put-bytes-requires-8
-put-bytes-requires-8 c κs = search needs
-
-slice-aggregate-put-bytes-9 : tie.Need-slice-aggregate-put-bytes-9
-slice-aggregate-put-bytes-9 c = search needs
-
-put-bytes-requires-9 : tie.Need-put-bytes-requires-9
-put-bytes-requires-9 c κs = search needs
-
-slice-aggregate-put-bytes-10 : tie.Need-slice-aggregate-put-bytes-10
-slice-aggregate-put-bytes-10 c = search needs
-
-put-bytes-requires-10 : tie.Need-put-bytes-requires-10
-put-bytes-requires-10 c κs = search needs
-
-slice-aggregate-put-bytes-11 : tie.Need-slice-aggregate-put-bytes-11
-slice-aggregate-put-bytes-11 c = search needs
-
-put-bytes-requires-11 : tie.Need-put-bytes-requires-11
-put-bytes-requires-11 c κs = search needs
-
-slice-aggregate-put-bytes-12 : tie.Need-slice-aggregate-put-bytes-12
-slice-aggregate-put-bytes-12 c = search needs
-
-put-bytes-requires-12 : tie.Need-put-bytes-requires-12
-put-bytes-requires-12 c κs = search needs
+put-wish-reason-requires : tie.Need-put-wish-reason-requires
+put-wish-reason-requires c κs = search needs
 
 same-length : tie.Need-same-length
 same-length c = search needs
 
 returns : tie.Need-returns
-returns c = rw (c .before .before .before .before .before .match .keys1) (c .before .before .put-bytes .ensures)
+returns c = rw (le-leb (c .before .before .before .before .before .before .args .number) 7 (c .before .before .before .before .if1 .taken)) (c .before .before .put-rule-reason .ensures)
 
 same-length-2 : tie.Need-same-length-2
 same-length-2 c = search needs
 
 returns-2 : tie.Need-returns-2
-returns-2 c = rw (c .before .before .before .before .before .match .keys2) (c .before .before .put-bytes2 .ensures)
-
-same-length-3 : tie.Need-same-length-3
-same-length-3 c = search needs
-
-returns-3 : tie.Need-returns-3
-returns-3 c = rw (c .before .before .before .before .before .match .keys3) (c .before .before .put-bytes3 .ensures)
-
-same-length-4 : tie.Need-same-length-4
-same-length-4 c = search needs
-
-returns-4 : tie.Need-returns-4
-returns-4 c = rw (c .before .before .before .before .before .match .keys4) (c .before .before .put-bytes4 .ensures)
-
-same-length-5 : tie.Need-same-length-5
-same-length-5 c = search needs
-
-returns-5 : tie.Need-returns-5
-returns-5 c = rw (c .before .before .before .before .before .match .keys5) (c .before .before .put-bytes5 .ensures)
-
-same-length-6 : tie.Need-same-length-6
-same-length-6 c = search needs
-
-returns-6 : tie.Need-returns-6
-returns-6 c = rw (c .before .before .before .before .match .keys6) (c .before .before .put-wrong-count .ensures)
-
-same-length-7 : tie.Need-same-length-7
-same-length-7 c = search needs
-
-returns-7 : tie.Need-returns-7
-returns-7 c = rw (c .before .before .before .before .before .match .keys7) (c .before .before .put-bytes6 .ensures)
-
-same-length-8 : tie.Need-same-length-8
-same-length-8 c = search needs
-
-returns-8 : tie.Need-returns-8
-returns-8 c = rw (c .before .before .before .before .before .match .keys8) (c .before .before .put-bytes7 .ensures)
-
-same-length-9 : tie.Need-same-length-9
-same-length-9 c = search needs
-
-returns-9 : tie.Need-returns-9
-returns-9 c = rw (c .before .before .before .before .before .match .keys9) (c .before .before .put-bytes8 .ensures)
-
-same-length-10 : tie.Need-same-length-10
-same-length-10 c = search needs
-
-returns-10 : tie.Need-returns-10
-returns-10 c = rw (c .before .before .before .before .before .match .keys10) (c .before .before .put-bytes9 .ensures)
-
-same-length-11 : tie.Need-same-length-11
-same-length-11 c = search needs
-
-returns-11 : tie.Need-returns-11
-returns-11 c = rw (c .before .before .before .before .before .match .keys11) (c .before .before .put-bytes10 .ensures)
-
-same-length-12 : tie.Need-same-length-12
-same-length-12 c = search needs
-
-returns-12 : tie.Need-returns-12
-returns-12 c = rw (c .before .before .before .before .before .match .keys12) (c .before .before .put-bytes11 .ensures)
-
-same-length-13 : tie.Need-same-length-13
-same-length-13 c = search needs
-
-returns-13 : tie.Need-returns-13
-returns-13 c = rw (c .before .before .before .before .before .match .keys13) (c .before .before .put-bytes12 .ensures)
-
-returns-14 : tie.Need-returns-14
-returns-14 c =
-    let a = c .before .before .args in
-    let others = c .match .rest in
-    wrote-as (sym (wordless (a .number) (a .at-end) (others .0 .0 .0 .0 .0 .0 .0 .0 .0 .0 .0 .0 .1) (others .0 .0 .0 .0 .0 .0 .0 .0 .0 .0 .0 .1) (others .0 .0 .0 .0 .0 .0 .0 .0 .0 .0 .1) (others .0 .0 .0 .0 .0 .0 .0 .0 .0 .1) (others .0 .0 .0 .0 .0 .0 .0 .0 .1) (others .0 .0 .0 .0 .0 .0 .0 .1) (others .0 .0 .0 .0 .0 .0 .1) (others .0 .0 .0 .0 .0 .1) (others .0 .0 .0 .0 .1) (others .0 .0 .0 .1) (others .0 .0 .1) (others .0 .1) (others .1))) (wrote-none (a .out .now) (a .at))
+returns-2 c = rw (lt-leb (c .before .before .before .before .before .before .args .number) 7 (c .before .before .before .before .if1 .left)) (c .before .before .put-wish-reason .ensures)
 
 pub put-reason-spec : {M : Type 1} → statement M
 put-reason-spec =
     tie.close
     (tie.spec
-    slice-aggregate-put-bytes
-    put-bytes-requires
-    slice-aggregate-put-bytes-2
-    put-bytes-requires-2
-    slice-aggregate-put-bytes-3
-    put-bytes-requires-3
-    slice-aggregate-put-bytes-4
-    put-bytes-requires-4
-    slice-aggregate-put-bytes-5
-    put-bytes-requires-5
-    put-wrong-count-requires
-    slice-aggregate-put-bytes-6
-    put-bytes-requires-6
-    slice-aggregate-put-bytes-7
-    put-bytes-requires-7
-    slice-aggregate-put-bytes-8
-    put-bytes-requires-8
-    slice-aggregate-put-bytes-9
-    put-bytes-requires-9
-    slice-aggregate-put-bytes-10
-    put-bytes-requires-10
-    slice-aggregate-put-bytes-11
-    put-bytes-requires-11
-    slice-aggregate-put-bytes-12
-    put-bytes-requires-12
+    put-rule-reason-requires
+    put-wish-reason-requires
     same-length
     returns
     same-length-2
-    returns-2
-    same-length-3
-    returns-3
-    same-length-4
-    returns-4
-    same-length-5
-    returns-5
-    same-length-6
-    returns-6
-    same-length-7
-    returns-7
-    same-length-8
-    returns-8
-    same-length-9
-    returns-9
-    same-length-10
-    returns-10
-    same-length-11
-    returns-11
-    same-length-12
-    returns-12
-    same-length-13
-    returns-13
-    returns-14)
+    returns-2)
