@@ -27,6 +27,7 @@ lineFor name file place number =
     placeText name (positionAt file place .line) (positionAt file place .column)
     ++ (reason number (leb (length file) place) ++ ascii "\n")
 
+-- a place in the rule file, and in the wish file
 abbrev pub inRules : ℕ → Spot
 inRules place = record { wishes = false; place = place }
 
@@ -51,6 +52,7 @@ pub record Named : Type 0 where
   pub rules : List ℕ
   pub wishes : List ℕ
 
+-- the line for a place of one of them
 abbrev pub lineAt : Named → Spot → ℕ → List ℕ
 lineAt f s number = cond (s .wishes) (lineFor (f .wishName) (f .wishes) (s .place) number) (lineFor (f .rulesName) (f .rules) (s .place) number)
 

@@ -1,8 +1,7 @@
 // Where a refusal can be mended.
+use problem_files::MAX_FILE;
 ghost use mathlib.Core.Path.{_≡_};
 ghost use Rattle.diagnostics.specs.Diagnostic.{spotOf, spotTooLong};
-
-const MAX_FILE: usize = 65536;
 
 // A place in the wish file, or in the rule file.
 pub struct Spot {

@@ -7,11 +7,13 @@ use Rattle.words.specs.Words.{ascii}
 use Rattle.options.specs.declared.Asked.the-variants.{Help, Version, Nothing}
 use Rattle.options.specs.declared.Asked.{Asked}
 
+-- two texts are the same
 abbrev pub sameBytes : List ℕ → List ℕ → Bool
 sameBytes [] [] = true
 sameBytes [] (y ∷ b) = false
 sameBytes (x ∷ a) [] = false
 sameBytes (x ∷ a) (y ∷ b) = eqb x y && sameBytes a b
 
+-- a word asks for one of the two if it is just that
 abbrev pub askedBy : List ℕ → Asked
 askedBy word = cond (sameBytes word (ascii "--help")) Help (cond (sameBytes word (ascii "--version")) Version Nothing)

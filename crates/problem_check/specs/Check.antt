@@ -21,6 +21,7 @@ refusedFor asksEntries silent = none
 refusedFor asksEntries (refuses r) = some r
 refusedFor asksEntries (gives n rules row d) = unadmitted (lentOf asksEntries n rules row d)
 
+-- refused, or passed
 abbrev pub verdict : Option Refusal → ProblemCheck
 verdict none = C.the-variants.Passed
 verdict (some r) = C.the-variants.Refused r
@@ -28,8 +29,8 @@ verdict (some r) = C.the-variants.Refused r
 -- the same with "If either file is longer than 65,536 bytes it prints nothing."
 abbrev pub checkOf : Bool → Problem → ProblemCheck
 checkOf asksEntries silent = C.the-variants.TooLong
-checkOf asksEntries (refuses r) = verdict (refusedFor asksEntries (refuses r))
-checkOf asksEntries (gives n rules row d) = verdict (refusedFor asksEntries (gives n rules row d))
+checkOf asksEntries (refuses r) = C.the-variants.Refused r
+checkOf asksEntries (gives n rules row d) = verdict (unadmitted (lentOf asksEntries n rules row d))
 
 -- what an admission comes to
 abbrev pub admitted : A.Admission → ProblemCheck

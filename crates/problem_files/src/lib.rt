@@ -15,7 +15,8 @@ ghost use Rattle.wish_file.specs.Format.{reading};
 ghost use Rattle.problem_files.specs.Problem.{withWishes, problem};
 ghost use Rattle.problem_files.specs.Read.{problemOf, Sized};
 
-const MAX_FILE: usize = 65536;
+// How long a file may be that a program reads.
+pub const MAX_FILE: usize = 65536;
 
 // What the files give beside the list and the row: the number of variables, the lengths of both, and
 // the limit.

@@ -12,7 +12,7 @@ wrongCount atEnd =
     (ascii "the file ends too early; it must close as many rules as the header's C says, each by 0")
     (ascii "this number follows the last rule; the header's C says how many rules there are")
 
--- The causes to refuse a rule file; the flag says whether the place is the file's end. 0 stands for a file, of either kind, that is longer than a program reads. Such a file has no room for 31,001 entries, so that 7 does not come; nothing proves it.
+-- The causes to refuse a rule file; the flag says whether the place is the file's end. 0 stands for a file, of either kind, that is longer than the 65,536 bytes that a program reads. These have no room for 31,001 entries, so that 7 does not come; that is not proved, and 7 has its sentence.
 abbrev pub ruleReason : ℕ → Bool → List ℕ
 ruleReason number atEnd =
     cond (eqb number 0) (ascii "the file is longer than 65536 bytes; a program reads no more than that")

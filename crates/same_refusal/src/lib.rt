@@ -1,1 +1,1 @@
-// Theorems alone: see specs/Same.antt.
+// Theorems alone: see specs/Same.antt and specs/Worded.antt.
