@@ -50,7 +50,10 @@ pub fn files() -> Vec<File> {
     ];
     for megabytes in [1, 4, 16] {
         let bytes = megabytes * 1_000_000;
-        files.push((format!("comment lines of 40 bytes, {megabytes} MB"), behind(|k| if k % 40 == 0 { b'\n' } else { b'c' }, bytes)));
+        files.push((
+            format!("comment lines of 40 bytes, {megabytes} MB"),
+            behind(|k| if k % 40 == 0 { b'\n' } else { b'c' }, bytes),
+        ));
         files.push((format!("one comment line, {megabytes} MB"), behind(|_| b'c', bytes)));
         files.push((format!("blanks, {megabytes} MB"), behind(|_| b' ', bytes)));
         files.push((format!("one rule of 1,280 entries and their repeats, {megabytes} MB"), repeats(bytes)));
