@@ -1,6 +1,6 @@
 -- An answer's refusal is 0 only where the call gave an answer, and never 5: for each of the calls that are lent values.
-use mathlib.Core.Path.{_≡_, refl}
-use mathlib.Core.Bool.{Bool, true, false, cond}
+use mathlib.Core.Path.{_≡_, refl, sym, ap, _∙_}
+use mathlib.Core.Bool.{Bool, true, false, cond, true≢false}
 use mathlib.Core.List.{List}
 use mathlib.Core.Option.{Option, none, some}
 use Prim.Native.Nat.{ℕ}
@@ -24,7 +24,7 @@ use Rattle.encoding.specs.Rewrite.{lentToRewrite, rewriteReply}
 use Rattle.opb_format.specs.Opb.{opbOf}
 use Rattle.opb_writer.specs.Write as opb
 use Rattle.answers.specs.Answers.{answerOf}
-use Rattle.answer_meaning.specs.Numbers.{Numbered, lent-numbered}
+use Rattle.answer_meaning.specs.Numbers.{ordinary, Numbered, lent-numbered}
 
 -- whether a reply is an answer, and no refusal
 abbrev pub isAnswer : Reply → Bool
@@ -37,7 +37,10 @@ pub record Told (reply : Reply) : Type 0 where
   pub never5 : answerOf reply .refusal ≡ 5 → ⊥
 
 pub told-refusal : (r : Refusal) → Numbered (some r) → Told (refusing r)
-told-refusal r cause = record { answered = λ e. absurd (cause .above r refl e); never5 = cause .never5 r refl }
+told-refusal r cause = record { answered = λ e. absurd (unlike 0 refl e); never5 = unlike 5 refl }
+  where
+    unlike : (k : ℕ) → ordinary k ≡ false → r .number ≡ k → ⊥
+    unlike k h e = true≢false (sym (cause .number r refl) ∙ ap ordinary e ∙ h)
 
 pub told-unless : (o : Option Refusal) (verdict a b c : ℕ) → Numbered o → Told (unless o (answering verdict a b c))
 told-unless none verdict a b c cause = record { answered = λ e. refl; never5 = λ e. omega arith }

@@ -195,7 +195,7 @@ module _ (test : ℕ → Bool) (n : ℕ) (rules : List ℤ) (row : List ℕ) (d 
       → test 11 ≡ true → test 12 ≡ true → (asksEntries ≡ true → test 16 ≡ true) → Passes test (unadmitted asked)
   sound-left p m h l w t11 t12 t16 =
       by-first
-      (more (unfound 14 (placeIf (outOfRange n d) 0) ranged)
+      (more (unfound 14 (placeIf (outOfRange n d) 0) (range-in n d p m h))
       (more (unfound 13 (badRule n unread 0 rules) l)
       (more (unfound 13 (badWish 0 0 row) w)
       (more no-cause
@@ -204,9 +204,6 @@ module _ (test : ℕ → Bool) (n : ℕ) (rules : List ℤ) (row : List ℕ) (d 
       (more (by-place 12 t12 (placeIf (oversized n (length (clauses rules)) (literals (clauses rules))) 0))
       (more (entries asksEntries t16) last))))))))
     where
-      ranged : placeIf (outOfRange n d) 0 ≡ none
-      ranged = rw (ne-eqb n 0 (λ e. omega (arith, p)), le-ltb maxVariables n m, le-ltb maxLimit d h)
-
       entries : (b : Bool) → (b ≡ true → test 16 ≡ true) → Passes test (causeAt 16 (cond b (emptyClause 0 (clauses rules)) none))
       entries true t = by-place 16 (t refl) (emptyClause 0 (clauses rules))
       entries false t = no-cause

@@ -6,7 +6,6 @@ use lib.Dec.{eqb, leb}
 use lib.ListN.{length}
 use Rattle.decimal.specs.Decimal.{decimal}
 use Rattle.words.specs.Words.{ascii}
-use Rattle.refusal.specs.declared.Refusal.{Refusal}
 use Rattle.dimacs.specs.Format.{pastComments}
 use Rattle.file_position.specs.Position.{positionAt}
 use Rattle.empty_rule.specs.Empty.{emptyRule}
@@ -34,7 +33,7 @@ inRules place = record { wishes = false; place = place }
 abbrev pub inWishes : ℕ → Spot
 inWishes place = record { wishes = true; place = place }
 
--- Where a refusal can be mended, the rule file being given. 1 to 7 are causes of a rule file, 8 to 10 of a wish file, with places in them. 11 is at the beginning of the wish file, whose n is not the other's N; 12 at the header of the rule file; and 16 at the closing zero of the first rule without entries.
+-- Where a refusal is told, the rule file being given. 1 to 7 are causes of a rule file, 8 to 10 of a wish file, with places in them. 11 is at the beginning of the wish file, whose n is not the other's N; 12 at the header of the rule file; and 16 at the closing zero of the first rule without entries. The numbers from 13 to 15 are no program's.
 abbrev pub spotOf : ℕ → ℕ → List ℕ → Spot
 spotOf number place rules =
     cond (leb number 7)

@@ -1,4 +1,4 @@
-// Where a refusal can be mended.
+// Where a refusal is told.
 use problem_files::MAX_FILE;
 ghost use mathlib.Core.Path.{_≡_};
 ghost use Rattle.diagnostics.specs.Diagnostic.{spotOf, spotTooLong};

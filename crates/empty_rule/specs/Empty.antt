@@ -9,7 +9,7 @@ use Rattle.literal.specs.Literal.{closes}
 use Rattle.dimacs.specs.Format.{pastComments, Header, header, signed}
 use Rattle.dimacs.specs.Tokens.{Token, tokensFrom}
 
--- at a number, or a malformed token, at a place: `filled` says whether the open clause has a literal, and `rest` where those behind it lead, by the same of the clause that is open then
+-- from one token on, which stands at a place and is a number or malformed: `filled` says whether the open clause has a literal, and `rest` gives the place for the tokens behind it, by whether the clause that is open there has one
 abbrev pub emptyAt : Bool → ℕ → Option ℤ → (Bool → ℕ) → ℕ
 emptyAt filled place none rest = place
 emptyAt filled place (some x) rest = cond (closes x) (cond filled (rest false) place) (rest true)

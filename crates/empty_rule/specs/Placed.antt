@@ -9,6 +9,7 @@ use native.Mathlib.Omega.{arith}
 use lib.IntN.{ℤ, pos}
 use lib.ListN.{length}
 use borrow.Author.Tests.{ne-eqb}
+use Rattle.words.specs.Words.{ascii}
 use Rattle.formula.specs.Formula.{closes, onto, clauses}
 use Rattle.refusal.specs.Reply.{refusal}
 use Rattle.rule_list.specs.Laws.{scan}
@@ -183,9 +184,9 @@ empty-refused file n c l e =
     let p : Parts file n c l = accepted-parts file n c l e in
     inside file n c l p (emptyRule file) (emptyClause 0 (clauses l)) (placed file n c l p)
 
--- `p cnf 1 2`, a line `c`, a line `1 1 0` and a line `0`: the second rule has no entries, and its 0 stands at byte 18 and, without the repeat, at index 2
+-- the second rule has no entries, and its 0 stands at byte 18 and, without the repeat, at index 2
 abbrev example : List ℕ
-example = 112 ∷ 32 ∷ 99 ∷ 110 ∷ 102 ∷ 32 ∷ 49 ∷ 32 ∷ 50 ∷ 10 ∷ 99 ∷ 10 ∷ 49 ∷ 32 ∷ 49 ∷ 32 ∷ 48 ∷ 10 ∷ 48 ∷ 10 ∷ []
+example = ascii "p cnf 1 2\nc\n1 1 0\n0\n"
 
 abbrev example-list : List ℤ
 example-list = pos 1 ∷ pos 0 ∷ pos 0 ∷ []

@@ -27,7 +27,7 @@ pub fn explain_refusal(
     io::write_all(STDERR_FILENO, &line[..n]);
 }
 
-// Space for a path and the longest text behind it.
+// Space for a path of 4,096 bytes and `most` (diagnostics/specs/Diagnostic.antt) behind it.
 fn space() -> [u8; 4336]
     ensures { λ r. ⌜ 4336 ≡ length r ⌝ }
 {

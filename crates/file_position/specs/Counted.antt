@@ -2,12 +2,11 @@
 use mathlib.Core.Path.{_≡_, refl, ap, _∙_}
 use mathlib.Core.Bool.{Bool, true, false, cond}
 use mathlib.Core.List.{List, [], _∷_, _++_}
-use Prim.Native.Nat.{ℕ, zero, suc, _+_, _≤_}
+use Prim.Native.Nat.{ℕ, zero, suc, _+_}
 use native.Mathlib.Omega.{arith}
 use lib.Dec.{eqb}
 use lib.ListN.{length, take}
 use borrow.Author.Tests.{eq-eqb}
-use Rattle.file_position.specs.declared.Position.{Position}
 use Rattle.file_position.specs.Position.{position, positionFrom, positionAt}
 
 -- how many line feeds there are
@@ -62,25 +61,6 @@ column-counts file place before last e f = column-behind 1 1 place file before l
 
 pub first-line-counts : (file : List ℕ) (place : ℕ) → feeds (take place file) ≡ 0 → positionAt file place .column ≡ suc (length (take place file))
 first-line-counts file place e = omega (arith, column-from 1 1 place file e)
-
--- neither is above the file's length by more than 1
-abbrev Small : ℕ → ℕ → ℕ → Position → Type 0
-Small line column size p = (p .line ≤ line + size) × (p .column ≤ column + size)
-
-small-from : (line column k : ℕ) (s : List ℕ) → Small line column (length s) (positionFrom line column k s)
-small-from line column zero s = (omega arith, omega arith)
-small-from line column (suc k) [] = (omega arith, omega arith)
-small-from line column (suc k) (b ∷ s) = go (eqb b 10) (small-from (suc line) 1 k s) (small-from line (suc column) k s)
-  where
-    go : (t : Bool) → Small (suc line) 1 (length s) (positionFrom (suc line) 1 k s) → Small line (suc column) (length s) (positionFrom line (suc column) k s)
-        → Small line column (suc (length s)) (cond t (positionFrom (suc line) 1 k s) (positionFrom line (suc column) k s))
-    go true f g = (omega arith, omega arith)
-    go false f g = (omega arith, omega arith)
-
-pub position-small : (file : List ℕ) (place : ℕ) → (positionAt file place .line ≤ suc (length file)) × (positionAt file place .column ≤ suc (length file))
-position-small file place =
-    let small = small-from 1 1 place file in
-    (omega (arith, small), omega (arith, small))
 
 -- a carriage return ends no line: the line feed behind it stands in column 2 of the first, and the `1` behind both in column 1 of the second
 carriage-return : (positionAt (13 ∷ 10 ∷ 49 ∷ []) 1 ≡ position 1 2) × (positionAt (13 ∷ 10 ∷ 49 ∷ []) 2 ≡ position 2 1)

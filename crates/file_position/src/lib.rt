@@ -1,7 +1,5 @@
 // Where a place of a file stands, as people name it: by its line and its column.
 ghost use mathlib.Core.Path.{_≡_};
-ghost use Prim.Native.Nat.{_≤_, suc};
-ghost use lib.ListN.{length};
 ghost use Rattle.file_position.specs.Position.{positionAt};
 
 // A line and a column, both counted from 1.
@@ -12,7 +10,7 @@ pub struct Position {
 
 // The line and the column of a place. A place past the file's end has those of the end.
 pub fn position_of(file: &[u8], place: usize) -> Position
-    ensures { λ r. ⌜ (r ≡ positionAt (now (file .entry)) place) × (r .line ≤ suc (length (now (file .entry)))) × (r .column ≤ suc (length (now (file .entry)))) ⌝ }
+    ensures { λ r. ⌜ r ≡ positionAt (now (file .entry)) place ⌝ }
 {
     let mut line = 1;
     let mut column = 1;

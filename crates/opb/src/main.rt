@@ -6,6 +6,7 @@ use input_file::FilesRead;
 use libc::STDOUT_FILENO;
 use options::Asked;
 ghost use mathlib.Core.Path.{_≡_};
+ghost use Prim.Native.Nat.{_≤_};
 ghost use lib.ListN.{length};
 ghost use Rattle.opb_format.specs.Sizes.{longest};
 
@@ -19,29 +20,33 @@ fn main() {
             options::warn_of_arguments(
                 b"opb: it takes no file names, and reads rules.cnf and wish.txt of the current folder\n",
             );
-            run();
+            run(b"rules.cnf", b"wish.txt");
         }
     }
 }
 
-fn run() {
+fn run(rules_path: &[u8], wish_path: &[u8])
+    requires { ⌜ (length (now «rules_path») ≤ 4096) × (length (now «wish_path») ≤ 4096) ⌝ }
+{
     let mut rules = input_file::space();
     let mut wishes = input_file::space();
     let FilesRead::Bytes(k, w) = input_file::read_files(
-        b"rules.cnf",
-        b"wish.txt",
+        rules_path,
+        wish_path,
         &mut rules,
         &mut wishes,
     ) else {
         return;
     };
-    tell(&rules[..k], &wishes[..w]);
+    tell(rules_path, wish_path, &rules[..k], &wishes[..w]);
 }
 
 // Prints the answer, and says why if it is a refusal.
-fn tell(rules: &[u8], wishes: &[u8]) {
+fn tell(rules_path: &[u8], wish_path: &[u8], rules: &[u8], wishes: &[u8])
+    requires { ⌜ (length (now «rules_path») ≤ 4096) × (length (now «wish_path») ≤ 4096) ⌝ }
+{
     show(rules, wishes);
-    explain::explain_refusal(b"rules.cnf", b"wish.txt", rules, wishes, true);
+    explain::explain_refusal(rules_path, wish_path, rules, wishes, true);
 }
 
 fn show(rules: &[u8], wishes: &[u8]) {

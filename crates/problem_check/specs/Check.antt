@@ -33,6 +33,6 @@ checkOf asksEntries (refuses r) = C.the-variants.Refused r
 checkOf asksEntries (gives n rules row d) = verdict (unadmitted (lentOf asksEntries n rules row d))
 
 -- what an admission comes to
-abbrev pub admitted : A.Admission → ProblemCheck
-admitted (A.the-variants.Refused r) = C.the-variants.Refused r
-admitted (A.the-variants.Admitted counts) = C.the-variants.Passed
+abbrev pub ofAdmission : A.Admission → ProblemCheck
+ofAdmission (A.the-variants.Refused r) = C.the-variants.Refused r
+ofAdmission (A.the-variants.Admitted counts) = C.the-variants.Passed

@@ -12,14 +12,14 @@ use Rattle.admission_steps.specs.Admission.{answer, admission, countsOf}
 use Rattle.problem_files.specs.Problem.{Problem}
 use Rattle.problem_files.specs.Read.{problemOf}
 use Rattle.problem_files.specs.declared.ReadProblem.{ReadProblem}
-use Rattle.problem_check.specs.Check.{verdict, admitted, checkOf}
+use Rattle.problem_check.specs.Check.{verdict, ofAdmission, checkOf}
 
-answered : (o : Option Refusal) (counts : Counts) → admitted (answer o counts) ≡ verdict o
+answered : (o : Option Refusal) (counts : Counts) → ofAdmission (answer o counts) ≡ verdict o
 answered none counts = refl
 answered (some r) counts = refl
 
-pub admitted-as : (s : Lent) → admitted (admission s) ≡ verdict (unadmitted s)
-admitted-as s = answered (unadmitted s) (countsOf s)
+pub admission-verdict : (s : Lent) → ofAdmission (admission s) ≡ verdict (unadmitted s)
+admission-verdict s = answered (unadmitted s) (countsOf s)
 
 -- what the reading answered tells of the files
 pub read-as : (asksEntries : Bool) (reply other : ReadProblem) (rules : List ℤ) (row : List ℕ) (p : Problem) → problemOf reply rules row ≡ p → reply ≡ other

@@ -4,7 +4,7 @@ use problem_files::ReadProblem;
 use refusal::Refusal;
 ghost use mathlib.Core.Path.{_≡_};
 ghost use Rattle.problem_files.specs.Problem.{problem};
-ghost use Rattle.problem_check.specs.Check.{lentOf, verdict, admitted, checkOf};
+ghost use Rattle.problem_check.specs.Check.{lentOf, verdict, ofAdmission, checkOf};
 ghost use Rattle.causes.specs.Lent.{unadmitted};
 
 // A file that is too long, refused, or neither.
@@ -48,8 +48,9 @@ fn check_call(n: usize, rules: &[i32], row: &[u8], d: usize, asks_entries: bool)
     }
 }
 
+// What an admission comes to.
 fn of_admission(a: Admission) -> ProblemCheck
-    ensures { λ r. ⌜ r ≡ admitted a ⌝ }
+    ensures { λ r. ⌜ r ≡ ofAdmission a ⌝ }
 {
     match a {
         Admission::Refused(r) => ProblemCheck::Refused(r),

@@ -5,42 +5,47 @@ use input_file::FilesRead;
 use libc::STDOUT_FILENO;
 use options::Asked;
 ghost use mathlib.Core.Path.{_≡_};
+ghost use Prim.Native.Nat.{_≤_};
 ghost use lib.ListN.{length};
 ghost use Rattle.rewrite_text.specs.Printed.{longest};
 
 fn main() {
     match options::first_asked() {
         Asked::Help => options::print_help(
-            b"usage: rewrite\n\nPrints plain rules, as a rule file, which just those choices can be completed to meet that\nmeet the given rules and break no more wishes than the limit of the wish file.\n\nThe files are rules.cnf and wish.txt of the current folder, of at most 65536 bytes each.\n",
+            b"usage: rewrite\n\nPrints a rule file of plain rules: a choice can be completed to meet them exactly when it\nmeets the given rules and breaks no more wishes than the limit of the wish file.\n\nThe files are rules.cnf and wish.txt of the current folder, of at most 65536 bytes each.\n",
         ),
         Asked::Version => options::print_version(b"rewrite"),
         Asked::Nothing => {
             options::warn_of_arguments(
                 b"rewrite: it takes no file names, and reads rules.cnf and wish.txt of the current folder\n",
             );
-            run();
+            run(b"rules.cnf", b"wish.txt");
         }
     }
 }
 
-fn run() {
+fn run(rules_path: &[u8], wish_path: &[u8])
+    requires { ⌜ (length (now «rules_path») ≤ 4096) × (length (now «wish_path») ≤ 4096) ⌝ }
+{
     let mut rules = input_file::space();
     let mut wishes = input_file::space();
     let FilesRead::Bytes(k, w) = input_file::read_files(
-        b"rules.cnf",
-        b"wish.txt",
+        rules_path,
+        wish_path,
         &mut rules,
         &mut wishes,
     ) else {
         return;
     };
-    tell(&rules[..k], &wishes[..w]);
+    tell(rules_path, wish_path, &rules[..k], &wishes[..w]);
 }
 
 // Prints the answer, and says why if it is a refusal.
-fn tell(rules: &[u8], wishes: &[u8]) {
+fn tell(rules_path: &[u8], wish_path: &[u8], rules: &[u8], wishes: &[u8])
+    requires { ⌜ (length (now «rules_path») ≤ 4096) × (length (now «wish_path») ≤ 4096) ⌝ }
+{
     show(rules, wishes);
-    explain::explain_refusal(b"rules.cnf", b"wish.txt", rules, wishes, false);
+    explain::explain_refusal(rules_path, wish_path, rules, wishes, false);
 }
 
 fn show(rules: &[u8], wishes: &[u8]) {

@@ -1,14 +1,15 @@
 -- What a program prints and what it says on standard error, by what its two files are. Both speak of the same refusal.
-use mathlib.Core.Path.{_≡_, refl, ap, _∙_}
-use mathlib.Core.Bool.{Bool, true, false, cond}
+use mathlib.Core.Path.{_≡_, refl, sym, ap, _∙_}
+use mathlib.Core.Bool.{Bool, true, false, cond, _||_, true≢false}
 use mathlib.Core.List.{List, []}
 use mathlib.Core.Option.{Option, none, some}
-use Prim.Native.Nat.{ℕ, _≤_}
+use Prim.Native.Nat.{ℕ, _≤_, _<_}
 use native.Mathlib.Nat.{le-refl}
 use native.Mathlib.Omega.{arith}
+use lib.Dec.{ltb, leb}
 use lib.IntN.{ℤ}
 use lib.ListN.{length}
-use borrow.Author.Tests.{le-ltb}
+use borrow.Author.Tests.{le-ltb, ltb-true, ltb-false, le-leb, lt-leb}
 use Rattle.refusal.specs.declared.Refusal.{Refusal}
 use Rattle.refusal.specs.Laws.{room-enough}
 use Rattle.limits.specs.Limits.{maxLimit}
@@ -23,7 +24,7 @@ use Rattle.totalizer.specs.Totalizer.{rewrittenVariables, rewritten}
 use Rattle.distance.specs.Distance.{nearest}
 use Rattle.solution_text.specs.Lines.{solution}
 use Rattle.report.specs.Report.{refusalLine}
-use Rattle.problem_files.specs.Problem.{Problem, silent, refuses, gives, tooLong, together, withWishes, problem, unlessRefused, printedFor}
+use Rattle.problem_files.specs.Problem.{Problem, maxFile, silent, refuses, gives, tooLong, together, withWishes, problem, unlessRefused, printedFor}
 use Rattle.problem_check.specs.Check.{lentOf, refusedFor, verdict, checkOf}
 use Rattle.problem_check.specs.declared.ProblemCheck.the-variants.{Refused, Passed}
 use Rattle.diagnostics.specs.Diagnostic.{Named, spotOf, spotTooLong, lineAt, saidOf, diagnostic}
@@ -114,3 +115,21 @@ pub nearest-alike : (f : Named) → Alike false f (nearestPrinted (f .rules) (f 
 nearest-alike f =
     alike false (λ n l row d. nearestRefused n l row) (λ n l row d. solution (nearest n l row) (chosen n l row)) f
     (λ n l row d e. with-room (wishedProblem n l row 0) n ∙ limit-alike n l row d (limit-read (f .rules) (f .wishes) n l row d e))
+
+-- of two files of which one is too long, the one that is named is: the byte at the place is there
+pub long-named : (rules wishes : List ℕ) → problem rules wishes ≡ silent → maxFile < length (cond (spotTooLong rules .wishes) wishes rules)
+long-named rules wishes e = long (tooLong rules wishes) refl e
+  where
+    named : (a b : Bool) → ltb maxFile (length rules) ≡ a → ltb maxFile (length wishes) ≡ b → a || b ≡ true → maxFile < length (cond (leb (length rules) maxFile) wishes rules)
+    named true b f g h = rw (lt-leb (length rules) maxFile (ltb-true maxFile (length rules) f)) (ltb-true maxFile (length rules) f)
+    named false true f g h = rw (le-leb (length rules) maxFile (ltb-false maxFile (length rules) f)) (ltb-true maxFile (length wishes) g)
+    named false false f g h = absurd (true≢false (sym h))
+
+    gone : (g : rule.Reading) (w : wish.Reading) → together g w ≡ silent → ⊥
+    gone (rule.refuses q) w f = (let z : _≡_ {A = ℕ} 0 1 = cc in omega arith)
+    gone (rule.gives m c k) (wish.refuses q) f = (let z : _≡_ {A = ℕ} 0 1 = cc in omega arith)
+    gone (rule.gives m c k) (wish.gives v n d row) f = (let z : _≡_ {A = ℕ} 0 1 = cc in omega arith)
+
+    long : (b : Bool) → tooLong rules wishes ≡ b → cond b silent (together (rule.reading rules) (wish.reading wishes)) ≡ silent → maxFile < length (cond (spotTooLong rules .wishes) wishes rules)
+    long true f g = named (ltb maxFile (length rules)) (ltb maxFile (length wishes)) refl refl f
+    long false f g = absurd (gone (rule.reading rules) (wish.reading wishes) g)

@@ -1,8 +1,7 @@
 -- `diagnostics::put_diagnostic` meets its contract: by what the check of the files answers.
-use mathlib.Core.Path.{_≡_, sym, ap, _∙_}
+use mathlib.Core.Path.{sym, ap, _∙_}
 use native.Mathlib.Omega.{arith}
 use Rattle.writing.specs.Wrote.{wrote-as, wrote-none}
-use Rattle.problem_check.specs.declared.ProblemCheck.{ProblemCheck}
 use Rattle.diagnostics.specs.declared.spot.Spot.{Spot}
 use Rattle.diagnostics.specs.Diagnostic.{Named, lineAt, saidOf}
 use borrow.Author.Needs.{needs}

@@ -25,7 +25,7 @@ returns : tie.Need-returns Inv-loop μ-loop
 returns c =
     let at = c .before .before .loop in
     let args = c .before .before .before .args in
-    (sym (at .inv .4 ∙ here (at .line) (at .column) (args .place) (at .i) (drop (at .i) (args .file .now)) (c .if1 .taken)), omega arith, omega arith)
+    sym (at .inv .4 ∙ here (at .line) (at .column) (args .place) (at .i) (drop (at .i) (args .file .now)) (c .if1 .taken))
 
 shared-slice-read-if2 : tie.Need-shared-slice-read-if2 Inv-loop μ-loop
 shared-slice-read-if2 c = search needs
@@ -64,7 +64,7 @@ returns-2 : tie.Need-returns-2 Inv-loop μ-loop
 returns-2 c =
     let at = c .before .loop in
     let args = c .before .before .args in
-    (sym (at .inv .4 ∙ past-end (at .line) (at .column) (args .place - at .i) (args .file .now) (at .i) (c .loop-test .left)), omega arith, omega arith)
+    sym (at .inv .4 ∙ past-end (at .line) (at .column) (args .place - at .i) (args .file .now) (at .i) (c .loop-test .left))
 
 pub position-of-spec : {M : Type 1} → statement M
 position-of-spec =

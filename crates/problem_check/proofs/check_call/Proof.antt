@@ -1,8 +1,8 @@
 -- `problem_check::check_call` meets its contract: what admission answers, as a verdict.
 use mathlib.Core.Path.{ap, _∙_}
 use Rattle.causes.specs.Lent.{wishedProblem, exportedProblem}
-use Rattle.problem_check.specs.Check.{admitted}
-use Rattle.problem_check.specs.Laws.{admitted-as}
+use Rattle.problem_check.specs.Check.{ofAdmission}
+use Rattle.problem_check.specs.Laws.{admission-verdict}
 use borrow.Author.Needs.{needs}
 use Rattle.problem_check.proofs.check_call.Statement.{statement}
 use Rattle.problem_check.proofs.check_call.Tie as tie
@@ -23,13 +23,13 @@ returns : tie.Need-returns
 returns c =
     let a = c .before .before .before .before .args in
     rw (c .before .before .if1 .taken)
-    (c .of-admission .ensures ∙ ap admitted (c .before .admit-export .ensures) ∙ admitted-as (exportedProblem (a .n) (a .rules .now) (a .row .now) (a .d)))
+    (c .of-admission .ensures ∙ ap ofAdmission (c .before .admit-export .ensures) ∙ admission-verdict (exportedProblem (a .n) (a .rules .now) (a .row .now) (a .d)))
 
 returns-2 : tie.Need-returns-2
 returns-2 c =
     let a = c .before .before .before .before .args in
     rw (c .before .before .if1 .left)
-    (c .of-admission2 .ensures ∙ ap admitted (c .before .admit-wishes .ensures) ∙ admitted-as (wishedProblem (a .n) (a .rules .now) (a .row .now) (a .d)))
+    (c .of-admission2 .ensures ∙ ap ofAdmission (c .before .admit-wishes .ensures) ∙ admission-verdict (wishedProblem (a .n) (a .rules .now) (a .row .now) (a .d)))
 
 pub check-call-spec : {M : Type 1} → statement M
 check-call-spec =

@@ -1,6 +1,6 @@
 -- `problem_check::of_admission` meets its contract.
 use mathlib.Core.Path.{sym, ap}
-use Rattle.problem_check.specs.Check.{admitted}
+use Rattle.problem_check.specs.Check.{ofAdmission}
 use borrow.Author.Needs.{needs}
 use Rattle.problem_check.proofs.of_admission.Statement.{statement}
 use Rattle.problem_check.proofs.of_admission.Tie as tie
@@ -12,7 +12,7 @@ enum-told : tie.Need-enum-told
 enum-told c = search needs
 
 returns : tie.Need-returns
-returns c = sym (ap admitted (c .before .a .given .1))
+returns c = sym (ap ofAdmission (c .before .a .given .1))
 
 returns-2 : tie.Need-returns-2
 returns-2 c = search needs

@@ -41,7 +41,7 @@ returns c =
     let a = first .args in
     let sentence-text = reason (a .number) (leb (length (a .file .now)) (a .place)) in
     let whole = wrote-more (place .put-place .ensures .0) (wrote-more (sentence .put-reason .ensures) (end .put-byte .ensures)) in (
-      wrote-as (ap (λ (p : Position). placeText (a .name .now) (p .line) (p .column) ++ (sentence-text ++ 10 ∷ [])) (place .before .before .position-of .ensures .0)) whole,
+      wrote-as (ap (λ (p : Position). placeText (a .name .now) (p .line) (p .column) ++ (sentence-text ++ 10 ∷ [])) (place .before .before .position-of .ensures)) whole,
       omega (arith, first .pre, place .put-place .ensures .1, wrote-length whole, sentence .put-reason .ensures .place, end .put-byte .ensures .place, reason-most (a .number) (leb (length (a .file .now)) (a .place))),
     )
 

@@ -1,0 +1,1 @@
+// Theorems alone: see specs/Causes.antt.
