@@ -53,7 +53,7 @@ pub fn print_help(usage: &[u8]) {
     io::write_all(STDOUT_FILENO, usage);
     if !io::write_all(
         STDOUT_FILENO,
-        b"A refusal prints its number and its place, and a line on standard error says where, what\nis wrong and what would be right.\n\n  --help     prints this\n  --version  prints the version\n",
+        b"If the files are refused, a number and a place are printed instead, and a line on standard\nerror says where, what is wrong and what would be right.\n\n  --help     prints this\n  --version  prints the version\n",
     ) {
         os::fail(b"standard output");
     }

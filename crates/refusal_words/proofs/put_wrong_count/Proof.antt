@@ -1,3 +1,4 @@
+-- `refusal_words::put_wrong_count` meets its contract: by whether the place is the file's end.
 use borrow.Author.Needs.{needs}
 use Rattle.refusal_words.proofs.put_wrong_count.Statement.{statement}
 use Rattle.refusal_words.proofs.put_wrong_count.Tie as tie
