@@ -1,6 +1,7 @@
+-- `walk_tables::unassign_all` meets its contract. The loop's invariant: what was passed is unassigned, and the rest as it was.
 use mathlib.Core.Path.{_≡_, ap, ap₂, _∙_}
 use mathlib.Core.List.{List, _++_, append-nil}
-use Prim.Native.Nat.{ℕ, _+_, _-_, _≤_, _<_}
+use Prim.Native.Nat.{ℕ, _-_, _≤_, _<_}
 use native.Mathlib.Omega.{arith}
 use lib.ListN.{length, drop, set, replicate, length-append, length-replicate, length-drop, drop-of-length-le}
 use borrow.Author.Fill.{fill-more}
