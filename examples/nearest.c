@@ -23,23 +23,28 @@ typedef struct {
     size_t length;
 } file;
 
+static void fail(const char *name, const char *what) {
+    fprintf(stderr, "%s: %s\n", name, what);
+    exit(1);
+}
+
 static file read_file(const char *name) {
     enum { BLOCK = 65536 };
     file f = {name, NULL, 0};
+    size_t got;
     FILE *in = fopen(name, "rb");
-    size_t got = 1;
-    while (in && got > 0) {
+    if (!in)
+        fail(name, "cannot be read");
+    do {
         uint8_t *longer = realloc(f.bytes, f.length + BLOCK);
         if (!longer)
-            break;
+            fail(name, "too long");
         f.bytes = longer;
         got = fread(f.bytes + f.length, 1, BLOCK, in);
         f.length += got;
-    }
-    if (!in || ferror(in) || got > 0) {
-        fprintf(stderr, "%s: cannot be read\n", name);
-        exit(1);
-    }
+    } while (got > 0);
+    if (ferror(in))
+        fail(name, "cannot be read");
     fclose(in);
     return f;
 }
@@ -55,13 +60,13 @@ static const char *what_is_wrong(uint64_t refusal) {
     case 8: return "the line is cut, out of column or malformed, or comes after the last wish";
     case 9: return "the first line's number of settings, number of wishes or limit is out of range";
     case 10: return "the wish's setting is out of range or not rising, or its value is neither 0 nor 1";
-    case 11: return "the wish row or the choice has another number of settings";
+    case 11: return "the wish row or the choice is for more or fewer settings than the rules";
     case 12: return "with wishes there are at most 256 settings, 4096 rules and 16384 entries";
     default: return "the library refuses this"; /* the others come of no file */
     }
 }
 
-/* Ends the program if the answer is a refusal, whose place is in this file. */
+/* Ends the program if the answer is a refusal, whose place is in this file (that of 11 and 12 is always 0). */
 static powhanire_answer accepted(powhanire_answer answer, const file *f) {
     size_t line = 1, column = 1;
     if (answer.refusal == 0)
@@ -78,7 +83,7 @@ static powhanire_answer accepted(powhanire_answer answer, const file *f) {
 static void print_name(const file *rules, size_t setting) {
     const char *line = (const char *)rules->bytes, *feed;
     char number[24];
-    const size_t digits = (size_t)sprintf(number, "%zu ", setting);
+    const size_t digits = (size_t)snprintf(number, sizeof number, "%zu ", setting);
     for (; *line == 'c'; line = feed + 1) {
         const char *name = line + 1 + strspn(line + 1, " "), *end;
         feed = memchr(line, '\n', rules->length - (size_t)(line - (const char *)rules->bytes));
@@ -113,6 +118,8 @@ int main(int argc, char **argv) {
         fprintf(stderr, "usage: nearest RULES WISH\n");
         return 2;
     }
+    if (powhanire_version() != POWHANIRE_VERSION)
+        fail("libpowhanire.a", "not of the header's version");
     file rule_file = read_file(argv[1]), wish_file = read_file(argv[2]);
     powhanire_answer r = accepted(powhanire_read_rules(rule_file.bytes, rule_file.length, rules, RULES), &rule_file);
     powhanire_answer w = accepted(powhanire_read_wishes(wish_file.bytes, wish_file.length, row, SETTINGS), &wish_file);
@@ -127,5 +134,7 @@ int main(int argc, char **argv) {
     }
     free(rule_file.bytes);
     free(wish_file.bytes);
-    return fflush(stdout) == 0 && !ferror(stdout) ? 0 : 1;
+    if (fflush(stdout) != 0 || ferror(stdout))
+        fail("standard output", "cannot be written");
+    return 0;
 }

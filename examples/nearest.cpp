@@ -16,14 +16,17 @@
 #include <string>
 #include <vector>
 
-constexpr std::uint8_t FREE = 2;
+namespace {
+
+constexpr std::uint8_t FREE = 2; // a setting that is not wished
 
 struct File {
     std::string name, text;
 
     explicit File(const std::string &path) : name(path) {
         std::ifstream in(path, std::ios::binary);
-        for (char block[4096]; in.read(block, sizeof block), in.gcount() > 0;)
+        char block[4096];
+        while (in.read(block, sizeof block) || in.gcount() > 0)
             text.append(block, static_cast<std::size_t>(in.gcount()));
         if (!in.eof())
             throw std::runtime_error(name + ": cannot be read");
@@ -43,13 +46,13 @@ std::string what_is_wrong(std::uint64_t refusal) {
     case 8: return "the line is cut, out of column or malformed, or comes after the last wish";
     case 9: return "the first line's number of settings, number of wishes or limit is out of range";
     case 10: return "the wish's setting is out of range or not rising, or its value is neither 0 nor 1";
-    case 11: return "the wish row or the choice has another number of settings";
+    case 11: return "the wish row or the choice is for more or fewer settings than the rules";
     case 12: return "with wishes there are at most 256 settings, 4096 rules and 16384 entries";
     default: return "the library refuses this"; // the others come of no file
     }
 }
 
-// The answer, if it is no refusal; the place of a refusal is in this file.
+// The answer, if it is no refusal; the place of a refusal is in this file (that of 11 and 12 is always 0).
 powhanire_answer accepted(powhanire_answer answer, const File &file) {
     if (answer.refusal == 0)
         return answer;
@@ -102,17 +105,23 @@ void print_nearest(const File &rule_file, const File &wish_file) {
     }
 }
 
+} // namespace
+
 int main(int argc, char **argv) {
     if (argc != 3) {
         std::cerr << "usage: nearest RULES WISH\n";
         return 2;
     }
     try {
+        if (powhanire_version() != POWHANIRE_VERSION)
+            throw std::runtime_error("libpowhanire.a: not of the header's version");
         const File rule_file(argv[1]), wish_file(argv[2]);
         print_nearest(rule_file, wish_file);
+        if (!std::cout.flush())
+            throw std::runtime_error("standard output: cannot be written");
     } catch (const std::exception &error) {
         std::cerr << error.what() << '\n';
         return 1;
     }
-    return std::cout.flush() ? 0 : 1;
+    return 0;
 }

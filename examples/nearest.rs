@@ -7,7 +7,7 @@
 //
 //     cargo run --example nearest -- RULES WISH
 
-use powhanire::{nearest, read_rules, read_wishes, room, Refusal, FREE, ON};
+use powhanire::{nearest, read_rules, read_wishes, room, version, Refusal, FREE, ON, VERSION};
 use std::error::Error;
 use std::io::Write;
 use std::path::PathBuf;
@@ -47,7 +47,7 @@ fn name_of(setting: usize, rules: &[u8]) -> Vec<u8> {
             &name[..end.unwrap_or(name.len())]
         })
         .find(|name| !name.is_empty())
-        .map_or(setting.to_string().into_bytes(), <[u8]>::to_vec)
+        .map_or_else(|| setting.to_string().into_bytes(), <[u8]>::to_vec)
 }
 
 fn print_nearest(rule_file: &File, wish_file: &File) -> Result<(), Box<dyn Error>> {
@@ -58,25 +58,29 @@ fn print_nearest(rule_file: &File, wish_file: &File) -> Result<(), Box<dyn Error
         11 => wish_file.refused(refusal), // the wishes are for another n
         _ => rule_file.refused(refusal),
     })?;
-    let mut out = std::io::stdout().lock();
-    let Some(broken) = found else {
-        writeln!(out, "no choice meets the rules")?;
-        return Ok(());
-    };
     let word = |value| if value == ON { "on" } else { "off" };
-    writeln!(out, "{broken} of {} wishes broken", wishes.wishes)?;
-    for (at, (&wish, &value)) in wishes.row.iter().zip(&choice).enumerate() {
-        write!(out, "{:4} ", word(value))?;
-        out.write_all(&name_of(at + 1, &rule_file.bytes))?;
-        if wish != FREE && wish != value {
-            write!(out, " (wished {})", word(wish))?;
+    let mut text = Vec::new();
+    if let Some(broken) = found {
+        writeln!(text, "{broken} of {} wishes broken", wishes.wishes)?;
+        for (at, (&wish, &value)) in wishes.row.iter().zip(&choice).enumerate() {
+            write!(text, "{:4} ", word(value))?;
+            text.extend(name_of(at + 1, &rule_file.bytes));
+            if wish != FREE && wish != value {
+                write!(text, " (wished {})", word(wish))?;
+            }
+            writeln!(text)?;
         }
-        writeln!(out)?;
+    } else {
+        writeln!(text, "no choice meets the rules")?;
     }
+    std::io::stdout().write_all(&text).map_err(|_| "standard output: cannot be written")?;
     Ok(())
 }
 
 fn run(rules: PathBuf, wish: PathBuf) -> Result<(), Box<dyn Error>> {
+    if version() != VERSION {
+        return Err("libpowhanire.a: not of the crate's version".into());
+    }
     print_nearest(&File::read(rules)?, &File::read(wish)?)
 }
 

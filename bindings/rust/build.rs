@@ -10,6 +10,9 @@ fn main() {
         println!("cargo:warning=there is no {}: `rt staticlib powhanire` writes one,", archive.display());
         println!("cargo:warning=or POWHANIRE_LIB_DIR names the folder of one by its full path");
     }
+    if std::env::var("CARGO_CFG_TARGET_ARCH").as_deref() != Ok("x86_64") {
+        println!("cargo:warning=the archive is for x86-64 alone");
+    }
     println!("cargo:rustc-link-search=native={}", folder.display());
     println!("cargo:rustc-link-lib=static=powhanire");
     println!("cargo:rerun-if-changed={}", archive.display());

@@ -18,9 +18,12 @@
 //!
 //! A call is lent what it reads and, last, what it writes: nothing is allocated or kept. It fills the first part of
 //! that slice, and leaves the rest as it was; a longer slice than needed is accepted, and [`room`] has the lengths that
-//! always suffice. What a call cannot use it refuses, and then every slice is as it was: n is from 1 to 640, with up to
-//! 9,000 rules and 31,000 entries; where wishes are lent, n is up to 256, with 64 wishes, 4,096 rules and 16,384
-//! entries, and a limit d is from 0 to 64.
+//! always suffice. Where a search answers none, all of the slice is as it was. What is read has just the length that it
+//! should have: a row and a choice that are lent to be read have n bytes.
+//!
+//! What a call cannot use it refuses, and then every slice is as it was: n is from 1 to 640, with up to 9,000 rules and
+//! 31,000 entries; where wishes are lent, n is up to 256, with 64 wishes, 4,096 rules and 16,384 entries, and a limit d
+//! is from 0 to 64. `docs/MANUAL.md` in the repository has the two files' formats and every refusal.
 //!
 //! Several threads may call at once. A thread with 512 KB of stack suffices for every call.
 //!
@@ -103,17 +106,29 @@ pub struct Rewritten<'a> {
     pub list: &'a [i32],
 }
 
-/// The version of the archive that is linked: 10,000 times the major number, 100 times the minor one, and the patch.
+/// The version that this crate was written for: 10,000 times the major number, 100 times the minor one, and the patch.
+pub const VERSION: u64 = 10_000 * number(env!("CARGO_PKG_VERSION_MAJOR"))
+    + 100 * number(env!("CARGO_PKG_VERSION_MINOR"))
+    + number(env!("CARGO_PKG_VERSION_PATCH"));
+
+const fn number(digits: &str) -> u64 {
+    match u64::from_str_radix(digits, 10) {
+        Ok(number) => number,
+        Err(_) => panic!("a part of the version is no number"),
+    }
+}
+
+/// The version of the archive that is linked, which should be this crate's.
 ///
 /// ```
-/// assert_eq!(powhanire::version() / 10_000, 1);
+/// assert_eq!(powhanire::version(), powhanire::VERSION);
 /// ```
 pub fn version() -> u64 {
     raw::version()
 }
 
-/// Reads a rule file, a narrowed DIMACS CNF, into a rule list. Comment lines are skipped, and an entry that its rule holds already
-/// is left out.
+/// Reads a rule file, a narrowed DIMACS CNF, into a rule list. Comment lines are skipped, and an entry that its rule
+/// holds already is left out.
 ///
 /// ```
 /// use powhanire::{read_rules, room};
@@ -172,7 +187,8 @@ pub fn write_wishes<'a>(n: u64, row: &[u8], d: u64, file: &'a mut [u8]) -> Resul
     Ok(&file[..length as usize])
 }
 
-/// Says whether a choice meets all rules, and how many wishes it breaks.
+/// Says whether a choice meets all rules, and how many wishes it breaks. The choice has n bytes: of a longer slice that
+/// a search has filled, lend `&choice[..n]`.
 ///
 /// ```
 /// use powhanire::{check, Checked, OFF, ON};

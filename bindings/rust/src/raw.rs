@@ -23,21 +23,82 @@ pub struct Answer {
     pub value: [u64; 3],
 }
 
-#[rustfmt::skip]
 mod c {
     use super::Answer;
     extern "C" {
         pub fn powhanire_version() -> u64;
         pub fn powhanire_read_rules(file: *const u8, file_len: usize, rules: *mut i32, rules_len: usize) -> Answer;
-        pub fn powhanire_write_rules(n: u64, rules: *const i32, rules_len: usize, file: *mut u8, file_len: usize) -> Answer;
+        pub fn powhanire_write_rules(
+            n: u64,
+            rules: *const i32,
+            rules_len: usize,
+            file: *mut u8,
+            file_len: usize,
+        ) -> Answer;
         pub fn powhanire_read_wishes(file: *const u8, file_len: usize, row: *mut u8, row_len: usize) -> Answer;
-        pub fn powhanire_write_wishes(n: u64, row: *const u8, row_len: usize, d: u64, file: *mut u8, file_len: usize) -> Answer;
-        pub fn powhanire_check(n: u64, rules: *const i32, rules_len: usize, row: *const u8, row_len: usize, choice: *const u8, choice_len: usize) -> Answer;
-        pub fn powhanire_search(n: u64, rules: *const i32, rules_len: usize, row: *const u8, row_len: usize, d: u64, choice: *mut u8, choice_len: usize) -> Answer;
-        pub fn powhanire_plain(n: u64, rules: *const i32, rules_len: usize, choice: *mut u8, choice_len: usize) -> Answer;
-        pub fn powhanire_nearest(n: u64, rules: *const i32, rules_len: usize, row: *const u8, row_len: usize, choice: *mut u8, choice_len: usize) -> Answer;
-        pub fn powhanire_rewrite(n: u64, rules: *const i32, rules_len: usize, row: *const u8, row_len: usize, d: u64, rewritten: *mut i32, rewritten_len: usize) -> Answer;
-        pub fn powhanire_write_opb(n: u64, rules: *const i32, rules_len: usize, row: *const u8, row_len: usize, d: u64, file: *mut u8, file_len: usize) -> Answer;
+        pub fn powhanire_write_wishes(
+            n: u64,
+            row: *const u8,
+            row_len: usize,
+            d: u64,
+            file: *mut u8,
+            file_len: usize,
+        ) -> Answer;
+        pub fn powhanire_check(
+            n: u64,
+            rules: *const i32,
+            rules_len: usize,
+            row: *const u8,
+            row_len: usize,
+            choice: *const u8,
+            choice_len: usize,
+        ) -> Answer;
+        pub fn powhanire_search(
+            n: u64,
+            rules: *const i32,
+            rules_len: usize,
+            row: *const u8,
+            row_len: usize,
+            d: u64,
+            choice: *mut u8,
+            choice_len: usize,
+        ) -> Answer;
+        pub fn powhanire_plain(
+            n: u64,
+            rules: *const i32,
+            rules_len: usize,
+            choice: *mut u8,
+            choice_len: usize,
+        ) -> Answer;
+        pub fn powhanire_nearest(
+            n: u64,
+            rules: *const i32,
+            rules_len: usize,
+            row: *const u8,
+            row_len: usize,
+            choice: *mut u8,
+            choice_len: usize,
+        ) -> Answer;
+        pub fn powhanire_rewrite(
+            n: u64,
+            rules: *const i32,
+            rules_len: usize,
+            row: *const u8,
+            row_len: usize,
+            d: u64,
+            rewritten: *mut i32,
+            rewritten_len: usize,
+        ) -> Answer;
+        pub fn powhanire_write_opb(
+            n: u64,
+            rules: *const i32,
+            rules_len: usize,
+            row: *const u8,
+            row_len: usize,
+            d: u64,
+            file: *mut u8,
+            file_len: usize,
+        ) -> Answer;
     }
 }
 

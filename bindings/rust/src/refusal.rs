@@ -28,7 +28,7 @@ impl Refusal {
     ///
     /// ```
     /// let refusal = powhanire::check(2, &[1, 2, 0], &[0, 0], &[1]).unwrap_err();
-    /// assert_eq!(refusal.what(), "the wish row or the choice has another number of settings");
+    /// assert_eq!(refusal.what(), "the wish row or the choice is for more or fewer settings than the rules");
     /// ```
     pub fn what(self) -> &'static str {
         match self.number {
@@ -41,9 +41,9 @@ impl Refusal {
             8 => "the line is cut, out of column or malformed, or comes after the last wish",
             9 => "the first line's number of settings, number of wishes or limit is out of range",
             10 => "the wish's setting is out of range or not rising, or its value is neither 0 nor 1",
-            11 => "the wish row or the choice has another number of settings",
+            11 => "the wish row or the choice is for more or fewer settings than the rules",
             12 => "with wishes there are at most 256 settings, 4096 rules and 16384 entries",
-            13 => "the rule list, the wish row or the choice is unsound",
+            13 => "the rule list, the wish row or the choice has an element that is not allowed, or a rule is left open",
             14 => "n is not from 1 to 640, or d is above 64",
             15 => "the output buffer is too short; the place is the length that it needs",
             16 => "a rule has no entries, which OPB has no line for",

@@ -18,7 +18,8 @@ fn version() {
     let [major, minor, patch] =
         ["MAJOR", "MINOR", "PATCH"].map(|part| after(&format!("POWHANIRE_VERSION_{part}")).parse::<u64>().unwrap());
     assert_eq!(env!("CARGO_PKG_VERSION"), format!("{major}.{minor}.{patch}"));
-    assert_eq!(powhanire::version(), major * 10_000 + minor * 100 + patch);
+    assert_eq!(powhanire::VERSION, major * 10_000 + minor * 100 + patch);
+    assert_eq!(powhanire::version(), powhanire::VERSION);
 }
 
 /// The header has lines such as `rules (read_rules) 40,000 numbers`.
