@@ -26,15 +26,16 @@
  *   changes, and what lies past it stays. A longer output buffer than needed is accepted.
  *   These sizes always suffice:
  *     rules     (read_rules)    40,000 numbers       31,000 entries and 9,000 closing zeros
- *     file      (write_rules)   173,015 bytes        15 + 5 * entries + 2 * rules
+ *     file      (write_rules)   173,015 bytes        at most 15 + 5 * entries + 2 * rules
  *     row       (read_wishes)   256 bytes            n
  *     file      (write_wishes)  720 bytes            16 + 11 * wishes
  *     choice    (searches)      n bytes              at most 256 with a wish row, 640 without
- *     rewritten (rewrite)       38,914 numbers       the given list's length + 18,434
+ *     rewritten (rewrite)       38,914 numbers       at most the given list's length + 18,434
  *     file      (write_opb)     165,306 bytes        at most 44 + 9 * entries + 8 * rules + 8 * wishes
  *   A call that refuses with 15 says in `place` how many elements it needs.
  *
- * The calls keep no state and use no heap, so several threads may call at once on separate buffers.
+ * The calls keep no state and use no heap, so several threads may call at once. They may share what is only read; a
+ * buffer that is written is one thread's alone.
  * Stack, measured by tests/interface/run at the deepest inputs there are: plain up to 505,888 bytes
  * (576 for each fork on a path, of which 640 settings allow 639), nearest up to 325,680, search up to
  * 284,144, the other calls up to 3,208. A thread with 512 KB suffices for all.
@@ -112,7 +113,10 @@ powhanire_answer powhanire_read_rules(const uint8_t *file, size_t file_len,
 powhanire_answer powhanire_write_rules(uint64_t n, const int32_t *rules, size_t rules_len,
                                        uint8_t *file, size_t file_len);
 
-/* Reads a wish file into a wish row.
+/* Reads a wish file into a wish row. Its numbers stand right-justified in columns of 5 bytes, with spaces before them
+ * and no leading zeros, and a line feed follows the last column of a line. Line 1 has n (1 to 256), the number of
+ * wishes (at most n and 64) and the limit; then each wish has a line, by rising setting: the setting, and 1 for on or
+ * 0 for off. Nothing else may stand in the file.
  * value: settings n, wishes, limit d. */
 powhanire_answer powhanire_read_wishes(const uint8_t *file, size_t file_len,
                                        uint8_t *row, size_t row_len);
