@@ -23,7 +23,7 @@ typedef struct {
     size_t length;
 } file;
 
-static void fail(const char *name, const char *what) {
+static _Noreturn void fail(const char *name, const char *what) {
     fprintf(stderr, "%s: %s\n", name, what);
     exit(1);
 }

@@ -105,7 +105,8 @@ mod c {
 // Why lending slices is sound, at each `unsafe` below: a slice's pointer is good for its length until the call returns;
 // the call follows it no further, keeps none, and takes any numbers in it. An empty slice's pointer dangles, and is not
 // followed. What is written is a `&mut` slice, so it overlaps none that is read, and any bytes are good in it. Slices
-// that are only read may overlap one another in Rust, and may here: none of them changes.
+// that are only read may overlap one another in Rust, and may here: none of them changes. A stack that is too short ends
+// the process at its guard page, as with Rust's own functions: frames of more than a page touch each page in turn.
 
 /// `powhanire_version`
 pub fn version() -> u64 {
