@@ -28,8 +28,8 @@ pub fn explain_refusal(
 }
 
 // Space for a path of 4,096 bytes and `most` (diagnostics/specs/Diagnostic.antt) behind it.
-fn space() -> [u8; 4336]
-    ensures { λ r. ⌜ 4336 ≡ length r ⌝ }
+fn space() -> [u8; 4330]
+    ensures { λ r. ⌜ 4330 ≡ length r ⌝ }
 {
-    [0; 4336]
+    [0; 4330]
 }

@@ -41,4 +41,4 @@ reason number atEnd = cond (leb number 7) (ruleReason number atEnd) (wishReason 
 
 -- no sentence is longer
 abbrev pub longest : ℕ
-longest = 195
+longest = 189
