@@ -115,8 +115,8 @@ powhanire_answer powhanire_write_rules(uint64_t n, const int32_t *rules, size_t 
 
 /* Reads a wish file into a wish row. Its numbers stand right-justified in columns of 5 bytes, with spaces before them
  * and no leading zeros, and a line feed follows the last column of a line. Line 1 has n (1 to 256), the number of
- * wishes (at most n and 64) and the limit; then each wish has a line, by rising setting: the setting, and 1 for on or
- * 0 for off. Nothing else may stand in the file.
+ * wishes (at most n and at most 64) and the limit (at most 64); then each wish has a line, by rising setting: the
+ * setting, and 1 for on or 0 for off. Nothing else may stand in the file.
  * value: settings n, wishes, limit d. */
 powhanire_answer powhanire_read_wishes(const uint8_t *file, size_t file_len,
                                        uint8_t *row, size_t row_len);
