@@ -61,7 +61,8 @@ module _ (n : ℕ) (rules : List ℤ) (row : List ℕ) where
     -- and with room enough no call is refused at all
     pub room : (b : Buffers) × Answered (firstRoute n rules row d (b .choice)) × Answered (secondRoute n rules row d b) × Answered (nearestRoute n rules row (b .choice))
 
-  -- "answers are compared where none of the calls that give them is refused": the second route finds at d; it answers none there
+  -- "answers are compared where none of the calls that give them is refused": the second route finds at d; it answers none there.
+  -- Neither holds for want of an answer: `room` of `Unrefused` has, for each d up to 64, buffers with which the second route is answered.
   abbrev pub Finds : ℕ → Type 0
   Finds d = (b : Buffers) → Answered (secondRoute n rules row d b) → secondRoute n rules row d b ≡ found (some 0)
 
@@ -74,10 +75,11 @@ module _ (n : ℕ) (rules : List ℤ) (row : List ℕ) where
     pub finds : Finds k
     pub before : (d : ℕ) → d < k → FindsNone d
 
-  -- that first d is the count that nearest returns; the second route finds at no such d exactly when nearest says "none"
+  -- that first d is the count that nearest returns; the second route finds at no such d exactly when nearest says "none", and then at no d up to 64
   pub record CountsUp (reply : Reply) : Type 0 where
     pub count : (k : ℕ) → (reply ≡ found (some k)) ↔ First k
     pub nothing : (reply ≡ found none) ↔ ((d : ℕ) → d ≤ totalWeight row → FindsNone d)
+    pub never : reply ≡ found none → (d : ℕ) → d ≤ maxLimit → FindsNone d
 
   -- the claim
   pub record Agreement : Type 0 where

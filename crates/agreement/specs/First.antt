@@ -100,21 +100,24 @@ module _ (n : ℕ) (rules : List ℤ) (row : List ℕ) (ok : (d : ℕ) → d ≤
           λ l. none-beyond (disagreement row a) (omega (arith, disagreement-most row a, few)) (f .before (disagreement row a) l) (a, m, le-refl (disagreement row a)) in
           omega (arith, lt-of-not-le fewer)
 
-  none-first : ((a : List ℕ) → Model n (clauses rules) a → ⊥) → (d : ℕ) → d ≤ totalWeight row → FindsNone n rules row d
-  none-first g d h = beyond d (omega (arith, few)) (λ r. g (r .0) (r .1))
+  none-first : ((a : List ℕ) → Model n (clauses rules) a → ⊥) → (d : ℕ) → d ≤ maxLimit → FindsNone n rules row d
+  none-first g d h = beyond d h (λ r. g (r .0) (r .1))
 
   first-none : ((d : ℕ) → d ≤ totalWeight row → FindsNone n rules row d) → (a : List ℕ) → Model n (clauses rules) a → ⊥
   first-none g a m = none-beyond (totalWeight row) few (g (totalWeight row) (le-refl (totalWeight row))) (a, m, disagreement-most row a)
 
   pub nearest-is-first : (reply : Reply) → reply ≡ found (nearest n rules row) → CountsUp n rules row reply
   nearest-is-first reply e =
+      let never : reply ≡ found none → (d : ℕ) → d ≤ maxLimit → FindsNone n rules row d =
+      λ f. none-first (nearest-none n rules row .0 (found-none (nearest n rules row) (sym e ∙ f))) in
       record {
         count = λ k. (
           λ f. nearest-first k (nearest-some n rules row k .0 (found-some (nearest n rules row) k (sym e ∙ f))),
           λ f. e ∙ ap found (nearest-some n rules row k .1 (first-nearest k f)),
         );
         nothing = (
-          λ f. none-first (nearest-none n rules row .0 (found-none (nearest n rules row) (sym e ∙ f))),
+          λ f d h. never f d (omega (arith, few)),
           λ f. e ∙ ap found (nearest-none n rules row .1 (first-none f)),
         );
+        never = never;
       }
