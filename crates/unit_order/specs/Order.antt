@@ -1,4 +1,4 @@
--- The order in which unit clauses are taken does not matter (document 02, L10: "settling by either from the same state ends alike (a dead end in both, or the same settled state)").
+-- The order in which unit clauses are taken does not matter. No arrangement is named here: that settling by it ends as settling by the list does, which document 02 (L10) asks, is `sound-alike` in crate unit_queue.
 use mathlib.Core.Path.{_≡_, refl, sym, ap, ap₂, _∙_}
 use mathlib.Core.Logic.{_⊎_, inl, inr}
 use mathlib.Core.Bool.{Bool, true, false, cond, not, _&&_, _||_, true≢false}
@@ -74,7 +74,7 @@ extend-both {n} {b} {c} p q h k = ext-getD 2 b c (p .size ∙ sym (q .size)) (λ
     both : (i : ℕ) → getD c i 2 ≡ 2 → getD b i 2 ≡ getD c i 2
     both i z = elim (ℕ-discrete (getD b i 2) 2) [ yes w ↦ w ∙ sym z | no w ↦ sym (k .keeps i w) ]
 
--- "a dead end in both, or the same settled state": wherever steps from one state lead until no clause is unit
+-- wherever steps from one state lead until no clause is unit, there is a falsified clause in both, or it is one state
 pub order-irrelevant : (n : ℕ) (f : List (List ℤ)) (a : List ℕ) → State n a → (xs ys : List ℤ) (b c : List ℕ) → Steps f a xs b → Steps f a ys c → Quiet f b → Quiet f c
     → ((any (isFalsified b) f ≡ true) × (any (isFalsified c) f ≡ true)) ⊎ (b ≡ c)
 order-irrelevant n f a h xs ys b c p q quiet-b quiet-c = go (any (isFalsified b) f) refl (any (isFalsified c) f) refl
