@@ -4,6 +4,11 @@ ghost use Prim.Native.Nat.{_-_, _≤_};
 ghost use Rattle.decimal.specs.Decimal.{isDigit, number};
 ghost use Rattle.decimal.specs.Read.{numberAs};
 
+// The bytes of the digits, from the first to the last.
+pub const FIRST_DIGIT: u8 = b'0';
+
+pub const LAST_DIGIT: u8 = b'9';
+
 // Whether some bytes are a number, and which.
 pub enum Number {
     Malformed,
@@ -45,10 +50,10 @@ pub fn number_of(word: &[u8]) -> Number
 fn is_digit(b: u8) -> bool
     ensures { λ r. ⌜ r ≡ isDigit b ⌝ }
 {
-    if b < b'0' {
+    if b < FIRST_DIGIT {
         return false;
     }
-    b <= b'9'
+    b <= LAST_DIGIT
 }
 
 // The value of a digit's byte.
@@ -56,5 +61,5 @@ fn digit_value(b: u8) -> usize
     requires { ⌜ 48 ≤ b ⌝ }
     ensures { λ r. ⌜ r ≡ b - 48 ⌝ }
 {
-    (b - b'0') as usize
+    (b - FIRST_DIGIT) as usize
 }

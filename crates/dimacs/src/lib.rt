@@ -19,7 +19,7 @@ pub fn class_of(b: u8) -> u8
 {
     match b {
         9..=10 | 13 | 32 => BLANK,
-        b'0'..=b'9' => DIGIT,
+        decimal::FIRST_DIGIT..=decimal::LAST_DIGIT => DIGIT,
         b'-' => MINUS,
         b'c' => LETTER_C,
         _ => OTHER,
