@@ -4,6 +4,7 @@ pub mod BranchingLaws
 pub mod Completion
 pub mod Correctness
 pub mod Counting
+pub mod Examples
 pub mod Extension
 pub mod Fits
 pub mod Induction

@@ -105,7 +105,7 @@ module _ (f : List (List ℤ)) (row : List ℕ) (d : ℕ) (try : List ℕ → Ou
 -- the first value is off or on
 pub first-bit : (row : List ℕ) (o : Option ℕ) (v : ℕ) → firstValue row o v < 2
 first-bit row none v = lit< tt
-first-bit row (some k) v = unwished-bit (value row v)
+first-bit row (some k) v = omega (arith, unwished-bit (value row v))
 
 -- "against the wish first if step 4's first kind of rule existed": the first value breaks the wish of the branching variable
 unwished-breaks : (w b : ℕ) → 0 < cost w b → 0 < cost w (unwishedValue w)
