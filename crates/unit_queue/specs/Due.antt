@@ -15,7 +15,7 @@ use Rattle.formula.specs.Formula.{contains, satisfied}
 use Rattle.walk.specs.State.{State, assign, isUnset, isUnassigned, unassignedIn, isUnit, isFalsified}
 use Rattle.walk.specs.Assignment.{assign-value, assign-extends, assign-other}
 use Rattle.walk.specs.Extension.{satisfied-kept}
-use Rattle.unit_order.specs.Order.{two-left}
+use Rattle.unit_queue.specs.Order.{two-left}
 
 pub record Due (a : List ℕ) (c : List ℤ) : Type 0 where
   pub unmet : satisfied a c ≡ false

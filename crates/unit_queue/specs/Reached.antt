@@ -21,7 +21,7 @@ use Rattle.walk.specs.Walk.{isDeadEnd}
 use Rattle.walk.specs.Extension.{keeps-value}
 use Rattle.walk.specs.Counting.{find-member, find-some}
 use Rattle.walk.specs.Assignment.{assign-fewer, assign-value, satisfy-extends, satisfy-state}
-use Rattle.unit_order.specs.Steps.{UnitOf, Steps, unit-free, unit-inside, steps-more}
+use Rattle.unit_queue.specs.Steps.{UnitOf, Steps, unit-free, unit-inside, steps-more}
 use Rattle.unit_queue.specs.Due.{Due, not-due, due-later}
 use Rattle.unit_queue.specs.Queue.{Pending, andThen, makeHold, look, lookAt}
 

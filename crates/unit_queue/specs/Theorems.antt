@@ -22,8 +22,8 @@ use Rattle.walk.specs.Assignment.{assign-value, assign-extends}
 use Rattle.walk.specs.Extension.{keeps-value}
 use Rattle.rule_list.specs.Sound.{SoundList}
 use Rattle.searches.specs.Fits.{sound-fits}
-use Rattle.unit_order.specs.Steps.{Quiet, propagate-ends}
-use Rattle.unit_order.specs.Order.{reached-dead, reached-settled}
+use Rattle.unit_queue.specs.Steps.{Quiet, propagate-ends}
+use Rattle.unit_queue.specs.Order.{reached-dead, reached-settled}
 use Rattle.occurrences.specs.Numbered.{numbered-in}
 use Rattle.occurrences.specs.Occurrences.{emptyClauses, filledClauses}
 use Rattle.unit_queue.specs.Due.{Due, NoneDue, not-due, due-unit, due-falsified, due-later}

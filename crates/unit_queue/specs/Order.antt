@@ -1,4 +1,4 @@
--- The order in which unit clauses are taken does not matter. No arrangement is named here: that settling by it ends as settling by the list does, which document 02 (L10) asks, is `sound-alike` in crate unit_queue.
+-- The order in which unit clauses are taken does not matter. No arrangement is named here: that settling by it ends as settling by the list does, which document 02 (L10) asks, is `sound-alike` in Theorems.antt.
 use mathlib.Core.Path.{_≡_, refl, sym, ap, ap₂, _∙_}
 use mathlib.Core.Logic.{_⊎_, inl, inr}
 use mathlib.Core.Bool.{Bool, true, false, cond, not, _&&_, _||_, true≢false}
@@ -23,7 +23,7 @@ use Rattle.walk.specs.WalkLaws.{dead-kept, dead-causes}
 use Rattle.walk.specs.Extension.{Extends, assigned-kept, satisfied-by-unassigned, falsified-kept}
 use Rattle.walk.specs.Counting.{find-only}
 use Rattle.walk.specs.Assignment.{extends-satisfy}
-use Rattle.unit_order.specs.Steps.{UnitOf, Steps, Quiet, steps-extend, steps-state, propagate-steps, propagate-ends}
+use Rattle.unit_queue.specs.Steps.{UnitOf, Steps, Quiet, steps-extend, steps-state, propagate-steps, propagate-ends}
 
 -- an extension leaves no more literals unassigned
 pub fewer-unassigned : {b a : List ℕ} → Extends b a → (c : List ℤ) → unassignedIn b c ≤ unassignedIn a c

@@ -1,1 +1,0 @@
-// Unit propagation in any order: theorems only, about definitions of crate walk.
