@@ -7,8 +7,8 @@ use crate::call::WRITE_RULES;
 use crate::search_case;
 use crate::show;
 use answers::Answer;
-use case_output::held;
-use case_output::words;
+use case_text::held;
+use case_text::words;
 
 pub fn answer(call: usize, n: usize, rules: &[i32], row: &[u8], d: usize, bytes: &mut [u8]) {
     if call == CHECK {

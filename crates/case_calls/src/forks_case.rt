@@ -1,12 +1,12 @@
 // `forks N RULES ROW D`: the walk of the wish search, with the forks that it makes. They are counted
 // below the public calls, which do not tell them.
 use admission_steps::Admission;
-use case_output::report;
-use case_output::words;
+use case_text::report;
+use case_text::words;
 use walk_result::Tried;
 
 pub fn answer(n: usize, rules: &[i32], row: &[u8], d: usize) {
-    let mut choice = casefile::bytes();
+    let mut choice = case_text::bytes();
     walk(n, rules, row, d, &mut choice);
 }
 

@@ -2,7 +2,7 @@
 use crate::call::READ_RULES;
 use crate::show;
 use answers::Answer;
-use case_output::held;
+use case_text::held;
 
 pub fn answer(call: usize, n: usize, rules: &[i32], row: &[u8], d: usize, out: &mut [i32]) {
     let answer = called(call, n, rules, row, d, out);

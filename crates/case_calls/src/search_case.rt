@@ -6,9 +6,9 @@ use crate::call::PLAIN;
 use crate::call::SEARCH;
 use crate::show;
 use answers::Answer;
-use case_output::held;
-use case_output::report;
-use case_output::words;
+use case_text::held;
+use case_text::report;
+use case_text::words;
 use refusal::Verdict;
 
 pub fn answer(call: usize, n: usize, rules: &[i32], row: &[u8], d: usize, choice: &mut [u8]) {

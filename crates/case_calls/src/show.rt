@@ -1,7 +1,7 @@
 // Each call's answer, a line.
 use answers::Answer;
-use case_output::report;
-use case_output::words;
+use case_text::report;
+use case_text::words;
 
 // The answer of a search that found no choice.
 pub fn unfound(answer: Answer) {

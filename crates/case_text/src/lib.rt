@@ -1,10 +1,22 @@
-// The text of test programs: the lines and numbers of their input, and the lines that they write.
+// The text of test programs: the lines, numbers and lists of their input, space for what is read, and
+// what they write: lines, the words of the answers, and what a lent buffer holds.
 //
 // Reading goes by places in a line. Where what is asked for does not stand at a place, the place
 // after it is past the line's end, and nothing can be read from there. So a case is read to its end
 // first, and one test then tells whether all of it was as asked.
+mod arrays;
+pub mod held;
+mod list;
 mod output;
+pub mod report;
+pub mod words;
 
+pub use arrays::bytes;
+pub use arrays::file;
+pub use arrays::numbers;
+pub use list::Filled;
+pub use list::read_bytes_if;
+pub use list::read_numbers_if;
 use literal::Variable;
 pub use output::line_feed;
 pub use output::write_line;

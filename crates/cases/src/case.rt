@@ -7,7 +7,7 @@ use case_calls::call::REWRITE;
 use case_calls::call::Values;
 use case_calls::forks_case;
 use case_calls::numbers_case;
-use case_output::report;
+use case_text::report;
 
 pub fn run(line: &[u8], call: usize) {
     if FORKS < call {
@@ -20,15 +20,15 @@ pub fn run(line: &[u8], call: usize) {
 }
 
 fn with_n(line: &[u8], call: usize, has: Values, n: usize, at: usize) {
-    let mut rules = casefile::numbers();
-    let filled = casefile::read_numbers_if(has.rules, line, at, &mut rules);
+    let mut rules = case_text::numbers();
+    let filled = case_text::read_numbers_if(has.rules, line, at, &mut rules);
     let end = filled.end;
     with_rules(line, call, has, n, &rules[..end], filled.next);
 }
 
 fn with_rules(line: &[u8], call: usize, has: Values, n: usize, rules: &[i32], at: usize) {
-    let mut row = casefile::file();
-    let filled = casefile::read_bytes_if(has.row, line, at, &mut row);
+    let mut row = case_text::file();
+    let filled = case_text::read_bytes_if(has.row, line, at, &mut row);
     let end = filled.end;
     let d = case_text::read_number_if(has.d, line, filled.next);
     with_row(line, call, n, rules, &row[..end], d.value, d.next);
@@ -66,8 +66,8 @@ fn with_numbers(
     d: usize,
     at: usize,
 ) {
-    let mut numbers = casefile::numbers();
-    let filled = casefile::read_numbers_if(true, line, at, &mut numbers);
+    let mut numbers = case_text::numbers();
+    let filled = case_text::read_numbers_if(true, line, at, &mut numbers);
     if filled.next != line.len() {
         report::malformed();
         return;
@@ -77,8 +77,8 @@ fn with_numbers(
 }
 
 fn with_bytes(line: &[u8], call: usize, n: usize, rules: &[i32], row: &[u8], d: usize, at: usize) {
-    let mut bytes = casefile::file();
-    let filled = casefile::read_bytes_if(true, line, at, &mut bytes);
+    let mut bytes = case_text::file();
+    let filled = case_text::read_bytes_if(true, line, at, &mut bytes);
     if filled.next != line.len() {
         report::malformed();
         return;

@@ -1,12 +1,12 @@
 // Runs the library's calls on the cases of standard input, and writes an answer for each. A line
 // that starts with # is a label, and is written as it is. Any other line is a case: the name of the
-// call, then its values, as the libraries case_text and casefile read them. What is no case is
+// call, then its values, as the library case_text reads them. What is no case is
 // answered too, so nothing is left out.
 mod case;
 
 use case_calls::call;
-use case_output::report;
-use case_output::words;
+use case_text::report;
+use case_text::words;
 use libc::STDIN_FILENO;
 ghost use mathlib.Core.Path.{_≡_};
 ghost use lib.ListN.{length};

@@ -7,8 +7,8 @@ use rule_reader::ReadRules;
 use wish_reader::ReadWishes;
 
 pub fn run(rule_file: &[u8], wish_file: &[u8], limits: usize) {
-    let mut rules = casefile::numbers();
-    let mut row = casefile::bytes();
+    let mut rules = case_text::numbers();
+    let mut row = case_text::bytes();
     read(rule_file, wish_file, limits, &mut rules, &mut row);
     case_text::line_feed();
 }

@@ -1,11 +1,11 @@
 // The export to OPB at a limit: the length of its file and a sum of its bytes, or its refusal.
 use crate::report;
 use crate::words;
-use case_output::held;
+use case_text::held;
 use opb_writer::WrittenOpb;
 
 pub fn at_limit(n: usize, rules: &[i32], row: &[u8], d: usize) {
-    let mut file = casefile::file();
+    let mut file = case_text::file();
     into(n, rules, row, d, &mut file);
 }
 

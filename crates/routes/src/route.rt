@@ -12,9 +12,9 @@ pub fn first(n: usize, rules: &[i32], row: &[u8], d: usize) -> Outcome {
 
 // Rewriting, the writer, the reader and plain search, with room for each.
 pub fn second(n: usize, rules: &[i32], row: &[u8], d: usize) -> Outcome {
-    let mut rewritten = casefile::numbers();
-    let mut file = casefile::file();
-    let mut list = casefile::numbers();
+    let mut rewritten = case_text::numbers();
+    let mut file = case_text::file();
+    let mut list = case_text::numbers();
     let mut choice = unset::choice();
     let answer = second_route::second_route(
         n,

@@ -1,12 +1,12 @@
--- `casefile::list::read_numbers_if` meets its contract.
+-- `case_text::list::read_numbers_if` meets its contract.
 use mathlib.Core.Path.{_≡_}
 use Prim.Native.Nat.{_-_}
 use native.Mathlib.Omega.{arith}
 use lib.ListN.{length}
 use borrow.Author.Needs.{needs}
-use Rattle.casefile.specs.Prefix.{prefix}
-use Rattle.casefile.proofs.list.read_numbers_if.Statement.{statement}
-use Rattle.casefile.proofs.list.read_numbers_if.Tie as tie
+use Rattle.case_text.specs.Prefix.{prefix}
+use Rattle.case_text.proofs.list.read_numbers_if.Statement.{statement}
+use Rattle.case_text.proofs.list.read_numbers_if.Tie as tie
 
 abbrev Inv-loop : tie.InvT-loop
 Inv-loop there line at out₀ end element₀ i₀ out element i = length out ≡ length out₀

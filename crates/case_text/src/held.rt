@@ -10,7 +10,7 @@ pub fn numbers(list: &[i32]) {
     words::write(words::HOLDS);
     if list.len() <= SHORT {
         each_number(list);
-        case_text::line_feed();
+        crate::line_feed();
     } else {
         summed(list.len(), sum_of_numbers(list));
     }
@@ -20,7 +20,7 @@ pub fn bytes(list: &[u8]) {
     words::write(words::HOLDS);
     if list.len() <= SHORT {
         each_byte(list);
-        case_text::line_feed();
+        crate::line_feed();
     } else {
         summed(list.len(), sum_of_bytes(list));
     }

@@ -1,9 +1,9 @@
--- `casefile::arrays::wide` meets its contract, by the length of a repeat.
+-- `case_text::arrays::wide` meets its contract, by the length of a repeat.
 use mathlib.Core.Path.{sym}
 use lib.IntN.{ℤ, pos}
 use lib.ListN.{length-replicate}
-use Rattle.casefile.proofs.arrays.wide.Statement.{statement}
-use Rattle.casefile.proofs.arrays.wide.Tie as tie
+use Rattle.case_text.proofs.arrays.wide.Statement.{statement}
+use Rattle.case_text.proofs.arrays.wide.Tie as tie
 
 returns : tie.Need-returns
 returns c = sym (length-replicate {0} {A = ℤ} 262144 (pos 0))

@@ -1,10 +1,10 @@
--- `casefile::list::narrow` meets its contract.
+-- `case_text::list::narrow` meets its contract.
 use mathlib.Core.Path.{_≡_}
 use Prim.Native.Nat.{_-_}
 use lib.ListN.{length}
 use borrow.Author.Needs.{needs}
-use Rattle.casefile.proofs.list.narrow.Statement.{statement}
-use Rattle.casefile.proofs.list.narrow.Tie as tie
+use Rattle.case_text.proofs.list.narrow.Statement.{statement}
+use Rattle.case_text.proofs.list.narrow.Tie as tie
 
 abbrev Inv-loop : tie.InvT-loop
 Inv-loop wide out₀ i₀ out i = length out ≡ length out₀

@@ -4,7 +4,7 @@ use crate::arrays;
 ghost use mathlib.Core.Path.{_≡_};
 ghost use Prim.Native.Nat.{_≤_, _<_};
 ghost use lib.ListN.{length};
-ghost use Rattle.casefile.specs.Prefix.{Prefix};
+ghost use Rattle.case_text.specs.Prefix.{Prefix};
 
 // How far a list is filled, and the place in the line after it.
 pub struct Filled {
@@ -25,7 +25,7 @@ struct Element {
 pub fn read_numbers_if(there: bool, line: &[u8], at: usize, out: &mut [i32]) -> Filled
     ensures { λ r. ⌜ Prefix (r .end) (now (out .exit)) ⌝ }
 {
-    let count = case_text::read_number_if(there, line, at);
+    let count = crate::read_number_if(there, line, at);
     let end = count.value;
     if out.len() < end {
         return nothing(line);
@@ -71,7 +71,7 @@ fn following(line: &[u8], before: Element, list: &[i32], i: usize) -> Element
 {
     let element = repeat_from(line, before);
     if element.left == 0 {
-        let x = case_text::read_signed(line, element.next);
+        let x = crate::read_signed(line, element.next);
         return single(x.value, x.next);
     }
     let back = element.back;
@@ -94,12 +94,12 @@ fn repeat_from(line: &[u8], before: Element) -> Element {
     if 0 < before.left {
         return before;
     }
-    let mark = case_text::past_byte(line, case_text::past_byte(line, before.next, b' '), b'@');
+    let mark = crate::past_byte(line, crate::past_byte(line, before.next, b' '), b'@');
     if line.len() < mark {
         return before;
     }
-    let count = case_text::read_number(line, mark);
-    let back = case_text::read_number(line, count.next);
+    let count = crate::read_number(line, mark);
+    let back = crate::read_number(line, count.next);
     Element {
         value: 0,
         next: back.next,

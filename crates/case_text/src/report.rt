@@ -5,13 +5,13 @@ use libc::STDOUT_FILENO;
 // A label as it was read.
 pub fn label(line: &[u8]) {
     io::write_all(STDOUT_FILENO, line);
-    case_text::line_feed();
+    crate::line_feed();
 }
 
 // An answer without a number.
 pub fn line(word: usize) {
     words::write(word);
-    case_text::line_feed();
+    crate::line_feed();
 }
 
 // A number after a word.
@@ -23,7 +23,7 @@ pub fn value(word: usize, value: u64) {
 // An answer with a number.
 pub fn value_line(word: usize, number: u64) {
     value(word, number);
-    case_text::line_feed();
+    crate::line_feed();
 }
 
 // A refusal: its number and its place.

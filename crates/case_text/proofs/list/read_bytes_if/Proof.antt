@@ -1,9 +1,9 @@
--- `casefile::list::read_bytes_if` meets its contract.
+-- `case_text::list::read_bytes_if` meets its contract.
 use native.Mathlib.Omega.{arith}
-use Rattle.casefile.specs.Prefix.{prefix}
+use Rattle.case_text.specs.Prefix.{prefix}
 use borrow.Author.Needs.{needs}
-use Rattle.casefile.proofs.list.read_bytes_if.Statement.{statement}
-use Rattle.casefile.proofs.list.read_bytes_if.Tie as tie
+use Rattle.case_text.proofs.list.read_bytes_if.Statement.{statement}
+use Rattle.case_text.proofs.list.read_bytes_if.Tie as tie
 
 wide-requires : tie.Need-wide-requires
 wide-requires c κs = search needs

@@ -1,9 +1,9 @@
--- `case_output::held::sum_of_numbers` meets its contract.
+-- `case_text::held::sum_of_numbers` meets its contract.
 use Prim.Native.Nat.{_-_}
 use lib.ListN.{length}
 use borrow.Author.Needs.{needs}
-use Rattle.case_output.proofs.held.sum_of_numbers.Statement.{statement}
-use Rattle.case_output.proofs.held.sum_of_numbers.Tie as tie
+use Rattle.case_text.proofs.held.sum_of_numbers.Statement.{statement}
+use Rattle.case_text.proofs.held.sum_of_numbers.Tie as tie
 
 abbrev Inv-loop : tie.InvT-loop
 Inv-loop list sum₀ i₀ sum i = Unit {0}
