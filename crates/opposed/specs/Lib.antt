@@ -1,2 +1,4 @@
 pub mod Laws
 pub mod Opposed
+pub mod Opposes
+pub mod OpposesLaws

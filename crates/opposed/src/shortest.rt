@@ -1,4 +1,5 @@
 // The shortest opposed clause of a list.
+use crate::clause::read_opposed;
 use crate::pair::shorter;
 use crate::pair::unassigned_in;
 ghost use mathlib.Core.Path.{_≡_};
@@ -23,7 +24,7 @@ pub fn find_opposed(list: &[i32], row: &[u8], assignment: &[u8]) -> Begins
 {
     let mut from = 0;
     while from < list.len() {
-        let reading = opposed_clause::read_opposed(list, from, row, assignment);
+        let reading = read_opposed(list, from, row, assignment);
         let end = reading.end;
         if reading.opposed {
             return Begins::At(from);
@@ -53,7 +54,7 @@ pub fn shortest_opposed<'a>(
         if size < 3 {
             return kept;
         }
-        let reading = opposed_clause::read_opposed(list, from, row, assignment);
+        let reading = read_opposed(list, from, row, assignment);
         let end = reading.end;
         if reading.opposed {
             let best = shorter(kept, &list[from..end], assignment);

@@ -35,7 +35,7 @@ pub fn is_source(
     if count != size {
         return false;
     }
-    opposed_clause::is_opposed(clause, row, assignment)
+    opposed::is_opposed(clause, row, assignment)
 }
 
 // Adds an open clause's weight, and marks its variables where it gives candidates.

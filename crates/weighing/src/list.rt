@@ -24,7 +24,7 @@ fn exhausts(spent: bool, clause: &[i32], row: &[u8], assignment: &[u8]) -> bool
     if !spent {
         return false;
     }
-    opposed_clause::is_opposed(clause, row, assignment)
+    opposed::is_opposed(clause, row, assignment)
 }
 
 // Weighs a clause, and tells whether it makes a dead end instead. It is not read if its witness holds; if

@@ -1,4 +1,4 @@
--- `opposed_clause::is_opposed` meets its contract. The loop's invariant: the literals passed oppose.
+-- `opposed::clause::is_opposed` meets its contract. The loop's invariant: the literals passed oppose.
 use mathlib.Core.Path.{_≡_, sym, ap, _∙_}
 use mathlib.Core.List.{List}
 use Prim.Native.Nat.{ℕ, _-_, _≤_}
@@ -10,11 +10,11 @@ use Rattle.literal.specs.Laws.{as-read}
 use Rattle.formula.specs.Formula.{all}
 use Rattle.walk.specs.Branching.{isOpposed}
 use Rattle.walk.specs.Loops.{all-here, all-fails, all-past}
-use Rattle.opposed_clause.specs.Opposes.{opposes}
-use Rattle.opposed_clause.specs.Laws.{opposed-all}
+use Rattle.opposed.specs.Opposes.{opposes}
+use Rattle.opposed.specs.OpposesLaws.{opposed-all}
 use borrow.Author.Needs.{needs}
-use Rattle.opposed_clause.proofs.is_opposed.Statement.{statement}
-use Rattle.opposed_clause.proofs.is_opposed.Tie as tie
+use Rattle.opposed.proofs.clause.is_opposed.Statement.{statement}
+use Rattle.opposed.proofs.clause.is_opposed.Tie as tie
 
 abbrev Inv-loop : tie.InvT-loop
 Inv-loop clause row assignment i₀ i = (i ≤ length clause) × (isOpposed row assignment clause ≡ all (opposes row assignment) (drop i clause))

@@ -1,4 +1,4 @@
--- `opposed_clause::is_opposing` meets its contract, by what its three callees ensure.
+-- `opposed::clause::is_opposing` meets its contract, by what its three callees ensure.
 use mathlib.Core.Path.{_≡_, sym, ap, _∙_}
 use mathlib.Core.List.{List}
 use Prim.Native.Nat.{ℕ}
@@ -9,10 +9,10 @@ use mir.ValLaws.{toZ-ofZ}
 use Rattle.literal.specs.Literal.{holds}
 use Rattle.wish.specs.Wish.{isAgainst}
 use Rattle.walk.specs.State.{isUnassigned}
-use Rattle.opposed_clause.specs.Laws.{opposes-held, opposes-unassigned, opposes-assigned}
+use Rattle.opposed.specs.OpposesLaws.{opposes-held, opposes-unassigned, opposes-assigned}
 use borrow.Author.Needs.{needs}
-use Rattle.opposed_clause.proofs.is_opposing.Statement.{statement}
-use Rattle.opposed_clause.proofs.is_opposing.Tie as tie
+use Rattle.opposed.proofs.clause.is_opposing.Statement.{statement}
+use Rattle.opposed.proofs.clause.is_opposing.Tie as tie
 
 -- Points of the program: the entry; the literal tested for holding; and for being unassigned.
 abbrev entry : tie.After-holds-in → tie.Start

@@ -11,7 +11,7 @@ use Rattle.wish.specs.Wish.{isAgainst}
 use Rattle.walk.specs.State.{isUnassigned}
 use Rattle.walk.specs.Branching.{assignedOrAgainst, isOpposed}
 use Rattle.clause_standing.specs.Clause.{clauseAt, Tested}
-use Rattle.opposed_clause.specs.Opposes.{opposes}
+use Rattle.opposed.specs.Opposes.{opposes}
 
 -- a literal that holds, one that is unassigned, and one that is assigned and does not hold
 pub opposes-held : (row a : List ℕ) (x : ℤ) → holds a x ≡ true → opposes row a x ≡ false

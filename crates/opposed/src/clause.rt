@@ -5,7 +5,7 @@ ghost use lib.ListN.{drop};
 ghost use Rattle.formula.specs.Formula.{clauseLength};
 ghost use Rattle.walk.specs.Branching.{isOpposed};
 ghost use Rattle.clause_standing.specs.Clause.{clauseAt};
-ghost use Rattle.opposed_clause.specs.Opposes.{opposes};
+ghost use Rattle.opposed.specs.Opposes.{opposes};
 
 // A clause of a list: where it ends, and whether it is opposed.
 pub struct ReadOpposed {

@@ -1,4 +1,4 @@
--- `opposed_clause::read_opposed` meets its contract. The loop's invariant is `Passing`: all of the literals read oppose.
+-- `opposed::clause::read_opposed` meets its contract. The loop's invariant is `Passing`: all of the literals read oppose.
 use mathlib.Core.Path.{_≡_, sym, ap, _∙_}
 use mathlib.Core.Bool.{true, false, not}
 use Prim.Native.Nat.{_-_}
@@ -7,11 +7,11 @@ use lib.ListN.{length, getD}
 use Rattle.literal.specs.Laws.{as-read}
 use Rattle.literal.specs.Literal.{closes}
 use Rattle.clause_standing.specs.Clause.{Passing, passing-start, passing-closed, passing-past, passing-found, passing-next}
-use Rattle.opposed_clause.specs.Opposes.{opposes}
-use Rattle.opposed_clause.specs.Laws.{spares, read-opposed}
+use Rattle.opposed.specs.Opposes.{opposes}
+use Rattle.opposed.specs.OpposesLaws.{spares, read-opposed}
 use borrow.Author.Needs.{needs}
-use Rattle.opposed_clause.proofs.read_opposed.Statement.{statement}
-use Rattle.opposed_clause.proofs.read_opposed.Tie as tie
+use Rattle.opposed.proofs.clause.read_opposed.Statement.{statement}
+use Rattle.opposed.proofs.clause.read_opposed.Tie as tie
 
 abbrev Inv-loop : tie.InvT-loop
 Inv-loop list from row assignment i₀ i = Passing (spares row assignment) list from i
