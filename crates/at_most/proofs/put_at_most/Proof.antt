@@ -4,6 +4,19 @@ use borrow.Author.Needs.{needs}
 use Rattle.at_most.proofs.put_at_most.Statement.{statement}
 use Rattle.at_most.proofs.put_at_most.Tie as tie
 
+-- Points of the program: the call; the group, written, as the limit clause is to be put and was put; and that clause.
+abbrev call : tie.After-put-group → tie.Start
+call c = c .before .before
+
+abbrev whole : tie.After-put-limit-arg → tie.After-put-group
+whole c = c .before .before
+
+abbrev group : tie.After-put-limit → tie.After-put-group
+group c = c .before .before .before
+
+abbrev limited : tie.After-out2 → tie.After-put-limit
+limited c = c .before
+
 put-group-requires : tie.Need-put-group-requires
 put-group-requires c κs =
     let start = c .before in
@@ -11,18 +24,18 @@ put-group-requires c κs =
 
 put-limit-requires : tie.Need-put-limit-requires
 put-limit-requires c κs =
-    let start = c .before .before .before .before in
-    limit-asks (start .args .n) (start .args .d) (start .args .leaves .now) (start .args .out .now) (start .args .from) (start .pre .0) (start .pre .1) (start .pre .2) (c .before .before .put-group .ensures)
+    let start = call (whole c) in
+    limit-asks (start .args .n) (start .args .d) (start .args .leaves .now) (start .args .out .now) (start .args .from) (start .pre .0) (start .pre .1) (start .pre .2) (whole c .put-group .ensures)
 
 same-length : tie.Need-same-length
 same-length c = search needs
 
 returns : tie.Need-returns
 returns c =
-    let start = c .before .before .before .before .before .before in
-    let group = c .before .before .before .before .put-group .ensures in (
-      wrote-at-most (start .args .n) (start .args .d) (start .args .leaves .now) (start .args .out .now) (start .args .from) (start .pre .0) (start .pre .1) (start .pre .2) group (c .before .put-limit .ensures),
-      group .last,
+    let p = group (limited c) in
+    let start = call p in (
+      wrote-at-most (start .args .n) (start .args .d) (start .args .leaves .now) (start .args .out .now) (start .args .from) (start .pre .0) (start .pre .1) (start .pre .2) (p .put-group .ensures) (limited c .put-limit .ensures),
+      p .put-group .ensures .last,
     )
 
 pub put-at-most-spec : {M : Type 1} → statement M

@@ -17,54 +17,74 @@ use borrow.Author.Needs.{needs}
 use Rattle.at_most.proofs.put_limit.Statement.{statement}
 use Rattle.at_most.proofs.put_limit.Tie as tie
 
+-- Points of the program: the call, where there is a limit clause and where there is none; that, with the output; the output, negated; that, as it is to be put and was put; and the clause, put.
+abbrev call : tie.Then1 → tie.Start
+call c = c .before
+
+abbrev without : tie.Else1 → tie.Start
+without c = c .before
+
+abbrev due : tie.After-output-of → tie.Then1
+due c = c .before
+
+abbrev output : tie.After-negate → tie.After-output-of
+output c = c .before
+
+abbrev negated : tie.After-put-closed-arg → tie.After-negate
+negated c = c .before
+
+abbrev passed-on : tie.After-put-closed → tie.After-negate
+passed-on c = c .before .before
+
+abbrev written : tie.After-out → tie.After-put-closed
+written c = c .before
+
 add-output-of : tie.Need-add-output-of
 add-output-of c = search needs
 
 output-of-requires : tie.Need-output-of-requires
 output-of-requires c κs =
-    let args = c .before .args in
-    omega (arith, reach-less (args .s) (args .d + 1) (args .m) (omega (arith, c .if1 .taken)), c .before .pre .0)
+    let args = call c .args in
+    omega (arith, reach-less (args .s) (args .d + 1) (args .m) (omega (arith, c .if1 .taken)), call c .pre .0)
 
 -- the output, as it is passed on
-passed : (c : tie.After-output-of) → toZ w32 (ofZ w32 (c .output-of .result)) ≡ outputs (c .before .before .args .s) (c .before .before .args .d + 1)
+passed : (c : tie.After-output-of) → toZ w32 (ofZ w32 (c .output-of .result)) ≡ outputs (call (due c) .args .s) (call (due c) .args .d + 1)
 passed c = as-read (c .output-of .result) (c .output-of .ok) ∙ c .output-of .ensures
 
 negate-requires : tie.Need-negate-requires
 negate-requires c κs =
-    let args = c .before .before .args in
+    let args = call (due c) .args in
     omega (
       arith,
       ap variable (passed c),
       variable-outputs (args .s) (args .d + 1),
-      reach-less (args .s) (args .d + 1) (args .m) (omega (arith, c .before .if1 .taken)),
-      c .before .before .pre .0,
+      reach-less (args .s) (args .d + 1) (args .m) (omega (arith, due c .if1 .taken)),
+      call (due c) .pre .0,
     )
 
 put-closed-requires : tie.Need-put-closed-requires
 put-closed-requires c κs =
-    let args = c .before .before .before .before .args in
-    omega (
-      arith,
-      ap length (limiting-one (outputs (args .s)) (args .m) (args .d) (c .before .before .before .if1 .taken)),
-      c .before .before .before .before .pre .1,
-    )
+    let p = due (output (negated c)) in
+    let args = call p .args in
+    omega (arith, ap length (limiting-one (outputs (args .s)) (args .m) (args .d) (p .if1 .taken)), call p .pre .1)
 
 same-length : tie.Need-same-length
 same-length c = search needs
 
 returns : tie.Need-returns
 returns c =
-    let args = c .before .before .before .before .before .before .args in
-    let negate = c .before .before .before .negate in
+    let p = passed-on (written c) in
+    let negate = p .negate in
+    let args = call (due (output p)) .args in
     let x : toZ w32 (ofZ w32 (negate .result)) ≡ negℤ (outputs (args .s) (args .d + 1)) =
-    as-read (negate .result) (negate .ok) ∙ negate .ensures ∙ ap negℤ (passed (c .before .before .before .before)) in
+    as-read (negate .result) (negate .ok) ∙ negate .ensures ∙ ap negℤ (passed (output p)) in
     wrote-as
-    (ap (λ (z : ℤ). z ∷ pos 0 ∷ []) x ∙ limiting-one (outputs (args .s)) (args .m) (args .d) (c .before .before .before .before .before .if1 .taken))
-    (c .before .put-closed .ensures)
+    (ap (λ (z : ℤ). z ∷ pos 0 ∷ []) x ∙ limiting-one (outputs (args .s)) (args .m) (args .d) (due (output p) .if1 .taken))
+    (written c .put-closed .ensures)
 
 returns-2 : tie.Need-returns-2
 returns-2 c =
-    let args = c .before .args in
+    let args = without c .args in
     wrote-as (limiting-none (outputs (args .s)) (args .m) (args .d) (c .if1 .left)) (wrote-none (args .out .now) (args .at))
 
 pub put-limit-spec : {M : Type 1} → statement M

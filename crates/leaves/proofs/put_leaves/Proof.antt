@@ -19,6 +19,25 @@ Inv-loop row out₀ at₀ i₀ out at i = (i ≤ length row) × Wrote (leaves (t
 abbrev μ-loop : tie.MeasureT-loop
 μ-loop row out₀ at₀ i₀ out at i = length row - i
 
+-- Points of the program: the call; the turn, with its leaf; the leaf, with its weight; the weight, as the leaf is to be put and was put; and the leaf, put.
+abbrev call : tie.In-loop Inv-loop μ-loop → tie.Start Inv-loop μ-loop
+call c = c .before .before .before
+
+abbrev turn : tie.After-breaking-of Inv-loop μ-loop → tie.In-loop Inv-loop μ-loop
+turn c = c .before .before
+
+abbrev leaf : tie.After-weight-of Inv-loop μ-loop → tie.After-breaking-of Inv-loop μ-loop
+leaf c = c .before
+
+abbrev weighed : tie.After-put-times-arg Inv-loop μ-loop → tie.After-weight-of Inv-loop μ-loop
+weighed c = c .before
+
+abbrev weight : tie.After-put-times Inv-loop μ-loop → tie.After-weight-of Inv-loop μ-loop
+weight c = c .before .before
+
+abbrev written : tie.After-out Inv-loop μ-loop → tie.After-put-times Inv-loop μ-loop
+written c = c .before
+
 loop-holds : tie.Need-loop-holds Inv-loop μ-loop
 loop-holds c = search needs
 
@@ -36,15 +55,15 @@ weight-of-requires c κs = search needs
 
 put-times-requires : tie.Need-put-times-requires Inv-loop μ-loop
 put-times-requires c κs =
-    let loop = c .before .before .before .before .before .loop in
-    let row = c .before .before .before .before .before .before .before .args .row .now in
+    let p = turn (leaf (weighed c)) in
+    let loop = p .before .loop in
     omega (
       arith,
-      leaves-room row (loop .i) (c .before .before .before .before .loop-test .taken),
-      c .before .weight-of .ensures,
+      leaves-room (call p .args .row .now) (loop .i) (p .loop-test .taken),
+      weighed c .weight-of .ensures,
       loop .inv .1 .place,
       wrote-length (loop .inv .1),
-      c .before .before .before .before .before .before .before .pre .1,
+      call p .pre .1,
     )
 
 add-i : tie.Need-add-i Inv-loop μ-loop
@@ -55,12 +74,12 @@ loop-less c = search needs
 
 loop-again : tie.Need-loop-again Inv-loop μ-loop
 loop-again c =
-    let loop = c .before .before .before .before .before .before .before .loop in
-    let row = c .before .before .before .before .before .before .before .before .before .args .row .now in
-    let inside = c .before .before .before .before .before .before .loop-test .taken in
-    let leaf = c .before .before .before .before .breaking-of in
-    let own = ap₂ (λ (k : ℕ) (x : ℤ). replicate k x) (c .before .before .before .weight-of .ensures) (as-read (leaf .result) (leaf .ok) ∙ leaf .ensures) in
-    (search needs, wrote-as (leaves-next row (loop .i) inside) (wrote-more (loop .inv .1) (wrote-as own (c .before .put-times .ensures))))
+    let weighing = weight (written c) in
+    let breaking = leaf weighing .breaking-of in
+    let p = turn (leaf weighing) in
+    let loop = p .before .loop in
+    let own = ap₂ (λ (k : ℕ) (x : ℤ). replicate k x) (weighing .weight-of .ensures) (as-read (breaking .result) (breaking .ok) ∙ breaking .ensures) in
+    (search needs, wrote-as (leaves-next (call p .args .row .now) (loop .i) (p .loop-test .taken)) (wrote-more (loop .inv .1) (wrote-as own (written c .put-times .ensures))))
 
 same-length : tie.Need-same-length Inv-loop μ-loop
 same-length c = wrote-length (c .before .loop .inv .1)

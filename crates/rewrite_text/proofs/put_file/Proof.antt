@@ -10,6 +10,13 @@ use borrow.Author.Needs.{needs}
 use Rattle.rewrite_text.proofs.put_file.Statement.{statement}
 use Rattle.rewrite_text.proofs.put_file.Tie as tie
 
+-- Points of the program: the call; and the writer's reply.
+abbrev call : tie.After-write-rules → tie.Start
+call c = c .before .before .before
+
+abbrev replied : tie.After-size-of → tie.After-write-rules
+replied c = c .before .before .before
+
 write-rules-requires : tie.Need-write-rules-requires
 write-rules-requires c κs = search needs
 
@@ -21,15 +28,14 @@ same-length c = search needs
 
 returns : tie.Need-returns
 returns c =
-    let start = c .before .before .before .before .before .before in
-    let args = start .args in
-    let (positive, most, sound) = start .pre in
-    let call = c .before .before .before .write-rules in
+    let args = call (replied c) .args in
+    let (positive, most, sound) = call (replied c) .pre in
+    let wrote = replied c .write-rules in
     let size : c .size-of .result ≡ length (written (args .n) (args .rules .now)) =
-    c .size-of .ensures ∙ ap sizeOf (call .ensures .0) ∙ file-size (args .n) (args .rules .now) (args .out .now) positive most sound in (
+    c .size-of .ensures ∙ ap sizeOf (wrote .ensures .0) ∙ file-size (args .n) (args .rules .now) (args .out .now) positive most sound in (
       size,
       (
-        call .ensures .1 ∙ file-put (args .n) (args .rules .now) (args .out .now) positive most sound,
+        wrote .ensures .1 ∙ file-put (args .n) (args .rules .now) (args .out .now) positive most sound,
         omega (arith, size, written-most (args .n) (args .rules .now) most sound),
       ),
     )

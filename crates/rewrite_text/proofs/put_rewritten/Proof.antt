@@ -1,7 +1,9 @@
 -- `rewrite_text::put_rewritten` meets its contract: rewriting is refused, or its list is written.
 use mathlib.Core.Path.{sym, ap, _∙_}
-use Prim.Native.Nat.{_≤_}
+use mathlib.Core.List.{List}
+use Prim.Native.Nat.{ℕ, _≤_}
 use native.Mathlib.Omega.{arith}
+use lib.IntN.{ℤ}
 use lib.ListN.{length, take, length-take}
 use Rattle.encoding.specs.Rewrite.{replyOf}
 use Rattle.report.specs.Laws.{renamed}
@@ -12,6 +14,82 @@ use Rattle.rewrite_text.specs.Printed.{rewrittenText}
 use borrow.Author.Needs.{needs}
 use Rattle.rewrite_text.proofs.put_rewritten.Statement.{statement}
 use Rattle.rewrite_text.proofs.put_rewritten.Tie as tie
+
+-- Points of the program: the call; space for the list, as it was rewritten into; the rewriting, where it refused and where it was done; a refusal, as its line was put, and that line; what was done, as its part of the list is cut off, is to be put and was put; and the file, put.
+abbrev call : tie.After-list → tie.Start
+call c = c .before .before .before
+
+abbrev space : tie.After-rewrite → tie.After-list
+space c = c .before .before
+
+abbrev refusing : tie.After-known-told → tie.After-rewrite
+refusing c = c .before .before .before .before
+
+abbrev rewrote : tie.After-known-told2 → tie.After-rewrite
+rewrote c = c .before .before .before .before
+
+abbrev refusal : tie.After-put-refusal → tie.After-known-told
+refusal c = c .before .before
+
+abbrev refusal-put : tie.After-slice-known2 → tie.After-put-refusal
+refusal-put c = c .before .before
+
+abbrev cutting : tie.After-list4 → tie.After-known-told2
+cutting c = c .before
+
+abbrev begun : tie.After-put-file-arg → tie.After-known-told2
+begun c = c .before .before
+
+abbrev sized : tie.After-put-file → tie.After-known-told2
+sized c = c .before .before .before
+
+abbrev file-put : tie.After-slice-known3 → tie.After-put-file
+file-put c = c .before .before
+
+-- what is left of `out`
+abbrev list : tie.After-rewrite → List ℤ
+list c = c .rewrite .last .1 .1 .1 .1 .0
+
+-- what is left of `out`
+abbrev refusal-out : tie.After-put-refusal → List ℕ
+refusal-out c = c .put-refusal .last .1 .0
+
+-- what is left of `out`
+abbrev file-out : tie.After-put-file → List ℕ
+file-out c = c .put-file .last .1 .1 .0
+
+-- after rewriting: what was lent; the list has room
+module _ (c : tie.After-rewrite) where
+  abbrev n : ℕ
+  n = call (space c) .args .n
+
+  abbrev rules : List ℤ
+  rules = call (space c) .args .rules .now
+
+  abbrev row : List ℕ
+  row = call (space c) .args .row .now
+
+  abbrev d : ℕ
+  d = call (space c) .args .d
+
+  abbrev out : List ℕ
+  out = call (space c) .args .out .now
+
+  room : 40000 ≤ length (space c .list .result)
+  room = omega (arith, space c .list .ensures)
+
+-- it was done: the sizes, and what is known of the list
+module _ (c : tie.After-known-told2) where
+  abbrev variables : ℕ
+  variables = c .before .sizes .given .0 .0 .variables
+
+  abbrev size : ℕ
+  size = c .before .sizes .given .0 .0 .length
+
+  done : Rewrote (n (rewrote c)) (rules (rewrote c)) (row (rewrote c)) (d (rewrote c)) (space (rewrote c) .list .result) (room (rewrote c)) variables size (list (rewrote c))
+  done =
+      let p = rewrote c in
+      rewriting-done (n p) (rules p) (row p) (d p) (space p .list .result) (room p) variables size (list p) (sym (ap replyOf (c .before .sizes .given .1)) ∙ p .rewrite .ensures .0) (p .rewrite .ensures .1)
 
 list-requires : tie.Need-list-requires
 list-requires c κs = search needs
@@ -31,51 +109,39 @@ put-refusal-requires c κs = search needs
 enum-known-sizes : tie.Need-enum-known-sizes
 enum-known-sizes c = search needs
 
--- the list has room
-room : (c : tie.After-list) → 40000 ≤ length (c .list .result)
-room c = omega (arith, c .list .ensures)
-
-done : (c : tie.After-known-told2) → Rewrote (c .before .before .before .before .before .before .before .before .before .args .n) (c .before .before .before .before .before .before .before .before .before .args .rules .now) (c .before .before .before .before .before .before .before .before .before .args .row .now) (c .before .before .before .before .before .before .before .before .before .args .d) (c .before .before .before .before .before .before .list .result) (room (c .before .before .before .before .before .before)) (c .before .sizes .given .0 .0 .variables) (c .before .sizes .given .0 .0 .length) (c .before .before .before .before .rewrite .last .1 .1 .1 .1 .0)
-done c =
-    let args = c .before .before .before .before .before .before .before .before .before .args in
-    let call = c .before .before .before .before .rewrite in
-    let held = c .before .sizes .given in
-    rewriting-done (args .n) (args .rules .now) (args .row .now) (args .d) (c .before .before .before .before .before .before .list .result) (room (c .before .before .before .before .before .before)) (held .0 .0 .variables) (held .0 .0 .length) (call .last .1 .1 .1 .1 .0)
-    (sym (ap replyOf (held .1)) ∙ call .ensures .0) (call .ensures .1)
-
 array-share-prefix-list : tie.Need-array-share-prefix-list
 array-share-prefix-list c = done c .inside
 
 slice-aggregate-put-file : tie.Need-slice-aggregate-put-file
-slice-aggregate-put-file c = omega (arith, done (c .before) .inside, length-take (c .before .before .sizes .given .0 .0 .length) (c .before .before .before .before .before .rewrite .last .1 .1 .1 .1 .0))
+slice-aggregate-put-file c =
+    let q = cutting c in
+    omega (arith, done q .inside, length-take (size q) (list (rewrote q)))
 
 put-file-requires : tie.Need-put-file-requires
-put-file-requires c κs = let d = done (c .before .before) in (d .positive, d .most, d .sound)
+put-file-requires c κs = let known = done (begun c) in (known .positive, known .most, known .sound)
 
 same-length : tie.Need-same-length
 same-length c = search needs
 
 returns : tie.Need-returns
 returns c =
-    let args = c .before .before .before .before .before .before .before .before .before .before .before .before .before .args in
-    let rewrote = c .before .before .before .before .before .before .before .before .rewrite in
-    let r = c .before .before .before .before .before .r .given .0 .0 in
-    let put = c .before .before .put-refusal in
-    let text = rewriting-refused (args .n) (args .rules .now) (args .row .now) (args .d) (c .before .before .before .before .before .before .before .before .before .before .list .result) (room (c .before .before .before .before .before .before .before .before .before .before)) r (sym (ap replyOf (c .before .before .before .before .before .r .given .1)) ∙ rewrote .ensures .0) in
-    let said = renamed (refusalLine r) (rewrittenText (args .n) (args .rules .now) (args .row .now) (args .d)) (put .result) (args .out .now) (put .last .1 .0) text (put .ensures .0) (put .ensures .1) in
-    (said .0, (said .1, omega (arith, put .ensures .2)))
+    let line = refusal-put c .put-refusal in
+    let held = refusal (refusal-put c) .before .r .given in
+    let p = refusing (refusal (refusal-put c)) in
+    let text = rewriting-refused (n p) (rules p) (row p) (d p) (space p .list .result) (room p) (held .0 .0) (sym (ap replyOf (held .1)) ∙ p .rewrite .ensures .0) in
+    let said = renamed (refusalLine (held .0 .0)) (rewrittenText (n p) (rules p) (row p) (d p)) (line .result) (out p) (refusal-out (refusal-put c)) text (line .ensures .0) (line .ensures .1) in
+    (said .0, (said .1, omega (arith, line .ensures .2)))
 
 same-length-2 : tie.Need-same-length-2
 same-length-2 c = search needs
 
 returns-2 : tie.Need-returns-2
 returns-2 c =
-    let args = c .before .before .before .before .before .before .before .before .before .before .before .before .before .before .args in
-    let held = c .before .before .before .before .before .before .sizes .given .0 .0 in
-    let put = c .before .before .put-file in
-    let d = done (c .before .before .before .before .before) in
-    let said = renamed (written (held .variables) (take (held .length) (c .before .before .before .before .before .before .before .before .before .rewrite .last .1 .1 .1 .1 .0))) (rewrittenText (args .n) (args .rules .now) (args .row .now) (args .d)) (put .result) (args .out .now) (put .last .1 .1 .0) (d .file) (put .ensures .0) (put .ensures .1 .0) in
-    (said .0, (said .1, put .ensures .1 .1))
+    let file = file-put c .put-file in
+    let q = sized (file-put c) in
+    let p = rewrote q in
+    let said = renamed (written (variables q) (take (size q) (list p))) (rewrittenText (n p) (rules p) (row p) (d p)) (file .result) (out p) (file-out (file-put c)) (done q .file) (file .ensures .0) (file .ensures .1 .0) in
+    (said .0, (said .1, file .ensures .1 .1))
 
 pub put-rewritten-spec : {M : Type 1} → statement M
 put-rewritten-spec =

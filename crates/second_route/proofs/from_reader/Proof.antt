@@ -14,15 +14,32 @@ use Rattle.second_route.specs.Routes.{inBuffers}
 use Rattle.second_route.proofs.from_reader.Statement.{statement}
 use Rattle.second_route.proofs.from_reader.Tie as tie
 
--- Points of the program: the entry; after the reader; with the counts that it gave; after the search.
+-- Points of the program: the entry; after the reader, where it refused and with the counts that it gave; those, as the part that it filled is lent, and as it was searched; and after the search.
 abbrev entry : tie.After-read-rules → tie.Start
 entry c = c .before .before .before .before
+
+abbrev refusing : tie.After-known-told → tie.After-read-rules
+refusing c = c .before .before .before .before
 
 abbrev read : tie.After-known-told2 → tie.After-read-rules
 read c = c .before .before .before .before
 
+abbrev lending : tie.After-search-arg → tie.After-known-told2
+lending c = c .before
+
 abbrev counts : tie.After-search → tie.After-known-told2
 counts c = c .before .before .before
+
+abbrev searched : tie.After-slice-known2 → tie.After-search
+searched c = c .before .before
+
+-- what is left of `rules`
+abbrev rules-left : tie.After-read-rules → List ℤ
+rules-left c = c .read-rules .last .1 .0
+
+-- what is left of `choice`
+abbrev choice-left : tie.After-search → List ℕ
+choice-left c = c .search .last .1 .1 .0
 
 read-rules-requires : tie.Need-read-rules-requires
 read-rules-requires c κs = search needs
@@ -48,7 +65,7 @@ module _ (c : tie.After-known-told2) where
   size = c .before .counts .given .0 .0 .length
 
   abbrev list : List ℤ
-  list = read c .read-rules .last .1 .0
+  list = rules-left (read c)
 
   said : answering 1 variables clauses size ≡ readReply (start .args .file .now) (length (start .args .list .now))
   said = sym (ap replyOf (c .before .counts .given .1)) ∙ read c .read-rules .ensures .0
@@ -60,7 +77,7 @@ slice-reshare-prefix-search : tie.Need-slice-reshare-prefix-search
 slice-reshare-prefix-search c = omega (arith, inside c)
 
 slice-aggregate-search : tie.Need-slice-aggregate-search
-slice-aggregate-search c = simp length-take (omega (arith, inside (c .before)))
+slice-aggregate-search c = simp length-take (omega (arith, inside (lending c)))
 
 search-requires : tie.Need-search-requires
 search-requires c κs = search needs
@@ -70,9 +87,8 @@ same-length c = search needs
 
 returns : tie.Need-returns
 returns c =
-    let told = c .before .before .before .before in
-    let args = entry told .args in
-    let call = told .read-rules in
+    let args = entry (refusing c) .args in
+    let call = refusing c .read-rules in
     let held = c .before .r .given in
     let out = reader-refused (inBuffers (args .list .now) (args .file .now) (args .list .now) (args .choice .now)) (args .file .now) (held .0 .0) (sym (ap replyOf (held .1)) ∙ call .ensures .0) in
     (out .0, (call .ensures .1, out .1))
@@ -85,12 +101,11 @@ same-length-3 c = search needs
 
 returns-2 : tie.Need-returns-2
 returns-2 c =
-    let walked = c .before .before in
-    let known = counts walked in
+    let known = counts (searched c) in
     let args = start known .args in
     let call = read known .read-rules in
-    let searched = walked .search in
-    let out = reader-answered (inBuffers (args .list .now) (args .file .now) (args .list .now) (args .choice .now)) (args .file .now) (variables known) (clauses known) (size known) (said known) (list known) (call .ensures .1) (searches.replyOf (searched .result)) (searched .last .1 .1 .0) (searched .ensures .0) (searched .ensures .1 .0) in
+    let found = searched c .search in
+    let out = reader-answered (inBuffers (args .list .now) (args .file .now) (args .list .now) (args .choice .now)) (args .file .now) (variables known) (clauses known) (size known) (said known) (list known) (call .ensures .1) (searches.replyOf (found .result)) (choice-left (searched c)) (found .ensures .0) (found .ensures .1 .0) in
     (out .0, (call .ensures .1, out .1))
 
 pub from-reader-spec : {M : Type 1} → statement M

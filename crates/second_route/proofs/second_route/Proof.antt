@@ -14,15 +14,40 @@ use Rattle.second_route.specs.Routes.{inBuffers}
 use Rattle.second_route.proofs.second_route.Statement.{statement}
 use Rattle.second_route.proofs.second_route.Tie as tie
 
--- Points of the program: the entry; after rewriting; with the sizes that it gave; after the rest of the route.
+-- Points of the program: the entry; after rewriting, where it refused and with the sizes that it gave; those, as the part that it filled is lent, and as the rest of the route was gone; and after that rest.
 abbrev entry : tie.After-rewrite → tie.Start
 entry c = c .before .before .before .before .before
+
+abbrev refusing : tie.After-known-told → tie.After-rewrite
+refusing c = c .before .before .before .before
 
 abbrev rewrote : tie.After-known-told2 → tie.After-rewrite
 rewrote c = c .before .before .before .before
 
+abbrev lending : tie.After-from-writer-arg → tie.After-known-told2
+lending c = c .before
+
 abbrev sized : tie.After-from-writer → tie.After-known-told2
 sized c = c .before .before .before .before .before
+
+abbrev gone : tie.After-slice-known4 → tie.After-from-writer
+gone c = c .before .before .before .before .before
+
+-- what is left of `out`
+abbrev rewritten-left : tie.After-rewrite → List ℤ
+rewritten-left c = c .rewrite .last .1 .1 .1 .1 .0
+
+-- what is left of `file`
+abbrev file-left : tie.After-from-writer → List ℕ
+file-left c = c .from-writer .last .1 .1 .0
+
+-- what is left of `list`
+abbrev list-left : tie.After-from-writer → List ℤ
+list-left c = c .from-writer .last .1 .1 .1 .0
+
+-- what is left of `choice`
+abbrev choice-left : tie.After-from-writer → List ℕ
+choice-left c = c .from-writer .last .1 .1 .1 .1 .0
 
 rewrite-requires : tie.Need-rewrite-requires
 rewrite-requires c κs = search needs
@@ -45,7 +70,7 @@ module _ (c : tie.After-known-told2) where
   size = c .before .sizes .given .0 .0 .length
 
   abbrev rewritten : List ℤ
-  rewritten = rewrote c .rewrite .last .1 .1 .1 .1 .0
+  rewritten = rewritten-left (rewrote c)
 
   said : answering 1 variables size 0 ≡ rewriteReply (start .args .n) (start .args .rules .now) (start .args .row .now) (start .args .d) (length (start .args .rewritten .now))
   said = sym (ap replyOf (c .before .sizes .given .1)) ∙ rewrote c .rewrite .ensures .0
@@ -59,7 +84,7 @@ slice-reshare-prefix-from-writer : tie.Need-slice-reshare-prefix-from-writer
 slice-reshare-prefix-from-writer c = omega (arith, inside c)
 
 slice-aggregate-from-writer : tie.Need-slice-aggregate-from-writer
-slice-aggregate-from-writer c = simp length-take (omega (arith, inside (c .before)))
+slice-aggregate-from-writer c = simp length-take (omega (arith, inside (lending c)))
 
 from-writer-requires : tie.Need-from-writer-requires
 from-writer-requires c κs = search needs
@@ -69,11 +94,10 @@ same-length c = search needs
 
 returns : tie.Need-returns
 returns c =
-    let told = c .before .before .before .before in
-    let args = entry told .args in
-    let call = told .rewrite in
+    let args = entry (refusing c) .args in
+    let call = refusing c .rewrite in
     let held = c .before .r .given in
-    rewriting-refused (args .n) (args .rules .now) (args .row .now) (args .d) (inBuffers (args .rewritten .now) (args .file .now) (args .list .now) (args .choice .now)) (held .0 .0) (sym (ap replyOf (held .1)) ∙ call .ensures .0) (call .last .1 .1 .1 .1 .0) (call .ensures .1)
+    rewriting-refused (args .n) (args .rules .now) (args .row .now) (args .d) (inBuffers (args .rewritten .now) (args .file .now) (args .list .now) (args .choice .now)) (held .0 .0) (sym (ap replyOf (held .1)) ∙ call .ensures .0) (rewritten-left (refusing c)) (call .ensures .1)
 
 same-length-2 : tie.Need-same-length-2
 same-length-2 c = search needs
@@ -89,11 +113,10 @@ same-length-5 c = search needs
 
 returns-2 : tie.Need-returns-2
 returns-2 c =
-    let walked = c .before .before .before .before .before in
-    let known = sized walked in
+    let known = sized (gone c) in
     let args = start known .args in
-    let rest = walked .from-writer in
-    rewriting-answered (args .n) (args .rules .now) (args .row .now) (args .d) (inBuffers (args .rewritten .now) (args .file .now) (args .list .now) (args .choice .now)) (variables known) (size known) (said known) (rewritten known) (rewrote known .rewrite .ensures .1) (searches.replyOf (rest .result)) (rest .last .1 .1 .0) (rest .last .1 .1 .1 .0) (rest .last .1 .1 .1 .1 .0) (rest .ensures .0) (rest .ensures .1 .0) (rest .ensures .1 .1 .0) (rest .ensures .1 .1 .1)
+    let rest = gone c .from-writer in
+    rewriting-answered (args .n) (args .rules .now) (args .row .now) (args .d) (inBuffers (args .rewritten .now) (args .file .now) (args .list .now) (args .choice .now)) (variables known) (size known) (said known) (rewritten known) (rewrote known .rewrite .ensures .1) (searches.replyOf (rest .result)) (file-left (gone c)) (list-left (gone c)) (choice-left (gone c)) (rest .ensures .0) (rest .ensures .1 .0) (rest .ensures .1 .1 .0) (rest .ensures .1 .1 .1)
 
 pub second-route-spec : {M : Type 1} → statement M
 second-route-spec =

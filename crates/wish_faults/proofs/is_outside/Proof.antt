@@ -4,6 +4,10 @@ use Rattle.wish_faults.specs.Laws.{none-variables, many-variables, more-
 use Rattle.wish_faults.proofs.is_outside.Statement.{statement}
 use Rattle.wish_faults.proofs.is_outside.Tie as tie
 
+-- Points of the program: the call, past the third test.
+abbrev call : tie.Else3 → tie.Start
+call c = c .before .before .before
+
 returns : tie.Need-returns
 returns c =
     let args = c .before .args in
@@ -21,13 +25,15 @@ returns-3 c =
 
 returns-4 : tie.Need-returns-4
 returns-4 c =
-    let args = c .before .before .before .before .args in
-    sym (many-wishes (args .n) (args .wishes) (args .limit) (c .before .before .before .if1 .left) (c .before .before .if2 .left) (c .before .if3 .left) (c .if4 .taken))
+    let p = c .before in
+    let args = call p .args in
+    sym (many-wishes (args .n) (args .wishes) (args .limit) (p .before .before .if1 .left) (p .before .if2 .left) (p .if3 .left) (c .if4 .taken))
 
 returns-5 : tie.Need-returns-5
 returns-5 c =
-    let args = c .before .before .before .before .args in
-    sym (by-limit (args .n) (args .wishes) (args .limit) (c .before .before .before .if1 .left) (c .before .before .if2 .left) (c .before .if3 .left) (c .if4 .left))
+    let p = c .before in
+    let args = call p .args in
+    sym (by-limit (args .n) (args .wishes) (args .limit) (p .before .before .if1 .left) (p .before .if2 .left) (p .if3 .left) (c .if4 .left))
 
 pub is-outside-spec : {M : Type 1} → statement M
 is-outside-spec = tie.close (tie.spec returns returns-2 returns-3 returns-4 returns-5)

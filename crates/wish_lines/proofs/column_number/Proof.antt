@@ -8,6 +8,13 @@ use borrow.Author.Needs.{needs}
 use Rattle.wish_lines.proofs.column_number.Statement.{statement}
 use Rattle.wish_lines.proofs.column_number.Tie as tie
 
+-- Points of the program: the call; and the spaces, counted.
+abbrev call : tie.After-leading-spaces → tie.Start
+call c = c .before .before .before
+
+abbrev past-spaces : tie.After-number-of → tie.After-leading-spaces
+past-spaces c = c .before .before
+
 add-end : tie.Need-add-end
 add-end c = search needs
 
@@ -37,10 +44,11 @@ number-of-requires c κs = search needs
 
 returns : tie.Need-returns
 returns c =
-    let at = c .before .before .before .before .before .args .at in
-    let s = c .before .before .before .before .before .args .file .now in
+    let p = past-spaces c in
+    let at = call p .args .at in
+    let s = call p .args .file .now in
     let width : at + 5 - at ≡ 5 = omega arith in
-    c .number-of .ensures ∙ ap numberAs (column-part s at (at + 5 - at) (c .before .before .leading-spaces .result) width (c .before .before .leading-spaces .ensures .1))
+    c .number-of .ensures ∙ ap numberAs (column-part s at (at + 5 - at) (p .leading-spaces .result) width (p .leading-spaces .ensures .1))
 
 pub column-number-spec : {M : Type 1} → statement M
 column-number-spec =

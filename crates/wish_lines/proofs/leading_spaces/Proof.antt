@@ -15,6 +15,16 @@ Inv-loop bytes i₀ i = (i ≤ length bytes) × (pastSpaces bytes ≡ pastSpaces
 abbrev μ-loop : tie.MeasureT-loop
 μ-loop bytes i₀ i = length bytes - i
 
+-- Points of the program: the call; and the turn, where its byte is no space and where it is one.
+abbrev call : tie.At-loop Inv-loop μ-loop → tie.Start Inv-loop μ-loop
+call c = c .before
+
+abbrev no-space : tie.Then1 Inv-loop μ-loop → tie.In-loop Inv-loop μ-loop
+no-space c = c .before .before
+
+abbrev space : tie.Else1 Inv-loop μ-loop → tie.In-loop Inv-loop μ-loop
+space c = c .before .before
+
 loop-holds : tie.Need-loop-holds Inv-loop μ-loop
 loop-holds c = search needs
 
@@ -23,9 +33,8 @@ shared-slice-read-if1 c = search needs
 
 returns : tie.Need-returns Inv-loop μ-loop
 returns c =
-    let w = c .before .before .before .before .args .bytes .now in
-    let loop = c .before .before .before .loop in
-    (loop .inv .0, loop .inv .1 ∙ spaces-end w (loop .i) (c .before .before .loop-test .taken) (c .if1 .taken))
+    let p = no-space c .before in
+    (p .loop .inv .0, p .loop .inv .1 ∙ spaces-end (call p .args .bytes .now) (p .loop .i) (no-space c .loop-test .taken) (c .if1 .taken))
 
 add-i : tie.Need-add-i Inv-loop μ-loop
 add-i c = search needs
@@ -35,15 +44,13 @@ loop-less c = search needs
 
 loop-again : tie.Need-loop-again Inv-loop μ-loop
 loop-again c =
-    let w = c .before .before .before .before .args .bytes .now in
-    let loop = c .before .before .before .loop in
-    (omega arith, loop .inv .1 ∙ spaces-more w (loop .i) (c .before .before .loop-test .taken) (c .if1 .left))
+    let p = space c .before in
+    (omega arith, p .loop .inv .1 ∙ spaces-more (call p .args .bytes .now) (p .loop .i) (space c .loop-test .taken) (c .if1 .left))
 
 returns-2 : tie.Need-returns-2 Inv-loop μ-loop
 returns-2 c =
-    let w = c .before .before .args .bytes .now in
-    let loop = c .before .loop in
-    (loop .inv .0, loop .inv .1 ∙ spaces-all w (loop .i) (c .loop-test .left))
+    let p = c .before in
+    (p .loop .inv .0, p .loop .inv .1 ∙ spaces-all (call p .args .bytes .now) (p .loop .i) (c .loop-test .left))
 
 pub leading-spaces-spec : {M : Type 1} → statement M
 leading-spaces-spec =

@@ -1,7 +1,8 @@
 -- `wish_scan::scan_file` meets its contract: refused at line one, for its range, in the lines after it, or good.
 use mathlib.Core.Path.{_≡_, sym, ap, _∙_}
 use mathlib.Core.Bool.{true}
-use Prim.Native.Nat.{_≤_}
+use mathlib.Core.List.{List}
+use Prim.Native.Nat.{ℕ, _≤_}
 use native.Mathlib.Omega.{arith}
 use lib.ListN.{length}
 use borrow.Author.Tests.{not-true, not-false}
@@ -14,20 +15,61 @@ use borrow.Author.Needs.{needs}
 use Rattle.wish_scan.proofs.scan_file.Statement.{statement}
 use Rattle.wish_scan.proofs.scan_file.Tie as tie
 
+-- Points of the program: the call; line one, looked at, where it is none and where it is one; that line and its three numbers, as their range is looked at; that look, where they are outside and where the lines are scanned; and the scan, refused and passed.
+abbrev call : tie.After-is-line → tie.Start
+call c = c .before .before
+
+abbrev no-line : tie.Then1 → tie.After-is-line
+no-line c = c .before
+
+abbrev looked : tie.Else1 → tie.After-is-line
+looked c = c .before
+
+abbrev line : tie.After-is-outside → tie.Else1
+line c = c .before .before .before .before
+
+abbrev variables : tie.After-is-outside → tie.After-field-at
+variables c = c .before .before .before
+
+abbrev wishes : tie.After-is-outside → tie.After-field-at2
+wishes c = c .before .before
+
+abbrev limit : tie.After-is-outside → tie.After-field-at3
+limit c = c .before
+
+abbrev out-of-range : tie.Then2 → tie.After-is-outside
+out-of-range c = c .before
+
+abbrev in-range : tie.Else2 → tie.After-is-outside
+in-range c = c .before
+
+abbrev sound : tie.After-scan-lines → tie.Else2
+sound c = c .before
+
+abbrev refused-there : tie.After-known-told → tie.After-scan-lines
+refused-there c = c .before .before .before
+
+abbrev passed-there : tie.After-enum-told → tie.After-scan-lines
+passed-there c = c .before .before
+
+-- past the first test: line one is there
+module _ (c : tie.Else1) where
+  abbrev file : List ℕ
+  file = call (looked c) .args .file .now
+
+  a-line : isLine 3 file ≡ true
+  a-line = sym (looked c .is-line .ensures) ∙ not-false (looked c .is-line .result) (c .if1 .left)
+
+  long : 16 ≤ length file
+  long = line-long 3 file a-line
+
 is-line-requires : tie.Need-is-line-requires
 is-line-requires c κs = search needs
 
 returns : tie.Need-returns
 returns c =
-    let file = c .before .before .before .args .file .now in
-    sym (ap fileScan (header-malformed file (sym (c .before .is-line .ensures) ∙ not-true (c .before .is-line .result) (c .if1 .taken))))
-
--- past the first test: line one is there
-a-line : (c : tie.Else1) → isLine 3 (c .before .before .before .args .file .now) ≡ true
-a-line c = sym (c .before .is-line .ensures) ∙ not-false (c .before .is-line .result) (c .if1 .left)
-
-long : (c : tie.Else1) → 16 ≤ length (c .before .before .before .args .file .now)
-long c = line-long 3 (c .before .before .before .args .file .now) (a-line c)
+    let p = no-line c in
+    sym (ap fileScan (header-malformed (call p .args .file .now) (sym (p .is-line .ensures) ∙ not-true (p .is-line .result) (c .if1 .taken))))
 
 field-at-requires : tie.Need-field-at-requires
 field-at-requires c κs = omega (arith, long c)
@@ -46,13 +88,13 @@ is-outside-requires c κs = search needs
 
 returns-2 : tie.Need-returns-2
 returns-2 c =
-    let file = c .before .before .before .before .before .before .before .before .args .file .now in
+    let p = out-of-range c in
     sym (ap fileScan
-    (header-outside file (a-line (c .before .before .before .before .before)) (c .before .before .before .before .field-at .result) (c .before .before .before .field-at2 .result) (c .before .before .field-at3 .result) (c .before .before .before .before .field-at .ensures) (c .before .before .before .field-at2 .ensures) (c .before .before .field-at3 .ensures)
-    (sym (c .before .is-outside .ensures) ∙ c .if2 .taken)))
+    (header-outside (file (line p)) (a-line (line p)) (variables p .field-at .result) (wishes p .field-at2 .result) (limit p .field-at3 .result) (variables p .field-at .ensures) (wishes p .field-at2 .ensures) (limit p .field-at3 .ensures)
+    (sym (p .is-outside .ensures) ∙ c .if2 .taken)))
 
 scan-lines-requires : tie.Need-scan-lines-requires
-scan-lines-requires c κs = long (c .before .before .before .before .before)
+scan-lines-requires c κs = long (line (in-range c))
 
 enum-known-r : tie.Need-enum-known-r
 enum-known-r c = search needs
@@ -62,17 +104,19 @@ enum-told c = search needs
 
 returns-3 : tie.Need-returns-3
 returns-3 c =
-    let file = c .before .before .before .before .before .before .before .before .before .before .before .before .args .file .now in
+    let scanned = refused-there c in
+    let p = in-range (sound scanned) in
     sym (ap fileScan
-    (lines-refused file (a-line (c .before .before .before .before .before .before .before .before .before)) (c .before .before .before .before .before .before .before .before .field-at .result) (c .before .before .before .before .before .before .before .field-at2 .result) (c .before .before .before .before .before .before .field-at3 .result) (c .before .before .before .before .before .before .before .before .field-at .ensures) (c .before .before .before .before .before .before .before .field-at2 .ensures) (c .before .before .before .before .before .before .field-at3 .ensures)
-    (sym (c .before .before .before .before .before .is-outside .ensures) ∙ c .before .before .before .before .if2 .left) (c .before .r .given .0 .0) (sym (c .before .before .before .scan-lines .ensures) ∙ ap refused (c .before .r .given .1))))
+    (lines-refused (file (line p)) (a-line (line p)) (variables p .field-at .result) (wishes p .field-at2 .result) (limit p .field-at3 .result) (variables p .field-at .ensures) (wishes p .field-at2 .ensures) (limit p .field-at3 .ensures)
+    (sym (p .is-outside .ensures) ∙ sound scanned .if2 .left) (c .before .r .given .0 .0) (sym (scanned .scan-lines .ensures) ∙ ap refused (c .before .r .given .1))))
 
 returns-4 : tie.Need-returns-4
 returns-4 c =
-    let file = c .before .before .before .before .before .before .before .before .before .before .before .args .file .now in
+    let scanned = passed-there c in
+    let p = in-range (sound scanned) in
     sym (ap fileScan
-    (lines-passed file (a-line (c .before .before .before .before .before .before .before .before)) (c .before .before .before .before .before .before .before .field-at .result) (c .before .before .before .before .before .before .field-at2 .result) (c .before .before .before .before .before .field-at3 .result) (c .before .before .before .before .before .before .before .field-at .ensures) (c .before .before .before .before .before .before .field-at2 .ensures) (c .before .before .before .before .before .field-at3 .ensures)
-    (sym (c .before .before .before .before .is-outside .ensures) ∙ c .before .before .before .if2 .left) (sym (c .before .before .scan-lines .ensures) ∙ ap refused (c .enum-told .given .1))))
+    (lines-passed (file (line p)) (a-line (line p)) (variables p .field-at .result) (wishes p .field-at2 .result) (limit p .field-at3 .result) (variables p .field-at .ensures) (wishes p .field-at2 .ensures) (limit p .field-at3 .ensures)
+    (sym (p .is-outside .ensures) ∙ sound scanned .if2 .left) (sym (scanned .scan-lines .ensures) ∙ ap refused (c .enum-told .given .1))))
 
 pub scan-file-spec : {M : Type 1} → statement M
 scan-file-spec =

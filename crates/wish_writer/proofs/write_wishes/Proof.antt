@@ -12,13 +12,26 @@ use borrow.Author.Needs.{needs}
 use Rattle.wish_writer.proofs.write_wishes.Statement.{statement}
 use Rattle.wish_writer.proofs.write_wishes.Tie as tie
 
--- after the check of what was lent
+-- Points of the program: the call; the check of what was lent, where it refused and where it passed; and what passed, as it is to be written.
+abbrev call : tie.After-admit-row → tie.Start
+call c = c .before .before .before
+
+abbrev refusing : tie.After-known-told → tie.After-admit-row
+refusing c = c .before .before .before
+
+abbrev checked : tie.After-known-told2 → tie.After-admit-row
+checked c = c .before .before .before
+
+abbrev counted : tie.After-write-row-arg → tie.After-known-told2
+counted c = c .before
+
+-- after the check: what was lent
 abbrev lent : tie.After-admit-row → Lent
-lent c = wishesAlone (c .before .before .before .args .n) (c .before .before .before .args .row .now) (c .before .before .before .args .d)
+lent c = wishesAlone (call c .args .n) (call c .args .row .now) (call c .args .d)
 
 -- past it, with the counts
-passed : (c : tie.After-known-told2) → (unadmitted (lent (c .before .before .before)) ≡ none) × (c .before .counts .given .0 .0 ≡ countsOf (lent (c .before .before .before)))
-passed c = admitted-by (unadmitted (lent (c .before .before .before))) (countsOf (lent (c .before .before .before))) (c .before .counts .given .0 .0) (sym (c .before .before .before .admit-row .ensures) ∙ c .before .counts .given .1)
+passed : (c : tie.After-known-told2) → (unadmitted (lent (checked c)) ≡ none) × (c .before .counts .given .0 .0 ≡ countsOf (lent (checked c)))
+passed c = admitted-by (unadmitted (lent (checked c))) (countsOf (lent (checked c))) (c .before .counts .given .0 .0) (sym (checked c .admit-row .ensures) ∙ c .before .counts .given .1)
 
 admit-row-requires : tie.Need-admit-row-requires
 admit-row-requires c κs = search needs
@@ -31,15 +44,15 @@ enum-known-counts c = search needs
 
 write-row-requires : tie.Need-write-row-requires
 write-row-requires c κs =
-    let known = passed (c .before) in
-    (admitted (lent (c .before .before .before .before)) (known .0), ap (λ (k : Counts). k .wishes) (known .1))
+    let known = passed (counted c) in
+    (admitted (lent (checked (counted c))) (known .0), ap (λ (k : Counts). k .wishes) (known .1))
 
 returns : tie.Need-returns
 returns c =
-    let args = c .before .before .before .before .before .before .args in
-    let s = lent (c .before .before .before) in
+    let args = call (refusing c) .args in
+    let s = lent (refusing c) in
     let r = c .before .r .given .0 .0 in
-    refused-early s (written (args .n) (args .row .now) (args .d)) (args .file .now) r (refused-by (unadmitted s) (countsOf s) r (sym (c .before .before .before .admit-row .ensures) ∙ c .before .r .given .1))
+    refused-early s (written (args .n) (args .row .now) (args .d)) (args .file .now) r (refused-by (unadmitted s) (countsOf s) r (sym (refusing c .admit-row .ensures) ∙ c .before .r .given .1))
 
 same-length : tie.Need-same-length
 same-length c = search needs

@@ -18,38 +18,65 @@ Inv-loop g i out₀ from at₀ j₀ out at j = (j ≤ suc (g .q)) × Wrote (flat
 abbrev μ-loop : tie.MeasureT-loop
 μ-loop g i out₀ from at₀ j₀ out at j = suc (g .q) - j
 
+-- Points of the program: the call; the loop's head, at a turn and past the last; the turn, as the clause up is to be put and was put; that clause, as the one down is to be put and was put; and that one.
+abbrev call : tie.At-loop Inv-loop μ-loop → tie.Start Inv-loop μ-loop
+call c = c .before
+
+abbrev head : tie.Then1 Inv-loop μ-loop → tie.At-loop Inv-loop μ-loop
+head c = c .before .before
+
+abbrev past : tie.Else1 Inv-loop μ-loop → tie.At-loop Inv-loop μ-loop
+past c = c .before .before
+
+abbrev begun : tie.After-put-up-arg Inv-loop μ-loop → tie.Then1 Inv-loop μ-loop
+begun c = c .before
+
+abbrev turn : tie.After-put-up Inv-loop μ-loop → tie.Then1 Inv-loop μ-loop
+turn c = c .before .before
+
+abbrev half : tie.After-put-down-arg Inv-loop μ-loop → tie.After-put-up Inv-loop μ-loop
+half c = c .before .before
+
+abbrev up : tie.After-put-down Inv-loop μ-loop → tie.After-put-up Inv-loop μ-loop
+up c = c .before .before .before
+
+abbrev down : tie.After-out2 Inv-loop μ-loop → tie.After-put-down Inv-loop μ-loop
+down c = c .before
+
 loop-holds : tie.Need-loop-holds Inv-loop μ-loop
 loop-holds c = search needs
 
 -- both clauses of this turn have room
 room : (c : tie.Then1 Inv-loop μ-loop)
-    → c .before .before .loop .at + length (flat (pair (c .before .before .before .args .g) (c .before .before .before .args .i) (c .before .before .loop .j)))
-    ≤ length (c .before .before .loop .out)
+    → head c .loop .at + length (flat (pair (call (head c) .args .g) (call (head c) .args .i) (head c .loop .j)))
+    ≤ length (head c .loop .out)
 room c =
-    let args = c .before .before .before .args in
-    let loop = c .before .before .loop in
-    room-below (pair (args .g) (args .i)) (loop .j) (loop .inv .1) (args .g .q) (c .if1 .taken) (c .before .before .before .pre .2)
+    let args = call (head c) .args in
+    let loop = head c .loop in
+    room-below (pair (args .g) (args .i)) (loop .j) (loop .inv .1) (args .g .q) (c .if1 .taken) (call (head c) .pre .2)
 
 put-up-requires : tie.Need-put-up-requires Inv-loop μ-loop
 put-up-requires c κs =
-    let args = c .before .before .before .before .args in
-    let loop = c .before .before .before .loop in
-    let pre = c .before .before .before .before .pre in (
+    let p = begun c in
+    let args = call (head p) .args in
+    let loop = head p .loop in
+    let pre = call (head p) .pre in (
       pre .0,
       pre .1,
-      c .before .if1 .taken,
-      room-first (upClauses (args .g) (args .i) (loop .j)) (downClauses (args .g) (args .i) (loop .j)) (loop .out) (loop .at) (room (c .before)),
+      p .if1 .taken,
+      room-first (upClauses (args .g) (args .i) (loop .j)) (downClauses (args .g) (args .i) (loop .j)) (loop .out) (loop .at) (room p),
     )
 
 put-down-requires : tie.Need-put-down-requires Inv-loop μ-loop
 put-down-requires c κs =
-    let args = c .before .before .before .before .before .before .before .args in
-    let loop = c .before .before .before .before .before .before .loop in
-    let pre = c .before .before .before .before .before .before .before .pre in (
+    let p = turn (half c) in
+    let args = call (head p) .args in
+    let loop = head p .loop in
+    let pre = call (head p) .pre in (
       pre .0,
       pre .1,
-      c .before .before .before .before .if1 .taken,
-      room-next (upClauses (args .g) (args .i) (loop .j)) (downClauses (args .g) (args .i) (loop .j)) (c .before .before .put-up .ensures) (room (c .before .before .before .before)),
+      p .if1 .taken,
+      room-next (upClauses (args .g) (args .i) (loop .j)) (downClauses (args .g) (args .i) (loop .j)) (half c .put-up .ensures) (room p),
     )
 
 add-j : tie.Need-add-j Inv-loop μ-loop
@@ -60,20 +87,21 @@ loop-less c = search needs
 
 loop-again : tie.Need-loop-again Inv-loop μ-loop
 loop-again c =
-    let args = c .before .before .before .before .before .before .before .before .before .args in
-    let loop = c .before .before .before .before .before .before .before .before .loop in (
+    let p = up (down c) in
+    let args = call (head (turn p)) .args in
+    let loop = head (turn p) .loop in (
       search needs,
       wrote-below (pair (args .g) (args .i)) (loop .j) (loop .inv .1)
-          (wrote-both (upClauses (args .g) (args .i) (loop .j)) (downClauses (args .g) (args .i) (loop .j)) (c .before .before .before .before .put-up .ensures) (c .before .put-down .ensures)),
+          (wrote-both (upClauses (args .g) (args .i) (loop .j)) (downClauses (args .g) (args .i) (loop .j)) (p .put-up .ensures) (down c .put-down .ensures)),
     )
 
 same-length : tie.Need-same-length Inv-loop μ-loop
-same-length c = wrote-length (c .before .before .loop .inv .1)
+same-length c = wrote-length (past c .loop .inv .1)
 
 returns : tie.Need-returns Inv-loop μ-loop
 returns c =
-    let args = c .before .before .before .args in
-    let loop = c .before .before .loop in
+    let args = call (past c) .args in
+    let loop = past c .loop in
     let all : loop .j ≡ suc (args .g .q) = omega (arith, loop .inv .0, c .if1 .left) in
     wrote-as (ap (λ (k : ℕ). flat (below k (pair (args .g) (args .i)))) all) (loop .inv .1)
 

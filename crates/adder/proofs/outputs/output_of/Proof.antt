@@ -11,6 +11,16 @@ use Rattle.adder.specs.Adder.{outputs, reach}
 use Rattle.adder.proofs.outputs.output_of.Statement.{statement}
 use Rattle.adder.proofs.outputs.output_of.Tie as tie
 
+-- Points of the program: the call, where the output is a leaf and where it is a counter; and the counter, with its literal.
+abbrev leaf : tie.After-known-told → tie.Start
+leaf c = c .before .before .before
+
+abbrev call : tie.After-known-told2 → tie.Start
+call c = c .before .before .before
+
+abbrev counter : tie.After-literal-of → tie.After-known-told2
+counter c = c .before
+
 enum-known-a : tie.Need-enum-known-a
 enum-known-a c = search needs
 
@@ -19,8 +29,8 @@ enum-known-a-2 c = search needs
 
 -- the sum is the output's variable
 reached : (c : tie.After-known-told2)
-    → reach (c .before .before .before .args .a) (c .before .before .before .args .k) ≡ c .before .a2 .given .0 .0 + c .before .before .before .args .k
-reached c = ap (λ (a : Outputs). reach a (c .before .before .before .args .k)) (c .before .a2 .given .1)
+    → reach (call c .args .a) (call c .args .k) ≡ c .before .a2 .given .0 .0 + call c .args .k
+reached c = ap (λ (a : Outputs). reach a (call c .args .k)) (c .before .a2 .given .1)
 
 add-t6 : tie.Need-add-t6
 add-t6 c = omega (arith, reached c)
@@ -32,13 +42,13 @@ returns : tie.Need-returns
 returns c =
     let x = c .before .a .given .0 .0 in
     let read : toZ w32 (ofZ w32 x) ≡ x = search needs in
-    read ∙ ap (λ (a : Outputs). outputs a (c .before .before .before .args .k)) (sym (c .before .a .given .1))
+    read ∙ ap (λ (a : Outputs). outputs a (leaf c .args .k)) (sym (c .before .a .given .1))
 
 returns-2 : tie.Need-returns-2
 returns-2 c =
     as-read (c .literal-of .result) (c .literal-of .ok)
     ∙ c .literal-of .ensures
-    ∙ ap (λ (a : Outputs). outputs a (c .before .before .before .before .args .k)) (sym (c .before .before .a2 .given .1))
+    ∙ ap (λ (a : Outputs). outputs a (call (counter c) .args .k)) (sym (counter c .before .a2 .given .1))
 
 pub output-of-spec : {M : Type 1} → statement M
 output-of-spec =

@@ -15,40 +15,64 @@ use Rattle.adder.specs.Laws.{variable-outputs, lower-none, lower-one}
 use Rattle.adder.proofs.outputs.put_lower.Statement.{statement}
 use Rattle.adder.proofs.outputs.put_lower.Tie as tie
 
+-- Points of the program: the call, where the index is 0 and where it is not; that, with the output; the output, negated; that, as it is to be put and was put; and the output, put.
+abbrev without : tie.Then1 → tie.Start
+without c = c .before
+
+abbrev call : tie.Else1 → tie.Start
+call c = c .before
+
+abbrev due : tie.After-output-of → tie.Else1
+due c = c .before
+
+abbrev output : tie.After-negate → tie.After-output-of
+output c = c .before
+
+abbrev negated : tie.After-put-arg → tie.After-negate
+negated c = c .before
+
+abbrev passed-on : tie.After-put → tie.After-negate
+passed-on c = c .before .before
+
+abbrev written : tie.After-out → tie.After-put
+written c = c .before
+
 returns : tie.Need-returns
 returns c =
-    let args = c .before .args in
+    let args = without c .args in
     wrote-as (lower-none (outputs (args .a)) (args .i) (c .if1 .taken)) (wrote-none (args .out .now) (args .at))
 
 output-of-requires : tie.Need-output-of-requires
 output-of-requires c κs = search needs
 
 -- the output, as it is passed on
-passed : (c : tie.After-output-of) → toZ w32 (ofZ w32 (c .output-of .result)) ≡ outputs (c .before .before .args .a) (c .before .before .args .i)
+passed : (c : tie.After-output-of) → toZ w32 (ofZ w32 (c .output-of .result)) ≡ outputs (call (due c) .args .a) (call (due c) .args .i)
 passed c = as-read (c .output-of .result) (c .output-of .ok) ∙ c .output-of .ensures
 
 negate-requires : tie.Need-negate-requires
 negate-requires c κs =
-    let args = c .before .before .args in
-    omega (arith, ap variable (passed c), variable-outputs (args .a) (args .i), c .before .before .pre .0)
+    let args = call (due c) .args in
+    omega (arith, ap variable (passed c), variable-outputs (args .a) (args .i), call (due c) .pre .0)
 
 put-requires : tie.Need-put-requires
 put-requires c κs =
-    let args = c .before .before .before .before .args in
-    omega (arith, ap length (lower-one (outputs (args .a)) (args .i) (c .before .before .before .if1 .left)), c .before .before .before .before .pre .1)
+    let p = due (output (negated c)) in
+    let args = call p .args in
+    omega (arith, ap length (lower-one (outputs (args .a)) (args .i) (p .if1 .left)), call p .pre .1)
 
 same-length : tie.Need-same-length
 same-length c = search needs
 
 returns-2 : tie.Need-returns-2
 returns-2 c =
-    let args = c .before .before .before .before .before .before .args in
-    let negate = c .before .before .before .negate in
+    let p = passed-on (written c) in
+    let negate = p .negate in
+    let args = call (due (output p)) .args in
     let x : toZ w32 (ofZ w32 (negate .result)) ≡ negℤ (outputs (args .a) (args .i)) =
-    as-read (negate .result) (negate .ok) ∙ negate .ensures ∙ ap negℤ (passed (c .before .before .before .before)) in
+    as-read (negate .result) (negate .ok) ∙ negate .ensures ∙ ap negℤ (passed (output p)) in
     wrote-as
-    (ap (λ (z : ℤ). z ∷ []) x ∙ lower-one (outputs (args .a)) (args .i) (c .before .before .before .before .before .if1 .left))
-    (c .before .put .ensures)
+    (ap (λ (z : ℤ). z ∷ []) x ∙ lower-one (outputs (args .a)) (args .i) (due (output p) .if1 .left))
+    (written c .put .ensures)
 
 pub put-lower-spec : {M : Type 1} → statement M
 put-lower-spec =

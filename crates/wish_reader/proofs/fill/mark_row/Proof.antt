@@ -1,5 +1,6 @@
 -- `wish_reader::fill::mark_row` meets its contract. The loop's invariant: with the wishes of the lines to come, the row is what it is to be, and their wishes rise.
 use mathlib.Core.Path.{_≡_, sym, ap, _∙_}
+use mathlib.Core.List.{List}
 use Prim.Native.Nat.{ℕ, _+_, _-_, _≤_, _<_}
 use native.Mathlib.Omega.{arith}
 use lib.ListN.{length, drop, length-set, set}
@@ -17,30 +18,56 @@ Inv-loop file wishes row₀ at₀ left₀ row at left = (length row ≡ length r
 abbrev μ-loop : tie.MeasureT-loop
 μ-loop file wishes row₀ at₀ left₀ row at left = left
 
+-- Points of the program: the call; the loop's head, at a turn; the turn, with the wish's number; that number, with its mark; and the wish, as its byte is put.
+abbrev call : tie.At-loop Inv-loop μ-loop → tie.Start Inv-loop μ-loop
+call c = c .before .before .before
+
+abbrev head : tie.In-loop Inv-loop μ-loop → tie.At-loop Inv-loop μ-loop
+head c = c .before
+
+abbrev turn : tie.After-field-at Inv-loop μ-loop → tie.In-loop Inv-loop μ-loop
+turn c = c .before
+
+abbrev numbered : tie.After-field-at2 Inv-loop μ-loop → tie.After-field-at Inv-loop μ-loop
+numbered c = c .before
+
+abbrev read : tie.After-wish-for Inv-loop μ-loop → tie.After-field-at2 Inv-loop μ-loop
+read c = c .before
+
+-- at the loop's head: the file, and the row's length
+module _ (c : tie.At-loop Inv-loop μ-loop) where
+  abbrev bytes : List ℕ
+  bytes = call c .args .file .now
+
+  abbrev size : ℕ
+  size = length (call c .args .row .now)
+
 loop-holds : tie.Need-loop-holds Inv-loop μ-loop
 loop-holds c = search needs
 
 -- a line to come, which ends inside the file
-long : (c : tie.In-loop Inv-loop μ-loop) → c .before .loop .at + 11 ≤ length (c .before .before .before .before .args .file .now)
+long : (c : tie.In-loop Inv-loop μ-loop) → head c .loop .at + 11 ≤ length (bytes (head c))
 long c =
-    let file = c .before .before .before .before .args .file .now in
-    let loop = c .before .loop in
-    line-inside 2 file (loop .at) (marks-line (length (c .before .before .before .before .args .row .now)) (loop .left) (drop (loop .at) file) (c .loop-test .taken) (loop .inv .1))
+    let p = head c in
+    let loop = p .loop in
+    line-inside 2 (bytes p) (loop .at) (marks-line (size p) (loop .left) (drop (loop .at) (bytes p)) (c .loop-test .taken) (loop .inv .1))
 
 field-at-requires : tie.Need-field-at-requires Inv-loop μ-loop
 field-at-requires c κs = omega (arith, long c)
 
 add-field-at : tie.Need-add-field-at Inv-loop μ-loop
-add-field-at c = omega (arith, long (c .before))
+add-field-at c = omega (arith, long (turn c))
 
 field-at-requires-2 : tie.Need-field-at-requires-2 Inv-loop μ-loop
-field-at-requires-2 c κs = omega (arith, long (c .before))
+field-at-requires-2 c κs = omega (arith, long (turn c))
 
 -- the wish that was read
-fits : (c : tie.After-field-at2 Inv-loop μ-loop) → (0 < c .before .field-at .result) × (c .before .field-at .result ≤ length (c .before .before .before .before .before .before .args .row .now)) × (c .field-at2 .result < 2)
+fits : (c : tie.After-field-at2 Inv-loop μ-loop) → (0 < numbered c .field-at .result) × (numbered c .field-at .result ≤ size (head (turn (numbered c)))) × (c .field-at2 .result < 2)
 fits c =
-    let loop = c .before .before .before .loop in
-    mark-fits (c .before .before .before .before .before .before .args .file .now) (length (c .before .before .before .before .before .before .args .row .now)) (loop .left) (loop .at) (c .before .field-at .result) (c .field-at2 .result) (c .before .before .loop-test .taken) (loop .inv .1) (c .before .field-at .ensures) (c .field-at2 .ensures)
+    let number = numbered c .field-at in
+    let p = head (turn (numbered c)) in
+    let loop = p .loop in
+    mark-fits (bytes p) (size p) (loop .left) (loop .at) (number .result) (c .field-at2 .result) (turn (numbered c) .loop-test .taken) (loop .inv .1) (number .ensures) (c .field-at2 .ensures)
 
 cast-wish-for : tie.Need-cast-wish-for Inv-loop μ-loop
 cast-wish-for c = omega (arith, fits c)
@@ -49,13 +76,13 @@ wish-for-requires : tie.Need-wish-for-requires Inv-loop μ-loop
 wish-for-requires c κs = omega (arith, fits c)
 
 sub-row : tie.Need-sub-row Inv-loop μ-loop
-sub-row c = omega (arith, fits (c .before))
+sub-row c = omega (arith, fits (read c))
 
 slice-write-row : tie.Need-slice-write-row Inv-loop μ-loop
-slice-write-row c = omega (arith, fits (c .before))
+slice-write-row c = omega (arith, fits (read c))
 
 add-at : tie.Need-add-at Inv-loop μ-loop
-add-at c = omega (arith, long (c .before .before .before))
+add-at c = omega (arith, long (turn (numbered (read c))))
 
 sub-left : tie.Need-sub-left Inv-loop μ-loop
 sub-left c = search needs
@@ -65,19 +92,17 @@ loop-less c = search needs
 
 loop-again : tie.Need-loop-again Inv-loop μ-loop
 loop-again c =
-    let read = c .before in
-    let start = read .before .before .before .before .before .before in
-    let file = start .args .file .now in
-    let size = length (start .args .row .now) in
-    let loop = read .before .before .before .loop in
-    let x = read .before .field-at .result in
-    let y = read .field-at2 .result in
-    let h = read .before .before .loop-test .taken in (
-      length-set (loop .row) (x - 1) (c .wish-for .result) ∙ loop .inv .0,
-      mark-after file size (loop .left) (loop .at) x y h (loop .inv .1) (read .before .field-at .ensures) (read .field-at2 .ensures),
+    let number = numbered (read c) .field-at in
+    let mark = read c .field-at2 in
+    let this = turn (numbered (read c)) in
+    let p = head this in
+    let loop = p .loop in
+    let h = this .loop-test .taken in (
+      length-set (loop .row) (number .result - 1) (c .wish-for .result) ∙ loop .inv .0,
+      mark-after (bytes p) (size p) (loop .left) (loop .at) (number .result) (mark .result) h (loop .inv .1) (number .ensures) (mark .ensures),
       loop .inv .2
-          ∙ mark-step file size (loop .left) (loop .at) x y h (loop .inv .1) (read .before .field-at .ensures) (read .field-at2 .ensures) (loop .row)
-          ∙ ap (λ (b : ℕ). marked (set (loop .row) (x - 1) b) (wishesIn (loop .left - 1) (drop (loop .at + 11) file))) (sym (c .wish-for .ensures)),
+          ∙ mark-step (bytes p) (size p) (loop .left) (loop .at) (number .result) (mark .result) h (loop .inv .1) (number .ensures) (mark .ensures) (loop .row)
+          ∙ ap (λ (b : ℕ). marked (set (loop .row) (number .result - 1) b) (wishesIn (loop .left - 1) (drop (loop .at + 11) (bytes p)))) (sym (c .wish-for .ensures)),
     )
 
 same-length : tie.Need-same-length Inv-loop μ-loop
@@ -85,10 +110,10 @@ same-length c = search needs
 
 returns : tie.Need-returns Inv-loop μ-loop
 returns c =
-    let file = c .before .before .before .before .args .file .now in
-    let loop = c .before .loop in
+    let p = c .before in
+    let loop = p .loop in
     let done : loop .left ≡ 0 = omega arith in
-    sym (loop .inv .2 ∙ ap (λ (k : ℕ). marked (loop .row) (wishesIn k (drop (loop .at) file))) done)
+    sym (loop .inv .2 ∙ ap (λ (k : ℕ). marked (loop .row) (wishesIn k (drop (loop .at) (bytes p)))) done)
 
 pub mark-row-spec : {M : Type 1} → statement M
 mark-row-spec =

@@ -7,56 +7,81 @@ use Rattle.wish_writer.specs.Writing.{line-parts}
 use Rattle.wish_writer.proofs.put.put_header.Statement.{statement}
 use Rattle.wish_writer.proofs.put.put_header.Tie as tie
 
+-- Points of the program: the call; each of the three columns, as the next thing is to be put and was put; and the line's end.
+abbrev begun : tie.After-put-column-arg → tie.Start
+begun c = c .before .before
+
+abbrev call : tie.After-put-column → tie.Start
+call c = c .before .before .before
+
+abbrev one : tie.After-put-column-arg2 → tie.After-put-column
+one c = c .before .before .before
+
+abbrev first : tie.After-put-column2 → tie.After-put-column
+first c = c .before .before .before .before
+
+abbrev two : tie.After-put-column-arg3 → tie.After-put-column2
+two c = c .before .before .before
+
+abbrev second : tie.After-put-column3 → tie.After-put-column2
+second c = c .before .before .before .before
+
+abbrev three : tie.After-put-byte-arg → tie.After-put-column3
+three c = c .before .before .before
+
+abbrev third : tie.After-put-byte → tie.After-put-column3
+third c = c .before .before .before .before
+
+abbrev end : tie.After-slice-known5 → tie.After-put-byte
+end c = c .before .before
+
 put-column-requires : tie.Need-put-column-requires
 put-column-requires c κs =
-    let args = c .before .before .args in
+    let args = begun c .args in
     omega (arith, line-parts (args .n) (args .wishes ∷ args .d ∷ []))
 
 put-column-requires-2 : tie.Need-put-column-requires-2
 put-column-requires-2 c κs =
-    let first = c .before .before .before in
-    let args = first .before .before .before .args in
+    let args = call (one c) .args in
     omega (
       arith,
       line-parts (args .n) (args .wishes ∷ args .d ∷ []),
       line-parts (args .wishes) (args .d ∷ []),
-      first .put-column .ensures .place,
-      first .put-column .kept,
+      one c .put-column .ensures .place,
+      one c .put-column .kept,
     )
 
 put-column-requires-3 : tie.Need-put-column-requires-3
 put-column-requires-3 c κs =
-    let second = c .before .before .before in
-    let first = second .before .before .before .before in
-    let args = first .before .before .before .args in
+    let p = first (two c) in
+    let args = call p .args in
     omega (
       arith,
       line-parts (args .n) (args .wishes ∷ args .d ∷ []),
       line-parts (args .wishes) (args .d ∷ []),
       line-parts (args .d) [],
-      first .put-column .ensures .place,
-      first .put-column .kept,
-      second .put-column2 .ensures .place,
-      second .put-column2 .kept,
+      p .put-column .ensures .place,
+      p .put-column .kept,
+      two c .put-column2 .ensures .place,
+      two c .put-column2 .kept,
     )
 
 put-byte-requires : tie.Need-put-byte-requires
 put-byte-requires c κs =
-    let third = c .before .before .before in
-    let second = third .before .before .before .before in
-    let first = second .before .before .before .before in
-    let args = first .before .before .before .args in
+    let q = second (three c) in
+    let p = first q in
+    let args = call p .args in
     omega (
       arith,
       line-parts (args .n) (args .wishes ∷ args .d ∷ []),
       line-parts (args .wishes) (args .d ∷ []),
       line-parts (args .d) [],
-      first .put-column .ensures .place,
-      first .put-column .kept,
-      second .put-column2 .ensures .place,
-      second .put-column2 .kept,
-      third .put-column3 .ensures .place,
-      third .put-column3 .kept,
+      p .put-column .ensures .place,
+      p .put-column .kept,
+      q .put-column2 .ensures .place,
+      q .put-column2 .kept,
+      three c .put-column3 .ensures .place,
+      three c .put-column3 .kept,
     )
 
 same-length : tie.Need-same-length
@@ -64,11 +89,10 @@ same-length c = search needs
 
 returns : tie.Need-returns
 returns c =
-    let end = c .before .before in
-    let third = end .before .before .before .before in
-    let second = third .before .before .before .before in
-    let first = second .before .before .before .before in
-    wrote-more (first .put-column .ensures) (wrote-more (second .put-column2 .ensures) (wrote-more (third .put-column3 .ensures) (end .put-byte .ensures)))
+    let r = third (end c) in
+    let q = second r in
+    let p = first q in
+    wrote-more (p .put-column .ensures) (wrote-more (q .put-column2 .ensures) (wrote-more (r .put-column3 .ensures) (end c .put-byte .ensures)))
 
 pub put-header-spec : {M : Type 1} → statement M
 put-header-spec =
