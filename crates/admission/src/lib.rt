@@ -9,7 +9,8 @@ ghost use Rattle.admission_steps.specs.Admission.{admission};
 pub fn admit_rules(n: usize, rules: &[i32]) -> Admission
     ensures { λ r. ⌜ r ≡ admission (plainProblem n (now (rules .entry))) ⌝ }
 {
-    admission_steps::admit_list(n, rules, 0)
+    let ranged = admission_steps::admit_range(n, 0);
+    admission_steps::then_rules(ranged, n, rules)
 }
 
 // n, the row and the limit: no rules are as good as an empty list.
@@ -24,7 +25,8 @@ pub fn admit_row(n: usize, row: &[u8], d: usize) -> Admission
 pub fn admit_wishes(n: usize, rules: &[i32], row: &[u8], d: usize) -> Admission
     ensures { λ r. ⌜ r ≡ admission (wishedProblem n (now (rules .entry)) (now (row .entry)) d) ⌝ }
 {
-    let listed = admission_steps::admit_list(n, rules, d);
+    let ranged = admission_steps::admit_range(n, d);
+    let listed = admission_steps::then_rules(ranged, n, rules);
     let wished = admission_steps::then_row(listed, row);
     let fitting = admission_steps::and_then(wished, causes::check_length(n, row.len()));
     admission_steps::then_size(fitting, n)
@@ -42,7 +44,8 @@ pub fn admit_export(n: usize, rules: &[i32], row: &[u8], d: usize) -> Admission
 pub fn admit_choice(n: usize, rules: &[i32], row: &[u8], choice: &[u8]) -> Admission
     ensures { λ r. ⌜ r ≡ admission (chosenProblem n (now (rules .entry)) (now (row .entry)) (now (choice .entry))) ⌝ }
 {
-    let listed = admission_steps::admit_list(n, rules, 0);
+    let ranged = admission_steps::admit_range(n, 0);
+    let listed = admission_steps::then_rules(ranged, n, rules);
     let wished = admission_steps::then_row(listed, row);
     let chosen = admission_steps::and_then(wished, causes::scan_choice(choice));
     let row_fits = admission_steps::and_then(chosen, causes::check_length(n, row.len()));

@@ -1,12 +1,15 @@
 -- What the admitting functions answer: the first cause to refuse what is lent, or how much it holds.
+use mathlib.Core.Path.{_≡_}
 use mathlib.Core.List.{List}
 use mathlib.Core.Option.{Option, none, some}
-use Prim.Native.Nat.{ℕ}
+use Prim.Native.Nat.{ℕ, _≤_}
+use lib.IntN.{ℤ}
 use lib.ListN.{length}
 use Rattle.formula.specs.Formula as formula
 use Rattle.wish.specs.Wish.{wishCount, totalWeight}
 use Rattle.refusal.specs.declared.Refusal.{Refusal}
-use Rattle.causes.specs.Lent.{Lent, unadmitted, refusalOf}
+use Rattle.limits.specs.Limits.{maxVariables}
+use Rattle.causes.specs.Lent.{Lent, Wishes, unadmitted, refusalOf}
 use Rattle.admission_steps.specs.declared.Counts.{Counts}
 use Rattle.admission_steps.specs.declared.Admission as A
 use Rattle.admission_steps.specs.declared.Admission.{Admission}
@@ -17,18 +20,18 @@ answer none counts = A.the-variants.Admitted counts
 answer (some r) counts = A.the-variants.Refused r
 
 -- a number of a row, where the call takes one
-abbrev pub ofRow : (List ℕ → ℕ) → Option (List ℕ) → ℕ
+abbrev pub ofRow : (List ℕ → ℕ) → Option Wishes → ℕ
 ofRow count none = 0
-ofRow count (some row) = count row
+ofRow count (some wishes) = count (wishes .row)
 
 -- how much was lent: "Entries counted below exclude closing zeros" (document 01, "Words of the trade")
 abbrev pub countsOf : Lent → Counts
 countsOf s =
     record {
-      clauses = length (formula.clauses (s .rules));
-      literals = formula.literals (formula.clauses (s .rules));
-      wishes = ofRow wishCount (s .row);
-      weight = ofRow totalWeight (s .row);
+      clauses = length (formula.clauses (s .problem .rules));
+      literals = formula.literals (formula.clauses (s .problem .rules));
+      wishes = ofRow wishCount (s .wishes);
+      weight = ofRow totalWeight (s .wishes);
     }
 
 -- by all causes but that of the room, in their order (`causes`), and by all ("Last 15.")
@@ -43,7 +46,18 @@ abbrev pub andThen : Admission → (Counts → Admission) → Admission
 andThen (A.the-variants.Refused r) step = A.the-variants.Refused r
 andThen (A.the-variants.Admitted counts) step = step counts
 
--- the counts, once a row's wishes are counted
+-- the counts before anything is counted, once the rules are, and once a row's wishes are
+abbrev pub noCounts : Counts
+noCounts = record { clauses = 0; literals = 0; wishes = 0; weight = 0 }
+
+abbrev pub withRuleCounts : List ℤ → Counts → Counts
+withRuleCounts rules k =
+    record { clauses = length (formula.clauses rules); literals = formula.literals (formula.clauses rules); wishes = k .wishes; weight = k .weight }
+
 abbrev pub withWishCounts : List ℕ → Counts → Counts
 withWishCounts row k =
     record { clauses = k .clauses; literals = k .literals; wishes = wishCount row; weight = totalWeight row }
+
+-- n was found to be in range: what is admitted has no more variables than a table has room for
+abbrev pub Ranged : ℕ → Admission → Type 0
+Ranged n a = (k : Counts) → a ≡ A.the-variants.Admitted k → n ≤ maxVariables

@@ -5,13 +5,14 @@ use mathlib.Core.Option.{Option, none, some}
 use Prim.Native.Nat.{ℕ}
 use Rattle.refusal.specs.declared.Refusal.{Refusal}
 use Rattle.refusal.specs.declared.Verdict.{Verdict}
-use Rattle.refusal.specs.Laws.{first-last}
-use Rattle.refusal.specs.Reply.{refused, first, given, tooShort}
-use Rattle.causes.specs.Lent.{Lent, withRoom, causes, unadmitted}
+use Rattle.refusal.specs.Laws.{first-last, cause-none}
+use Rattle.refusal.specs.Reply.{refused, first, cause, given, tooShort}
+use Rattle.causes.specs.Laws.{in-range}
+use Rattle.causes.specs.Lent.{Lent, withRoom, outOfRange, causes, unadmitted}
 use Rattle.admission_steps.specs.declared.Counts.{Counts}
 use Rattle.admission_steps.specs.declared.Admission.the-variants.{Refused, Admitted}
 use Rattle.admission_steps.specs.declared.Admission.{Admission}
-use Rattle.admission_steps.specs.Admission.{answer, countsOf, admission, start, andThen}
+use Rattle.admission_steps.specs.Admission.{answer, countsOf, admission, start, andThen, Ranged}
 
 pub refused-by : (o : Option Refusal) (counts : Counts) (r : Refusal) → answer o counts ≡ Refused r → o ≡ some r
 refused-by none counts r e = cc
@@ -37,6 +38,15 @@ earlier (some q) (some r) = some q
 -- what a line of steps has come to: this cause, or these counts
 pub record CameTo (a : Admission) (o : Option Refusal) (k : Counts) : Type 0 where
   pub told : a ≡ answer o k
+
+-- the first step
+pub begun : {a : Admission} {o : Option Refusal} {k : Counts} → a ≡ answer o k → CameTo a o k
+begun e = record { told = e }
+
+-- what it admits is in range
+pub ranged : (n d : ℕ) (a : Admission) (k : Counts) → a ≡ answer (cause (outOfRange n d) 14 0) k → Ranged n a
+ranged n d a k e j f =
+    in-range n d (cause-none (outOfRange n d) 14 0 (admitted-by (cause (outOfRange n d) 14 0) k j (sym e ∙ f) .0)) .1
 
 -- a step more, which looks at a cause and may count; and one that counts nothing
 pub then : {a b : Admission} {o : Option Refusal} {k : Counts} → CameTo a o k → (p : Counts → Option Refusal) (f : Counts → Counts)

@@ -1,5 +1,5 @@
 // The steps of admitting a call: the first cause to refuse what it was lent, or how much that is, so
-// that nothing is scanned or counted twice. The first step looks at the numbers and the rules. Each
+// that nothing is scanned or counted twice. The first step looks at the range of the numbers. Each
 // other is handed what came before it: what is refused stays refused, and what is admitted may be
 // refused for one more cause.
 use causes::RowScan;
@@ -8,10 +8,11 @@ use refusal::Verdict;
 use rule_list::RuleScan;
 ghost use mathlib.Core.Path.{_≡_};
 ghost use Rattle.refusal.specs.Reply.{refused, causeAt, cause, tooShort};
-ghost use Rattle.causes.specs.Lent.{withLimit, plainProblem, oversized};
+ghost use Rattle.rule_list.specs.Sound.{unread, badRule};
+ghost use Rattle.causes.specs.Lent.{outOfRange, oversized};
 ghost use Rattle.causes.specs.Sound.{badWish};
 ghost use Rattle.admission_steps.specs.declared.Counts.{Counts};
-ghost use Rattle.admission_steps.specs.Admission.{answer, withWishCounts, admission, andThen};
+ghost use Rattle.admission_steps.specs.Admission.{answer, noCounts, withRuleCounts, withWishCounts, andThen, Ranged};
 
 // How many clauses, literals and wishes were lent, and what the wishes weigh.
 pub struct Counts {
@@ -27,21 +28,35 @@ pub enum Admission {
     Admitted(Counts),
 }
 
-// 14, then 13: n, the limit and the rules, which are counted.
-pub fn admit_list(n: usize, rules: &[i32], d: usize) -> Admission
-    ensures { λ r. ⌜ r ≡ admission (withLimit d (plainProblem n (now (rules .entry)))) ⌝ }
+// 14: n and the limit, before anything is counted.
+pub fn admit_range(n: usize, d: usize) -> Admission
+    ensures { λ r. ⌜ r ≡ answer (cause (outOfRange n d) 14 0) noCounts ⌝ }
 {
-    if let Verdict::Refuse(r) = causes::check_range(n, d) {
-        return Admission::Refused(r);
-    }
-    match rule_list::scan_rules(n, rules) {
-        RuleScan::Unsound(place) => Admission::Refused(Refusal { number: 13, place }),
-        RuleScan::Sound { clauses, literals } => Admission::Admitted(Counts {
-            clauses,
-            literals,
-            wishes: 0,
-            weight: 0,
-        }),
+    let counts = Counts {
+        clauses: 0,
+        literals: 0,
+        wishes: 0,
+        weight: 0,
+    };
+    and_then(Admission::Admitted(counts), causes::check_range(n, d))
+}
+
+// 13: the rules, which are counted.
+pub fn then_rules(a: Admission, n: usize, rules: &[i32]) -> Admission
+    requires { ⌜ Ranged n a ⌝ }
+    ensures { λ r. ⌜ r ≡ andThen a (λ (k : Counts). answer (causeAt 13 (badRule n unread 0 (now (rules .entry)))) (withRuleCounts (now (rules .entry)) k)) ⌝ }
+{
+    match a {
+        Admission::Refused(r) => Admission::Refused(r),
+        Admission::Admitted(counts) => match rule_list::scan_rules(n, rules) {
+            RuleScan::Unsound(place) => Admission::Refused(Refusal { number: 13, place }),
+            RuleScan::Sound { clauses, literals } => Admission::Admitted(Counts {
+                clauses,
+                literals,
+                wishes: counts.wishes,
+                weight: counts.weight,
+            }),
+        },
     }
 }
 

@@ -22,4 +22,4 @@ pub lent-numbered : (s : Lent) → Numbered (refusalOf s)
 lent-numbered s =
     by-first
     (more (record { number = first-number ordinary (causes s) refl })
-    (more (by-place 15 refl (placeIf (ltb (s .room) (s .needed)) (s .needed))) last))
+    (more (by-place 15 refl (placeIf (ltb (s .output .room) (s .output .needed)) (s .output .needed))) last))

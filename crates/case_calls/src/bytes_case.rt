@@ -37,8 +37,8 @@ fn file(call: usize, n: usize, rules: &[i32], row: &[u8], d: usize, out: &mut [u
 fn called(call: usize, n: usize, rules: &[i32], row: &[u8], d: usize, out: &mut [u8]) -> Answer {
     match call {
         READ_WISHES => file_answers::of_read_wishes(wish_reader::read_wishes(row, out)),
-        WRITE_RULES => file_answers::of_written_rules(rule_writer::write_rules(n, rules, out)),
-        WRITE_OPB => file_answers::of_written_opb(opb_writer::write_opb(n, rules, row, d, out)),
-        _ => file_answers::of_written_wishes(wish_writer::write_wishes(n, row, d, out)),
+        WRITE_RULES => file_answers::of_written(rule_writer::write_rules(n, rules, out)),
+        WRITE_OPB => file_answers::of_written(opb_writer::write_opb(n, rules, row, d, out)),
+        _ => file_answers::of_written(wish_writer::write_wishes(n, row, d, out)),
     }
 }

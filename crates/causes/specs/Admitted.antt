@@ -1,9 +1,9 @@
--- What holds of lent values that are admitted: none of the causes before 15 applies to them. Here alone the causes are told apart by their place in the list; all else cites the facts by name.
+-- What holds of lent values that are admitted: none of the causes before 15 applies to them. The facts have names, and nothing goes by a cause's place in the list: `search` finds what is said of a cause wherever it stands.
 use mathlib.Core.Path.{_≡_, refl, ap}
 use mathlib.Core.Bool.{Bool, true, false, cond, not, _||_}
 use mathlib.Core.List.{List, [], _∷_}
 use mathlib.Core.Option.{Option, none, some}
-use Prim.Native.Nat.{ℕ, _≤_, _<_, zero-le}
+use Prim.Native.Nat.{ℕ, _≤_, _<_}
 use native.Mathlib.Omega.{arith}
 use lib.Dec.{eqb, ltb}
 use lib.IntN.{ℤ}
@@ -12,17 +12,17 @@ use borrow.Author.Tests.{eqb-true, eqb-false, not-true, not-false, ltb-true, ltb
 use Rattle.formula.specs.Formula.{clauses, literals}
 use Rattle.refusal.specs.declared.Refusal.{Refusal}
 use Rattle.refusal.specs.Laws.{no-first, first-some, first-of-two, placeIf-none, none-found, each-unfound, first-number, enough-room, neither}
-use Rattle.refusal.specs.Passing.{Passes, last, more, no-cause, by-place, unfound, by-first}
-use Rattle.refusal.specs.Reply.{placeIf, causeAt, tooShort}
+use Rattle.refusal.specs.Passing.{Passes, no-cause, by-place, unfound, by-found}
+use Rattle.refusal.specs.Reply.{Cause, placeIf, causeAt, given, tooShort}
 use Rattle.limits.specs.Limits.{maxVariables, maxLimit, maxWishVariables, maxWishClauses, maxWishLiterals}
 use Rattle.rule_list.specs.Sound.{unread, badRule, SoundList}
 use Rattle.causes.specs.Empty.{emptyClause}
 use Rattle.causes.specs.Laws.{in-range}
-use Rattle.causes.specs.Lent.{Lent, plainProblem, wishedProblem, exportedProblem, wishesAlone, withLimit, withRoom, ofPart, outOfRange, wrongLength, oversized, causes, unadmitted, refusalOf}
+use Rattle.causes.specs.Lent.{Lent, Wishes, ruled, limitAlone, rowAlone, plainProblem, wishedProblem, exportedProblem, wishesAlone, withLimits, withWishes, withRoom, only, ofPart, outOfRange, wrongLength, oversized, rangeCause, rulesCause, rowCause, choiceCause, rowLengthCause, choiceLengthCause, sizeCause, emptyCause, causes, unadmitted, refusalOf}
 use Rattle.causes.specs.Sound.{badWish, badChoice}
 
 -- what holds of a part, if the call takes it
-abbrev pub InPart : Option (List ℕ) → (List ℕ → Type 0) → Type 0
+abbrev pub InPart : {A : Type 0} → Option A → (A → Type 0) → Type 0
 InPart none F = Unit {0}
 InPart (some part) F = F part
 
@@ -40,27 +40,28 @@ pub record Small (n k m : ℕ) : Type 0 where
 abbrev pub SmallProblem : ℕ → List ℤ → Type 0
 SmallProblem n rules = Small n (length (clauses rules)) (literals (clauses rules))
 
--- "Refusals": what holds of what a call is lent, part by part, where none of its causes before 15 applies
+-- "Refusals": what holds of what a call is lent where none of its causes before 15 applies
 pub record Admitted (s : Lent) : Type 0 where
-  pub positive : 0 < s .n
-  pub most : s .n ≤ maxVariables
-  pub limited : s .d ≤ maxLimit
-  pub soundRules : SoundList (s .n) (s .rules)
-  pub soundRow : InPart (s .row) (λ (row : List ℕ). badWish 0 0 row ≡ none)
+  pub positive : 0 < s .problem .n
+  pub most : s .problem .n ≤ maxVariables
+  pub limited : s .limits .d ≤ maxLimit
+  pub soundRules : SoundList (s .problem .n) (s .problem .rules)
+  pub soundRow : InPart (s .wishes) (λ (w : Wishes). badWish 0 0 (w .row) ≡ none)
   pub soundChoice : InPart (s .choice) (λ (choice : List ℕ). badChoice 0 choice ≡ none)
-  pub longRow : InPart (s .row) (λ (row : List ℕ). length row ≡ s .n)
-  pub longChoice : InPart (s .choice) (λ (choice : List ℕ). length choice ≡ s .n)
-  pub small : InPart (s .row) (λ (row : List ℕ). SmallProblem (s .n) (s .rules))
-  pub entries : Asked (s .asksEntries) (emptyClause 0 (clauses (s .rules)) ≡ none)
+  pub longRow : InPart (s .wishes) (λ (w : Wishes). length (w .row) ≡ s .problem .n)
+  pub longChoice : InPart (s .choice) (λ (choice : List ℕ). length choice ≡ s .problem .n)
+  pub small : InPart (s .wishes) (λ (w : Wishes). SmallProblem (s .problem .n) (s .problem .rules))
+  pub entries : Asked (s .problem .asksEntries) (emptyClause 0 (clauses (s .problem .rules)) ≡ none)
 
 -- a cause of a part does not apply exactly when the part, if there is one, is as it must be
-in-part : (o : Option (List ℕ)) (f : List ℕ → Option ℕ) (F : List ℕ → Type 0) → ((part : List ℕ) → f part ≡ none → F part) → ofPart o f ≡ none → InPart o F
-in-part none f F g e = tt
-in-part (some part) f F g e = g part e
+module _ {A : Type 0} {f : A → Option ℕ} {F : A → Type 0} where
+  in-part : (o : Option A) → ((part : A) → f part ≡ none → F part) → ofPart o f ≡ none → InPart o F
+  in-part none g e = tt
+  in-part (some part) g e = g part e
 
-of-part : (o : Option (List ℕ)) (f : List ℕ → Option ℕ) (F : List ℕ → Type 0) → ((part : List ℕ) → F part → f part ≡ none) → InPart o F → ofPart o f ≡ none
-of-part none f F g a = refl
-of-part (some part) f F g a = g part a
+  of-part : (o : Option A) → ((part : A) → F part → f part ≡ none) → InPart o F → ofPart o f ≡ none
+  of-part none g a = refl
+  of-part (some part) g a = g part a
 
 -- nor one that only some calls ask for
 in-asked : (b : Bool) (o : Option ℕ) → cond b o none ≡ none → Asked b (o ≡ none)
@@ -96,72 +97,54 @@ range-in n d p h k = rw (ne-eqb n 0 (λ e. omega arith), le-ltb maxVariables n h
 
 -- where no cause before 15 applies, all of this holds; and where it holds, none applies
 module _ (s : Lent) where
-  abbrev sized : List ℕ → Option ℕ
-  sized part = placeIf (oversized (s .n) (length (clauses (s .rules))) (literals (clauses (s .rules)))) 0
+  abbrev n : ℕ
+  n = s .problem .n
 
-  abbrev wrong : List ℕ → Option ℕ
-  wrong part = placeIf (wrongLength (s .n) part) 0
+  abbrev f : List (List ℤ)
+  f = clauses (s .problem .rules)
 
-  abbrev Long : List ℕ → Type 0
-  Long part = length part ≡ s .n
+  abbrev Absent : Cause → Type 0
+  Absent c = c .place ≡ none
 
   pub admitted : unadmitted s ≡ none → Admitted s
   admitted e =
-      let (range, (rules, (row, (choice, (rowLength, (choiceLength, (size, (filled, end)))))))) = none-found (causes s) e in
-      let numbers = in-range (s .n) (s .d) (placeIf-none (outOfRange (s .n) (s .d)) 0 range) in
+      let unfound = none-found (causes s) e in
+      let range : Absent (rangeCause s) = search in
+      let rules : Absent (rulesCause s) = search in
+      let row : Absent (rowCause s) = search in
+      let choice : Absent (choiceCause s) = search in
+      let rowLength : Absent (rowLengthCause s) = search in
+      let choiceLength : Absent (choiceLengthCause s) = search in
+      let size : Absent (sizeCause s) = search in
+      let empty : Absent (emptyCause s) = search in
+      let numbers = in-range n (s .limits .d) (placeIf-none (outOfRange n (s .limits .d)) 0 range) in
       record {
         positive = numbers .0;
         most = numbers .1;
         limited = numbers .2;
         soundRules = rules;
-        soundRow = in-part (s .row) (badWish 0 0) (λ (part : List ℕ). badWish 0 0 part ≡ none) (λ part f. f) row;
-        soundChoice = in-part (s .choice) (badChoice 0) (λ (part : List ℕ). badChoice 0 part ≡ none) (λ part f. f) choice;
-        longRow = in-part (s .row) wrong Long (length-right (s .n)) rowLength;
-        longChoice = in-part (s .choice) wrong Long (length-right (s .n)) choiceLength;
-        small = in-part (s .row) sized (λ (part : List ℕ). SmallProblem (s .n) (s .rules)) (λ part. size-small (s .n) (length (clauses (s .rules))) (literals (clauses (s .rules)))) size;
-        entries = in-asked (s .asksEntries) (emptyClause 0 (clauses (s .rules))) filled;
+        soundRow = in-part (s .wishes) (λ w g. g) row;
+        soundChoice = in-part (s .choice) (λ part g. g) choice;
+        longRow = in-part (s .wishes) (λ w. length-right n (w .row)) rowLength;
+        longChoice = in-part (s .choice) (length-right n) choiceLength;
+        small = in-part (s .wishes) (λ w. size-small n (length f) (literals f)) size;
+        entries = in-asked (s .problem .asksEntries) (emptyClause 0 f) empty;
       }
 
   pub none-applies : Admitted s → unadmitted s ≡ none
   none-applies a =
-      each-unfound (causes s) (
-        range-in (s .n) (s .d) (a .positive) (a .most) (a .limited),
-        (
-          a .soundRules,
-          (
-            of-part (s .row) (badWish 0 0) (λ (part : List ℕ). badWish 0 0 part ≡ none) (λ part f. f) (a .soundRow),
-            (
-              of-part (s .choice) (badChoice 0) (λ (part : List ℕ). badChoice 0 part ≡ none) (λ part f. f) (a .soundChoice),
-              (
-                of-part (s .row) wrong Long (right-length (s .n)) (a .longRow),
-                (
-                  of-part (s .choice) wrong Long (right-length (s .n)) (a .longChoice),
-                  (
-                    of-part (s .row) sized (λ (part : List ℕ). SmallProblem (s .n) (s .rules)) (λ part. small-size (s .n) (length (clauses (s .rules))) (literals (clauses (s .rules)))) (a .small),
-                    (of-asked (s .asksEntries) (emptyClause 0 (clauses (s .rules))) (a .entries), tt),
-                  ),
-                ),
-              ),
-            ),
-          ),
-        ),
-      )
+      let range : Absent (rangeCause s) = range-in n (s .limits .d) (a .positive) (a .most) (a .limited) in
+      let row : Absent (rowCause s) = of-part (s .wishes) (λ w g. g) (a .soundRow) in
+      let choice : Absent (choiceCause s) = of-part (s .choice) (λ part g. g) (a .soundChoice) in
+      let rowLength : Absent (rowLengthCause s) = of-part (s .wishes) (λ w. right-length n (w .row)) (a .longRow) in
+      let choiceLength : Absent (choiceLengthCause s) = of-part (s .choice) (right-length n) (a .longChoice) in
+      let size : Absent (sizeCause s) = of-part (s .wishes) (λ w. small-size n (length f) (literals f)) (a .small) in
+      let empty : Absent (emptyCause s) = of-asked (s .problem .asksEntries) (emptyClause 0 f) (a .entries) in
+      each-unfound (causes s) (search depth 20)
 
   -- nothing but 14 looks at the limit
-  pub at-limit : (d : ℕ) → d ≤ maxLimit → Admitted s → Admitted (withLimit d s)
-  at-limit d h a =
-      record {
-        positive = a .positive;
-        most = a .most;
-        limited = h;
-        soundRules = a .soundRules;
-        soundRow = a .soundRow;
-        soundChoice = a .soundChoice;
-        longRow = a .longRow;
-        longChoice = a .longChoice;
-        small = a .small;
-        entries = a .entries;
-      }
+  pub at-limit : (d : ℕ) → d ≤ maxLimit → Admitted s → Admitted (withLimits (limitAlone d) s)
+  at-limit d h a = search
 
   -- the refusal of a call whose output needs so many elements and was lent room for so many
   module _ (needed room : ℕ) where
@@ -189,20 +172,21 @@ lent-number s r e = (
 -- Of a call with wishes and no given choice, whose n and d are in range and whose rules and row are sound, these causes are left: 11, 12 and, where it asks that every rule has an entry, 16.
 module _ (test : ℕ → Bool) (n : ℕ) (rules : List ℤ) (row : List ℕ) (d : ℕ) (asksEntries : Bool) where
   abbrev asked : Lent
-  asked = record { n = n; d = d; rules = rules; row = some row; choice = none; asksEntries = asksEntries; needed = 0; room = 0 }
+  asked = withLimits (limitAlone d) (withWishes (rowAlone row) (only (ruled asksEntries n rules)))
+
+  abbrev Allowed : Cause → Type 0
+  Allowed c = Passes test (given c)
 
   pub sound-left : 0 < n → n ≤ maxVariables → d ≤ maxLimit → SoundList n rules → badWish 0 0 row ≡ none
       → test 11 ≡ true → test 12 ≡ true → (asksEntries ≡ true → test 16 ≡ true) → Passes test (unadmitted asked)
   sound-left p m h l w t11 t12 t16 =
-      by-first
-      (more (unfound 14 (placeIf (outOfRange n d) 0) (range-in n d p m h))
-      (more (unfound 13 (badRule n unread 0 rules) l)
-      (more (unfound 13 (badWish 0 0 row) w)
-      (more no-cause
-      (more (by-place 11 t11 (placeIf (wrongLength n row) 0))
-      (more no-cause
-      (more (by-place 12 t12 (placeIf (oversized n (length (clauses rules)) (literals (clauses rules))) 0))
-      (more (entries asksEntries t16) last))))))))
+      let range : Allowed (rangeCause asked) = unfound 14 (placeIf (outOfRange n d) 0) (range-in n d p m h) in
+      let sound : Allowed (rulesCause asked) = unfound 13 (badRule n unread 0 rules) l in
+      let wished : Allowed (rowCause asked) = unfound 13 (badWish 0 0 row) w in
+      let long : Allowed (rowLengthCause asked) = by-place 11 t11 (placeIf (wrongLength n row) 0) in
+      let small : Allowed (sizeCause asked) = by-place 12 t12 (placeIf (oversized n (length (clauses rules)) (literals (clauses rules))) 0) in
+      let filled : Allowed (emptyCause asked) = entries asksEntries t16 in
+      by-found (causes asked) (search no-cause depth 20)
     where
       entries : (b : Bool) → (b ≡ true → test 16 ≡ true) → Passes test (causeAt 16 (cond b (emptyClause 0 (clauses rules)) none))
       entries true t = by-place 16 (t refl) (emptyClause 0 (clauses rules))
@@ -210,48 +194,12 @@ module _ (test : ℕ → Bool) (n : ℕ) (rules : List ℤ) (row : List ℕ) (d 
 
 -- n variables in range and a sound list are admitted, where nothing else is lent
 pub plain-admitted : (n : ℕ) (rules : List ℤ) → 0 < n → n ≤ maxVariables → SoundList n rules → Admitted (plainProblem n rules)
-plain-admitted n rules p h e =
-    record {
-      positive = p;
-      most = h;
-      limited = zero-le;
-      soundRules = e;
-      soundRow = tt;
-      soundChoice = tt;
-      longRow = tt;
-      longChoice = tt;
-      small = tt;
-      entries = tt;
-    }
+plain-admitted n rules p h e = search arith
 
 -- and so are few enough variables with a sound row of their length and a limit, without rules
 pub alone-admitted : (n : ℕ) (row : List ℕ) (d : ℕ) → 0 < n → n ≤ maxWishVariables → d ≤ maxLimit → badWish 0 0 row ≡ none → length row ≡ n → Admitted (wishesAlone n row d)
-alone-admitted n row d p h k e l =
-    record {
-      positive = p;
-      most = omega arith;
-      limited = k;
-      soundRules = refl;
-      soundRow = e;
-      soundChoice = tt;
-      longRow = l;
-      longChoice = tt;
-      small = record { variables = h; few = zero-le; short = zero-le };
-      entries = tt;
-    }
+alone-admitted n row d p h k e l = search arith
 
 -- what the export admits, the other calls with wishes admit
 pub export-wished : (n : ℕ) (rules : List ℤ) (row : List ℕ) (d : ℕ) → Admitted (exportedProblem n rules row d) → Admitted (wishedProblem n rules row d)
-export-wished n rules row d a =
-    record {
-      positive = a .positive;
-      most = a .most;
-      limited = a .limited;
-      soundRules = a .soundRules;
-      soundRow = a .soundRow;
-      soundChoice = a .soundChoice;
-      longRow = a .longRow;
-      longChoice = a .longChoice;
-      small = a .small;
-      entries = tt;
-    }
+export-wished n rules row d a = search

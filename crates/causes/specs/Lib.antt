@@ -3,6 +3,7 @@ pub mod Empty
 pub mod EmptyLaws
 pub mod Laws
 pub mod Lent
+pub mod Outputs
 pub mod Scans
 pub mod Sound
 pub mod Texts

@@ -1,7 +1,7 @@
 -- The replies of the call, and what it knows where it is not refused.
-use mathlib.Core.Path.{_≡_, refl, sym, ap, _∙_}
+use mathlib.Core.Path.{_≡_, sym, ap, _∙_}
 use mathlib.Core.List.{List}
-use mathlib.Core.Option.{Option, none, some}
+use mathlib.Core.Option.{none, some}
 use Prim.Native.Nat.{ℕ, _≤_}
 use native.Mathlib.Omega.{arith}
 use lib.IntN.{ℤ}
@@ -10,15 +10,18 @@ use Rattle.wish.specs.Wish.{totalWeight}
 use Rattle.refusal.specs.declared.Refusal.{Refusal}
 use Rattle.refusal.specs.declared.Verdict.{Verdict}
 use Rattle.refusal.specs.declared.Verdict.the-variants.{Pass, Refuse}
-use Rattle.refusal.specs.Reply.{Reply, refused, refusing, answering, unless, filled, tooShort}
+use Rattle.refusal.specs.Laws.{enough-room}
+use Rattle.refusal.specs.Reply.{Reply, refused, refusing, answering, filled, tooShort}
+use Rattle.replies.specs.declared.Rewritten.{Rewritten}
+use Rattle.replies.specs.Rewritten.{replyOf, done}
 use Rattle.causes.specs.Laws.{sound-weight}
-use Rattle.causes.specs.Lent.{refusalOf, wishedProblem, unadmitted}
+use Rattle.causes.specs.Lent.{wishedProblem, unadmitted}
+use Rattle.causes.specs.Outputs as outputs
 use Rattle.limits.specs.Limits.{maxWishes}
-use Rattle.causes.specs.Admitted.{Admitted, admitted, refused-lent, room-decides, unrefused}
+use Rattle.causes.specs.Admitted.{Admitted, admitted}
 use Rattle.totalizer.specs.Totalizer.{leaves, rewrittenVariables, rewritten}
 use Rattle.totalizer.specs.Rows.{leaves-length}
-use Rattle.encoding.specs.Rewrite.{lentToRewrite, rewriteReply, rewriteOutput, replyOf, done}
-use Rattle.encoding.specs.declared.Rewritten.{Rewritten}
+use Rattle.encoding.specs.Rewrite.{rewriteReply, rewriteOutput}
 
 module _ (n : ℕ) (rules : List ℤ) (row : List ℕ) (d : ℕ) where
   -- what is admitted has at most 64 leaves
@@ -32,33 +35,29 @@ module _ (n : ℕ) (rules : List ℤ) (row : List ℕ) (d : ℕ) where
     abbrev needed : ℕ
     needed = length (rewritten n rules row d)
 
-    -- the reply and the lent list, for a cause or without one
-    abbrev Answers : Reply → List ℤ → Option Refusal → Type 0
-    Answers reply result o =
-        (reply ≡ unless o (answering 1 (rewrittenVariables n row) needed 0)) × (result ≡ filled o (rewritten n rules row d) out)
-
-    answers : (reply : Reply) (result : List ℤ) (o : Option Refusal) → refusalOf (lentToRewrite n rules row d (length out)) ≡ o
-        → Answers reply result o → (reply ≡ rewriteReply n rules row d (length out)) × (result ≡ rewriteOutput n rules row d out)
-    answers reply result o e a = rw e a
+    abbrev answer : Reply
+    answer = answering 1 (rewrittenVariables n row) needed 0
 
     -- refused for what was lent
     pub refused-early : (r : Refusal) → unadmitted (wishedProblem n rules row d) ≡ some r
         → (refusing r ≡ rewriteReply n rules row d (length out)) × (out ≡ rewriteOutput n rules row d out)
-    refused-early r e = answers (refusing r) out (some r) (refused-lent (wishedProblem n rules row d) needed (length out) r e) (refl, refl)
+    refused-early = outputs.refused-early (wishedProblem n rules row d) answer (rewritten n rules row d) out
 
     module _ (ok : unadmitted (wishedProblem n rules row d) ≡ none) (h : ℕ) (hs : h ≡ needed) (v : Verdict) (e : refused v ≡ tooShort h (length out)) where
-      all : refusalOf (lentToRewrite n rules row d (length out)) ≡ refused v
-      all = room-decides (wishedProblem n rules row d) needed (length out) ok ∙ sym (e ∙ ap (λ (i : ℕ). tooShort i (length out)) hs)
-
       -- refused for want of room
       pub refused-late : (r : Refusal) → v ≡ Refuse r
           → (refusing r ≡ rewriteReply n rules row d (length out)) × (out ≡ rewriteOutput n rules row d out)
-      refused-late r f = answers (refusing r) out (some r) (all ∙ ap refused f) (refl, refl)
+      refused-late r f =
+          outputs.refused-late (wishedProblem n rules row d) answer (rewritten n rules row d) out ok h hs r (sym e ∙ ap refused f)
 
       module _ (f : v ≡ Pass) where
+        enough : tooShort h (length out) ≡ none
+        enough = sym e ∙ ap refused f
+
         pub answered : (r : Rewritten) (result : List ℤ) → r ≡ done (rewrittenVariables n row) needed → result ≡ filled none (rewritten n rules row d) out
             → (replyOf r ≡ rewriteReply n rules row d (length out)) × (result ≡ rewriteOutput n rules row d out)
-        answered r result a b = answers (replyOf r) result none (all ∙ ap refused f) (ap replyOf a, b)
+        answered r result a =
+            outputs.answered (wishedProblem n rules row d) answer (rewritten n rules row d) out ok h hs enough (replyOf r) (ap replyOf a) result
 
         pub writable : Admitted (wishedProblem n rules row d) × (length (rewritten n rules row d) ≤ length out)
-        writable = unrefused (wishedProblem n rules row d) needed (length out) (all ∙ ap refused f)
+        writable = (admitted (wishedProblem n rules row d) ok, omega (arith, hs, enough-room h (length out) enough))

@@ -1,4 +1,3 @@
 pub mod Causes
-pub mod Exact
 pub mod Rewrite
 pub mod Writing

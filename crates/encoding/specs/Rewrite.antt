@@ -3,11 +3,9 @@ use mathlib.Core.List.{List}
 use Prim.Native.Nat.{ℕ}
 use lib.IntN.{ℤ}
 use lib.ListN.{length}
-use Rattle.refusal.specs.Reply.{Reply, refusing, answering, unless, filled}
+use Rattle.refusal.specs.Reply.{Reply, answering, unless, filled}
 use Rattle.causes.specs.Lent.{Lent, withRoom, wishedProblem, refusalOf}
 use Rattle.totalizer.specs.Totalizer.{rewrittenVariables, rewritten}
-use Rattle.encoding.specs.declared.Rewritten.{Rewritten}
-use Rattle.encoding.specs.declared.Rewritten.the-variants.{Refused, Done}
 
 -- what is lent to the call: n, the limit d, the rules, the row, and room for so many elements
 abbrev pub lentToRewrite : ℕ → List ℤ → List ℕ → ℕ → ℕ → Lent
@@ -24,12 +22,3 @@ rewriteReply n rules row d room =
 abbrev pub rewriteOutput : ℕ → List ℤ → List ℕ → ℕ → List ℤ → List ℤ
 rewriteOutput n rules row d out =
     filled (refusalOf (lentToRewrite n rules row d (length out))) (rewritten n rules row d) out
-
--- the numbers of each answer
-abbrev pub replyOf : Rewritten → Reply
-replyOf (Refused r) = refusing r
-replyOf (Done sizes) = answering 1 (sizes .variables) (sizes .length) 0
-
--- an answer with its two sizes
-abbrev pub done : ℕ → ℕ → Rewritten
-done variables size = Done (record { variables = variables; length = size })

@@ -8,6 +8,7 @@ use native.Mathlib.Omega.{arith}
 use lib.IntN.{ℤ}
 use lib.ListN.{length, take, length-append}
 use Rattle.refusal.specs.Reply.{filled}
+use Rattle.replies.specs.Rewritten.{done}
 use Rattle.limits.specs.Limits.{maxVariables, maxWishes}
 use Rattle.wish.specs.Wish.{totalWeight}
 use Rattle.causes.specs.Admitted.{Admitted}
@@ -19,7 +20,6 @@ use Rattle.totalizer.specs.Trees as trees
 use Rattle.totalizer.specs.Rows.{leaves-length, leaves-within}
 use Rattle.totalizer.specs.Sizes.{added-most}
 use Rattle.groups.specs.Groups.{LeavesFit}
-use Rattle.encoding.specs.Rewrite.{done}
 use Rattle.encoding.specs.Causes.{few-leaves}
 
 -- literals of the variables 1 to n are within the limit, if n is

@@ -1,29 +1,19 @@
 // Rewriting into plain rules: the given rules, then clauses that let at most d wishes be broken. It
 // counts first, then writes, so that a refusal leaves the lent list alone.
 use admission_steps::Admission;
-use refusal::Refusal;
 use refusal::Verdict;
+use replies::Rewritten;
+use replies::Sizes;
 ghost use mathlib.Core.Option.{none};
 ghost use mathlib.Core.Path.{_≡_};
 ghost use Prim.Native.Nat.{_≤_};
 ghost use lib.ListN.{length};
 ghost use Rattle.refusal.specs.Reply.{filled};
+ghost use Rattle.replies.specs.Rewritten.{replyOf, done};
 ghost use Rattle.causes.specs.Admitted.{Admitted};
 ghost use Rattle.causes.specs.Lent.{wishedProblem};
 ghost use Rattle.totalizer.specs.Totalizer.{rewrittenVariables, rewritten};
-ghost use Rattle.encoding.specs.Rewrite.{rewriteReply, rewriteOutput, replyOf, done};
-
-// Refused, or the number of variables and the length of the rewritten list.
-pub enum Rewritten {
-    Refused(Refusal),
-    Done(Sizes),
-}
-
-// The number of variables of a rewritten list, and its length.
-pub struct Sizes {
-    pub variables: usize,
-    pub length: usize,
-}
+ghost use Rattle.encoding.specs.Rewrite.{rewriteReply, rewriteOutput};
 
 // Rewrites a rule list of n variables and a wish row with the limit d.
 pub fn rewrite(n: usize, rules: &[i32], row: &[u8], d: usize, out: &mut [i32]) -> Rewritten

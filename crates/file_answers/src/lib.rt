@@ -1,16 +1,12 @@
 // The answers of the calls that read and write files.
 use answers::Answer;
-use opb_writer::WrittenOpb;
+use replies::Written;
 use rule_reader::ReadRules;
-use rule_writer::WrittenRules;
 use wish_reader::ReadWishes;
-use wish_writer::WrittenWishes;
 ghost use mathlib.Core.Path.{_≡_};
-ghost use Rattle.opb_writer.specs.Write as opb_written;
+ghost use Rattle.replies.specs.Written as written_text;
 ghost use Rattle.rule_reader.specs.Read as rules_read;
-ghost use Rattle.rule_writer.specs.Write as rules_written;
 ghost use Rattle.wish_reader.specs.Read as wishes_read;
-ghost use Rattle.wish_writer.specs.Write as wishes_written;
 ghost use Rattle.answers.specs.Answers.{answerOf};
 
 // The values are the variables, the rules and the length of the list.
@@ -22,16 +18,6 @@ pub fn of_read_rules(read: ReadRules) -> Answer
         ReadRules::Read(counts) => {
             answers::answered(1, counts.variables, counts.clauses, counts.length)
         }
-    }
-}
-
-// The value is the length of the file.
-pub fn of_written_rules(written: WrittenRules) -> Answer
-    ensures { λ a. ⌜ a ≡ answerOf (rules_written.replyOf written) ⌝ }
-{
-    match written {
-        WrittenRules::Refused(r) => answers::refused(r),
-        WrittenRules::Written(length) => answers::answered(1, length, 0, 0),
     }
 }
 
@@ -47,22 +33,12 @@ pub fn of_read_wishes(read: ReadWishes) -> Answer
     }
 }
 
-// The value is the length of the file.
-pub fn of_written_wishes(written: WrittenWishes) -> Answer
-    ensures { λ a. ⌜ a ≡ answerOf (wishes_written.replyOf written) ⌝ }
+// The value is the length of the text.
+pub fn of_written(written: Written) -> Answer
+    ensures { λ a. ⌜ a ≡ answerOf (written_text.replyOf written) ⌝ }
 {
     match written {
-        WrittenWishes::Refused(r) => answers::refused(r),
-        WrittenWishes::Written(length) => answers::answered(1, length, 0, 0),
-    }
-}
-
-// The value is the length of the file.
-pub fn of_written_opb(written: WrittenOpb) -> Answer
-    ensures { λ a. ⌜ a ≡ answerOf (opb_written.replyOf written) ⌝ }
-{
-    match written {
-        WrittenOpb::Refused(r) => answers::refused(r),
-        WrittenOpb::Written(length) => answers::answered(1, length, 0, 0),
+        Written::Refused(r) => answers::refused(r),
+        Written::Done(length) => answers::answered(1, length, 0, 0),
     }
 }

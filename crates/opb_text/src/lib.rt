@@ -1,6 +1,6 @@
 // What the program opb prints: the rules, the wishes and the limit of two files as an OPB file.
-use opb_writer::WrittenOpb;
 use problem_files::ReadProblem;
+use replies::Written;
 ghost use mathlib.Core.Path.{_≡_};
 ghost use Prim.Native.Nat.{_≤_};
 ghost use lib.ListN.{length};
@@ -36,12 +36,12 @@ fn put_opb(n: usize, rules: &[i32], row: &[u8], d: usize, out: &mut [u8]) -> usi
     ensures bound { λ r. ⌜ r ≤ longest ⌝ }
 {
     match opb_writer::write_opb(n, rules, row, d, out) {
-        WrittenOpb::Refused(r) => {
+        Written::Refused(r) => {
             if r.number == 15 {
                 return r.place;
             }
             report::put_refusal(r, out)
         }
-        WrittenOpb::Written(length) => length,
+        Written::Done(length) => length,
     }
 }

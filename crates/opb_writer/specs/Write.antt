@@ -3,11 +3,9 @@ use mathlib.Core.List.{List}
 use Prim.Native.Nat.{ℕ}
 use lib.IntN.{ℤ}
 use lib.ListN.{length}
-use Rattle.refusal.specs.Reply.{Reply, refusing, answering, unless, filled}
+use Rattle.refusal.specs.Reply.{Reply, answering, unless, filled}
 use Rattle.causes.specs.Lent.{Lent, withRoom, exportedProblem, refusalOf}
 use Rattle.opb_format.specs.Opb.{opbOf}
-use Rattle.opb_writer.specs.declared.WrittenOpb.{WrittenOpb}
-use Rattle.opb_writer.specs.declared.WrittenOpb.the-variants.{Refused, Written}
 
 -- what is lent to the call: n, the rules, each with an entry, the wish row, the limit d, and room for so many bytes
 abbrev pub lentToWrite : ℕ → List ℤ → List ℕ → ℕ → ℕ → Lent
@@ -22,8 +20,3 @@ writeReply n rules row d room =
 abbrev pub writeOutput : ℕ → List ℤ → List ℕ → ℕ → List ℕ → List ℕ
 writeOutput n rules row d file =
     filled (refusalOf (lentToWrite n rules row d (length file))) (opbOf n rules row d) file
-
--- the numbers of each answer
-abbrev pub replyOf : WrittenOpb → Reply
-replyOf (Refused r) = refusing r
-replyOf (Written length) = answering 1 length 0 0

@@ -1,30 +1,25 @@
 // The export to OPB: it counts first, then writes, so that a refusal leaves the lent bytes alone.
 use admission_steps::Admission;
 use admission_steps::Counts;
-use refusal::Refusal;
 use refusal::Verdict;
+use replies::Written;
 ghost use mathlib.Core.Path.{_≡_};
 ghost use Prim.Native.Nat.{_≤_};
 ghost use lib.ListN.{length};
+ghost use Rattle.replies.specs.Written.{replyOf};
 ghost use Rattle.causes.specs.Admitted.{Admitted};
 ghost use Rattle.causes.specs.Lent.{exportedProblem};
 ghost use Rattle.admission_steps.specs.Admission.{countsOf};
 ghost use Rattle.opb_writer.specs.Parts.{lineCount};
-ghost use Rattle.opb_writer.specs.Write.{writeReply, writeOutput, replyOf};
-
-// Refused, or the file's length.
-pub enum WrittenOpb {
-    Refused(Refusal),
-    Written(usize),
-}
+ghost use Rattle.opb_writer.specs.Write.{writeReply, writeOutput};
 
 // Writes the rules of n variables, the wishes and the limit d as an OPB file.
-pub fn write_opb(n: usize, rules: &[i32], row: &[u8], d: usize, file: &mut [u8]) -> WrittenOpb
+pub fn write_opb(n: usize, rules: &[i32], row: &[u8], d: usize, file: &mut [u8]) -> Written
     ensures reply { λ r. ⌜ replyOf r ≡ writeReply n (now (rules .entry)) (now (row .entry)) d (length (now (file .entry))) ⌝ }
     ensures output { λ r. ⌜ now (file .exit) ≡ writeOutput n (now (rules .entry)) (now (row .entry)) d (now (file .entry)) ⌝ }
 {
     match admission::admit_export(n, rules, row, d) {
-        Admission::Refused(r) => WrittenOpb::Refused(r),
+        Admission::Refused(r) => Written::Refused(r),
         Admission::Admitted(counts) => write_admitted(n, rules, row, d, counts, file),
     }
 }
@@ -37,7 +32,7 @@ fn write_admitted(
     d: usize,
     counts: Counts,
     file: &mut [u8],
-) -> WrittenOpb
+) -> Written
     requires { ⌜ Admitted (exportedProblem n (now rules) (now row) d) × (counts ≡ countsOf (exportedProblem n (now rules) (now row) d)) ⌝ }
     ensures reply { λ r. ⌜ replyOf r ≡ writeReply n (now (rules .entry)) (now (row .entry)) d (length (now (file .entry))) ⌝ }
     ensures output { λ r. ⌜ now (file .exit) ≡ writeOutput n (now (rules .entry)) (now (row .entry)) d (now (file .entry)) ⌝ }
@@ -47,11 +42,11 @@ fn write_admitted(
         + opb_rules::rules_length(rules)
         + opb_wishes::wishes_length(row, counts.wishes, d);
     if let Verdict::Refuse(r) = refusal::check_room(needed, file.len()) {
-        return WrittenOpb::Refused(r);
+        return Written::Refused(r);
     }
     let first = opb_parts::put_header(n, lines, file);
     let last = opb_rules::put_rules(rules, file, first);
-    WrittenOpb::Written(opb_wishes::put_wishes(row, counts.wishes, d, file, last))
+    Written::Done(opb_wishes::put_wishes(row, counts.wishes, d, file, last))
 }
 
 // How many lines follow the first: one for each clause, and one more where there are wishes.

@@ -17,5 +17,5 @@ pub extern "C" fn powhanire_write_opb(
     ensures answer { λ r. ⌜ r ≡ answerOf (writeReply n (now (rules .entry)) (now (row .entry)) d (length (now (file .entry)))) ⌝ }
     ensures output { λ r. ⌜ now (file .exit) ≡ writeOutput n (now (rules .entry)) (now (row .entry)) d (now (file .entry)) ⌝ }
 {
-    file_answers::of_written_opb(opb_writer::write_opb(n, rules, row, d, file))
+    file_answers::of_written(opb_writer::write_opb(n, rules, row, d, file))
 }

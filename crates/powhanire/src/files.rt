@@ -23,7 +23,7 @@ pub extern "C" fn powhanire_write_rules(n: usize, rules: &[i32], file: &mut [u8]
     ensures answer { λ r. ⌜ r ≡ answerOf (rules_written.writeReply n (now (rules .entry)) (length (now (file .entry)))) ⌝ }
     ensures output { λ r. ⌜ now (file .exit) ≡ rules_written.writeOutput n (now (rules .entry)) (now (file .entry)) ⌝ }
 {
-    file_answers::of_written_rules(rule_writer::write_rules(n, rules, file))
+    file_answers::of_written(rule_writer::write_rules(n, rules, file))
 }
 
 // The values are n, the number of wishes and the limit.
@@ -41,5 +41,5 @@ pub extern "C" fn powhanire_write_wishes(n: usize, row: &[u8], d: usize, file: &
     ensures answer { λ r. ⌜ r ≡ answerOf (wishes_written.writeReply n (now (row .entry)) d (length (now (file .entry)))) ⌝ }
     ensures output { λ r. ⌜ now (file .exit) ≡ wishes_written.writeOutput n (now (row .entry)) d (now (file .entry)) ⌝ }
 {
-    file_answers::of_written_wishes(wish_writer::write_wishes(n, row, d, file))
+    file_answers::of_written(wish_writer::write_wishes(n, row, d, file))
 }

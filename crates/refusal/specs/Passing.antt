@@ -1,11 +1,11 @@
 -- Which number a refusal has, by the causes that can apply: where the numbers of all of them pass a test, so does that of the first.
 use mathlib.Core.Path.{_≡_, sym, ap, _∙_}
 use mathlib.Core.Bool.{Bool, true}
-use mathlib.Core.List.{List, [], _∷_}
+use mathlib.Core.List.{List, [], _∷_, map}
 use mathlib.Core.Option.{Option, none, some, Option·some-ne-none}
 use Prim.Native.Nat.{ℕ}
 use Rattle.refusal.specs.declared.Refusal.{Refusal}
-use Rattle.refusal.specs.Reply.{refusal, first, causeAt}
+use Rattle.refusal.specs.Reply.{refusal, first, causeAt, Cause, given, firstFound}
 
 -- a cause whose number, if it applies, passes a test
 pub record Passes (test : ℕ → Bool) (o : Option Refusal) : Type 0 where
@@ -36,3 +36,12 @@ module _ {test : ℕ → Bool} where
   pub by-first : {causes : List (Option Refusal)} → AllPass test causes → Passes test (first causes)
   by-first last = no-cause
   by-first (more {o} {causes} here later) = or-later o causes here (by-first later)
+
+-- the same of causes by their number and place
+abbrev pub EachPasses : (ℕ → Bool) → List Cause → Type 0
+EachPasses test [] = Unit {0}
+EachPasses test (c ∷ causes) = Passes test (given c) × EachPasses test causes
+
+pub by-found : {test : ℕ → Bool} (causes : List Cause) → EachPasses test causes → Passes test (firstFound causes)
+by-found [] e = no-cause
+by-found (c ∷ causes) (here, later) = or-later (given c) (map given causes) here (by-found causes later)

@@ -1,14 +1,14 @@
 // What the rewriting program prints: the rule file of the rewritten rules.
-use encoding::Rewritten;
 use problem_files::ReadProblem;
-use rule_writer::WrittenRules;
+use replies::Rewritten;
+use replies::Written;
 ghost use mathlib.Core.Path.{_≡_};
 ghost use Prim.Native.Nat.{_<_, _≤_};
 ghost use lib.ListN.{length};
+ghost use Rattle.replies.specs.Written.{replyOf};
 ghost use Rattle.limits.specs.Limits.{maxVariables};
 ghost use Rattle.rule_list.specs.Sound.{SoundList};
 ghost use Rattle.dimacs.specs.Written.{written};
-ghost use Rattle.rule_writer.specs.Write.{replyOf};
 ghost use Rattle.report.specs.Report.{fitted};
 ghost use Rattle.rewrite_text.specs.Printed.{longest, rewrittenText, printed};
 ghost use Rattle.rewrite_text.specs.FileSize.{sizeOf};
@@ -60,11 +60,11 @@ fn put_file(n: usize, rules: &[i32], out: &mut [u8]) -> usize
 }
 
 // The length of a file that was written, or that had no room.
-fn size_of(reply: WrittenRules) -> usize
+fn size_of(reply: Written) -> usize
     ensures { λ r. ⌜ r ≡ sizeOf (replyOf reply) ⌝ }
 {
     match reply {
-        WrittenRules::Refused(r) => r.place,
-        WrittenRules::Written(length) => length,
+        Written::Refused(r) => r.place,
+        Written::Done(length) => length,
     }
 }

@@ -23,7 +23,7 @@ pub record Startable (n : ℕ) (rules : List ℤ) (room : ℕ) : Type 0 where
   pub wide : n ≤ room
 
 -- any call that is admitted with room for it may walk
-pub startable : (s : Lent) (room : ℕ) → Admitted s × (s .n ≤ room) → Startable (s .n) (s .rules) room
+pub startable : (s : Lent) (room : ℕ) → Admitted s × (s .problem .n ≤ room) → Startable (s .problem .n) (s .problem .rules) room
 startable s room a = record { few = a .0 .most; sound = a .0 .soundRules; wide = a .1 }
 
 -- r tells what the walk came to, and the choice of n bytes has its answer

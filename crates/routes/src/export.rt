@@ -2,7 +2,7 @@
 use crate::report;
 use crate::words;
 use case_text::held;
-use opb_writer::WrittenOpb;
+use replies::Written;
 
 pub fn at_limit(n: usize, rules: &[i32], row: &[u8], d: usize) {
     let mut file = case_text::file();
@@ -12,10 +12,10 @@ pub fn at_limit(n: usize, rules: &[i32], row: &[u8], d: usize) {
 fn into(n: usize, rules: &[i32], row: &[u8], d: usize, file: &mut [u8]) {
     words::write(words::OPB);
     match opb_writer::write_opb(n, rules, row, d, file) {
-        WrittenOpb::Refused(r) => {
+        Written::Refused(r) => {
             report::refused(r.number, r.place);
         }
-        WrittenOpb::Written(length) => {
+        Written::Done(length) => {
             summed(file, length);
         }
     }

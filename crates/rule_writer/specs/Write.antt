@@ -3,12 +3,10 @@ use mathlib.Core.List.{List, [], _∷_, _++_}
 use Prim.Native.Nat.{ℕ}
 use lib.IntN.{ℤ}
 use lib.ListN.{length}
-use Rattle.refusal.specs.Reply.{Reply, refusing, answering, unless, filled}
+use Rattle.refusal.specs.Reply.{Reply, answering, unless, filled}
 use Rattle.causes.specs.Lent.{Lent, withRoom, plainProblem, refusalOf}
 use Rattle.text.specs.Text.{numeral}
 use Rattle.dimacs.specs.Written.{separator, written}
-use Rattle.rule_writer.specs.declared.WrittenRules.{WrittenRules}
-use Rattle.rule_writer.specs.declared.WrittenRules.the-variants.{Refused, Written}
 
 -- what is lent to the call: n, the rules, and room for so many bytes
 abbrev pub lentToWrite : ℕ → List ℤ → ℕ → Lent
@@ -21,11 +19,6 @@ writeReply n rules room = unless (refusalOf (lentToWrite n rules room)) (answeri
 -- what the lent bytes hold after it: the file
 abbrev pub writeOutput : ℕ → List ℤ → List ℕ → List ℕ
 writeOutput n rules file = filled (refusalOf (lentToWrite n rules (length file))) (written n rules) file
-
--- the numbers of each answer
-abbrev pub replyOf : WrittenRules → Reply
-replyOf (Refused r) = refusing r
-replyOf (Written length) = answering 1 length 0 0
 
 -- the text of an element of the list: "entries, then 0, single spaces, a line feed"
 abbrev pub elementText : ℤ → List ℕ

@@ -1,11 +1,11 @@
 // The answers of the searches, of the checking call and of rewriting.
 use answers::Answer;
 use checking::Checked;
-use encoding::Rewritten;
+use replies::Rewritten;
 use searches::Searched;
 ghost use mathlib.Core.Path.{_≡_};
 ghost use Rattle.checking.specs.Check as check;
-ghost use Rattle.encoding.specs.Rewrite as rewrite;
+ghost use Rattle.replies.specs.Rewritten as rewrite;
 ghost use Rattle.searches.specs.Answers as search;
 ghost use Rattle.answers.specs.Answers.{answerOf};
 

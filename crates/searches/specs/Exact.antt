@@ -1,4 +1,4 @@
--- The reply of the call loses nothing of its answer.
+-- The reply of a search loses nothing of its answer.
 use mathlib.Core.Path.{_≡_, refl}
 use Prim.Native.Nat.{zero, suc}
 use Rattle.refusal.specs.Reply.{Reply, refusing, answering}
@@ -6,7 +6,7 @@ use Rattle.searches.specs.Answers.{replyOf}
 use Rattle.searches.specs.declared.Searched.{Searched}
 use Rattle.searches.specs.declared.Searched.the-variants.{Refused, Found, Nothing}
 
--- The numbers of an answer give the answer back: no two answers of the call have the same reply.
+-- The numbers of an answer give the answer back: no two answers of a search have the same reply.
 abbrev pub fromReply : Reply → Searched
 fromReply (refusing r) = Refused r
 fromReply (answering zero k y z) = Nothing

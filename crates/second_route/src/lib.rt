@@ -1,9 +1,9 @@
 // The second route of document 01: rewriting, the writer, the reader and plain search, each on exactly
 // what the one before it returned or left in the part it filled. (The first route is one call,
 // wish_search::search.)
-use encoding::Rewritten;
+use replies::Rewritten;
+use replies::Written;
 use rule_reader::ReadRules;
-use rule_writer::WrittenRules;
 use searches::Searched;
 ghost use mathlib.Core.Path.{_≡_};
 ghost use Rattle.rule_reader.specs.Read.{readOutput};
@@ -49,8 +49,8 @@ fn from_writer(
     ensures choice { λ r. ⌜ now (choice .exit) ≡ choiceFromWriter (inBuffers (now (rules .entry)) (now (file .entry)) (now (list .entry)) (now (choice .entry))) n (now (rules .entry)) ⌝ }
 {
     match rule_writer::write_rules(n, rules, file) {
-        WrittenRules::Refused(r) => Searched::Refused(r),
-        WrittenRules::Written(k) => from_reader(&file[..k], list, choice),
+        Written::Refused(r) => Searched::Refused(r),
+        Written::Done(k) => from_reader(&file[..k], list, choice),
     }
 }
 

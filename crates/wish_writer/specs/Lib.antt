@@ -1,4 +1,3 @@
-pub mod Exact
 pub mod Laws
 pub mod Write
 pub mod Writing

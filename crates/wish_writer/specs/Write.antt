@@ -2,11 +2,9 @@
 use mathlib.Core.List.{List}
 use Prim.Native.Nat.{ℕ}
 use lib.ListN.{length}
-use Rattle.refusal.specs.Reply.{Reply, refusing, answering, unless, filled}
+use Rattle.refusal.specs.Reply.{Reply, answering, unless, filled}
 use Rattle.causes.specs.Lent.{Lent, withRoom, wishesAlone, refusalOf}
 use Rattle.wish_file.specs.Format.{written}
-use Rattle.wish_writer.specs.declared.WrittenWishes.{WrittenWishes}
-use Rattle.wish_writer.specs.declared.WrittenWishes.the-variants.{Refused, Written}
 
 -- what is lent to the call: n, the wish row, the limit d, and room for so many bytes
 abbrev pub lentToWrite : ℕ → List ℕ → ℕ → ℕ → Lent
@@ -19,8 +17,3 @@ writeReply n row d room = unless (refusalOf (lentToWrite n row d room)) (answeri
 -- what the lent bytes hold after it: the file
 abbrev pub writeOutput : ℕ → List ℕ → ℕ → List ℕ → List ℕ
 writeOutput n row d file = filled (refusalOf (lentToWrite n row d (length file))) (written n row d) file
-
--- the numbers of each answer
-abbrev pub replyOf : WrittenWishes → Reply
-replyOf (Refused r) = refusing r
-replyOf (Written length) = answering 1 length 0 0

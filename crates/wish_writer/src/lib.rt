@@ -2,44 +2,39 @@
 mod put;
 
 use admission_steps::Admission;
-use refusal::Refusal;
 use refusal::Verdict;
+use replies::Written;
 use wish_file::HEADER_SIZE;
 use wish_file::WISH_SIZE;
 ghost use mathlib.Core.Path.{_≡_};
 ghost use lib.ListN.{length};
 ghost use Rattle.wish.specs.Wish.{wishCount};
+ghost use Rattle.replies.specs.Written.{replyOf};
 ghost use Rattle.causes.specs.Admitted.{Admitted};
 ghost use Rattle.causes.specs.Lent.{wishesAlone};
-ghost use Rattle.wish_writer.specs.Write.{writeReply, writeOutput, replyOf};
-
-// Refused, or the file's length.
-pub enum WrittenWishes {
-    Refused(Refusal),
-    Written(usize),
-}
+ghost use Rattle.wish_writer.specs.Write.{writeReply, writeOutput};
 
 // Writes a wish row and a limit as a file.
-pub fn write_wishes(n: usize, row: &[u8], d: usize, file: &mut [u8]) -> WrittenWishes
+pub fn write_wishes(n: usize, row: &[u8], d: usize, file: &mut [u8]) -> Written
     ensures reply { λ r. ⌜ replyOf r ≡ writeReply n (now (row .entry)) d (length (now (file .entry))) ⌝ }
     ensures output { λ r. ⌜ now (file .exit) ≡ writeOutput n (now (row .entry)) d (now (file .entry)) ⌝ }
 {
     match admission::admit_row(n, row, d) {
-        Admission::Refused(r) => WrittenWishes::Refused(r),
+        Admission::Refused(r) => Written::Refused(r),
         Admission::Admitted(counts) => write_row(n, row, d, counts.wishes, file),
     }
 }
 
 // Writes an admitted row of so many wishes, if the lent bytes have room for it.
-fn write_row(n: usize, row: &[u8], d: usize, wishes: usize, file: &mut [u8]) -> WrittenWishes
+fn write_row(n: usize, row: &[u8], d: usize, wishes: usize, file: &mut [u8]) -> Written
     requires { ⌜ Admitted (wishesAlone n (now row) d) × (wishes ≡ wishCount (now row)) ⌝ }
     ensures reply { λ r. ⌜ replyOf r ≡ writeReply n (now (row .entry)) d (length (now (file .entry))) ⌝ }
     ensures output { λ r. ⌜ now (file .exit) ≡ writeOutput n (now (row .entry)) d (now (file .entry)) ⌝ }
 {
     let needed = HEADER_SIZE + WISH_SIZE * wishes;
     if let Verdict::Refuse(r) = refusal::check_room(needed, file.len()) {
-        return WrittenWishes::Refused(r);
+        return Written::Refused(r);
     }
     let at = put::put_header(n, wishes, d, file);
-    WrittenWishes::Written(put::put_wishes(row, file, at))
+    Written::Done(put::put_wishes(row, file, at))
 }

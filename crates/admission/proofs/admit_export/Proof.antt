@@ -17,10 +17,12 @@ and-then-requires c κs = search needs
 
 returns : tie.Need-returns
 returns c =
-    let args = c .before .before .before .before .args in
+    let looked = c .before in
+    let first = looked .before in
+    let args = first .before .before .args in
     let s = exportedProblem (args .n) (args .rules .now) (args .row .now) (args .d) in
-    let wished = in-order (c .before .before .admit-wishes .result) (wishedProblem (args .n) (args .rules .now) (args .row .now) (args .d)) (c .before .before .admit-wishes .ensures) in
-    all-told s (then-cause wished (c .before .check-entries .result) (given (emptyCause s)) (c .before .check-entries .ensures) (c .and-then .ensures))
+    let wished = in-order (first .admit-wishes .result) (wishedProblem (args .n) (args .rules .now) (args .row .now) (args .d)) (first .admit-wishes .ensures) in
+    all-told s (then-cause wished (looked .check-entries .result) (given (emptyCause s)) (looked .check-entries .ensures) (c .and-then .ensures))
 
 pub admit-export-spec : {M : Type 1} → statement M
 admit-export-spec =

@@ -28,15 +28,18 @@ returns c =
 
 returns-2 : tie.Need-returns-2
 returns-2 c =
-    let args = c .before .before .before .before .before .before .args in
-    let held = c .before .before .before .before .a2 .given in
-    goes-on (args .a) (answer (refused (args .verdict))) (held .0 .0) (held .1) (Refused (c .before .verdict .given .0 .0))
-    (sym (ap (λ (v : Verdict). answer (refused v) (held .0 .0)) (c .before .verdict .given .1)))
+    let told = c .before in
+    let counted = told .before .before .before in
+    let args = counted .before .before .args in
+    let held = counted .a2 .given in
+    goes-on (args .a) (answer (refused (args .verdict))) (held .0 .0) (held .1) (Refused (told .verdict .given .0 .0))
+    (sym (ap (λ (v : Verdict). answer (refused v) (held .0 .0)) (told .verdict .given .1)))
 
 returns-3 : tie.Need-returns-3
 returns-3 c =
-    let args = c .before .before .before .before .before .args in
-    let held = c .before .before .before .a2 .given in
+    let counted = c .before .before .before in
+    let args = counted .before .before .args in
+    let held = counted .a2 .given in
     goes-on (args .a) (answer (refused (args .verdict))) (held .0 .0) (held .1) (Admitted (held .0 .0))
     (sym (ap (λ (v : Verdict). answer (refused v) (held .0 .0)) (c .enum-told .given .1)))
 

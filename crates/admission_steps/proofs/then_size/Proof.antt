@@ -30,8 +30,9 @@ returns c =
 
 returns-2 : tie.Need-returns-2
 returns-2 c =
-    let args = c .before .before .before .before .before .args in
-    let held = c .before .before .before .a2 .given in
+    let counted = c .before .before .before in
+    let args = counted .before .before .args in
+    let held = counted .a2 .given in
     goes-on (args .a) (λ (k : Counts). answer (cause (oversized (args .n) (k .clauses) (k .literals)) 12 0) k) (held .0 .0) (held .1) (c .and-then .result)
     (c .and-then .ensures ∙ ap (λ (o : Option Refusal). answer o (held .0 .0)) (c .before .check-size .ensures))
 

@@ -4,7 +4,7 @@ use mathlib.Core.List.{List}
 use Prim.Native.Nat.{ℕ}
 use native.Mathlib.Omega.{arith}
 use borrow.Author.Needs.{needs}
-use Rattle.opb_writer.specs.Write.{replyOf}
+use Rattle.replies.specs.Written.{replyOf}
 use Rattle.report.specs.Laws.{renamed}
 use Rattle.report.specs.Report.{refusalLine, fitted}
 use Rattle.opb_text.specs.Laws.{said-short, said-refused, said-written}

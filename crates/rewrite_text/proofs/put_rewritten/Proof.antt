@@ -5,7 +5,7 @@ use Prim.Native.Nat.{ℕ, _≤_}
 use native.Mathlib.Omega.{arith}
 use lib.IntN.{ℤ}
 use lib.ListN.{length, take, length-take}
-use Rattle.encoding.specs.Rewrite.{replyOf}
+use Rattle.replies.specs.Rewritten.{replyOf}
 use Rattle.report.specs.Laws.{renamed}
 use Rattle.report.specs.Report.{refusalLine}
 use Rattle.dimacs.specs.Written.{written}

@@ -1,6 +1,6 @@
 -- `search_answers::of_rewritten` meets its contract: each answer of the call has its numbers.
 use borrow.Author.Needs.{needs}
-use Rattle.encoding.specs.Rewrite.{replyOf}
+use Rattle.replies.specs.Rewritten.{replyOf}
 use Rattle.answers.specs.Laws.{told-of}
 use Rattle.search_answers.proofs.of_rewritten.Statement.{statement}
 use Rattle.search_answers.proofs.of_rewritten.Tie as tie

@@ -7,7 +7,8 @@ use lib.IntN.{ℤ}
 use lib.ListN.{length, length-take}
 use borrow.Author.Needs.{needs}
 use Rattle.refusal.specs.Reply.{answering}
-use Rattle.rule_writer.specs.Write.{writeReply, replyOf}
+use Rattle.replies.specs.Written.{replyOf}
+use Rattle.rule_writer.specs.Write.{writeReply}
 use Rattle.searches.specs.Answers as searches
 use Rattle.second_route.specs.Laws.{written-inside, writer-refused, writer-answered}
 use Rattle.second_route.specs.Routes.{inBuffers}

@@ -7,7 +7,8 @@ use lib.IntN.{ℤ}
 use lib.ListN.{length, length-take}
 use borrow.Author.Needs.{needs}
 use Rattle.refusal.specs.Reply.{answering}
-use Rattle.encoding.specs.Rewrite.{rewriteReply, replyOf}
+use Rattle.replies.specs.Rewritten.{replyOf}
+use Rattle.encoding.specs.Rewrite.{rewriteReply}
 use Rattle.searches.specs.Answers as searches
 use Rattle.second_route.specs.Laws.{rewritten-inside, rewriting-refused, rewriting-answered}
 use Rattle.second_route.specs.Routes.{inBuffers}

@@ -8,8 +8,8 @@ use Rattle.powhanire.proofs.files.powhanire_write_rules.Tie as tie
 write-rules-requires : tie.Need-write-rules-requires
 write-rules-requires c κs = search needs
 
-of-written-rules-requires : tie.Need-of-written-rules-requires
-of-written-rules-requires c κs = search needs
+of-written-requires : tie.Need-of-written-requires
+of-written-requires c κs = search needs
 
 same-length : tie.Need-same-length
 same-length c = search needs
@@ -17,8 +17,8 @@ same-length c = search needs
 returns : tie.Need-returns
 returns c =
     let called = c .before .before .before .write-rules in
-    (c .of-written-rules .ensures ∙ ap answerOf (called .ensures .0), called .ensures .1)
+    (c .of-written .ensures ∙ ap answerOf (called .ensures .0), called .ensures .1)
 
 pub powhanire-write-rules-spec : {M : Type 1} → statement M
 powhanire-write-rules-spec =
-    tie.close (tie.spec write-rules-requires of-written-rules-requires same-length returns)
+    tie.close (tie.spec write-rules-requires of-written-requires same-length returns)

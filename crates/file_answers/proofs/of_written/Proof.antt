@@ -1,9 +1,9 @@
--- `file_answers::of_written_wishes` meets its contract: each answer of the call has its numbers.
+-- `file_answers::of_written` meets its contract: each answer has its numbers.
 use borrow.Author.Needs.{needs}
-use Rattle.wish_writer.specs.Write.{replyOf}
+use Rattle.replies.specs.Written.{replyOf}
 use Rattle.answers.specs.Laws.{told-of}
-use Rattle.file_answers.proofs.of_written_wishes.Statement.{statement}
-use Rattle.file_answers.proofs.of_written_wishes.Tie as tie
+use Rattle.file_answers.proofs.of_written.Statement.{statement}
+use Rattle.file_answers.proofs.of_written.Tie as tie
 
 enum-known-written : tie.Need-enum-known-written
 enum-known-written c = search needs
@@ -23,8 +23,8 @@ returns c = told-of replyOf (c .before .before .written .given .1) (c .refused .
 returns-2 : tie.Need-returns-2
 returns-2 c = told-of replyOf (c .before .before .written2 .given .1) (c .answered .ensures)
 
-pub of-written-wishes-spec : {M : Type 1} → statement M
-of-written-wishes-spec =
+pub of-written-spec : {M : Type 1} → statement M
+of-written-spec =
     tie.close
     (tie.spec
     enum-known-written

@@ -1,0 +1,3 @@
+pub mod Exact
+pub mod Rewritten
+pub mod Written
