@@ -1,4 +1,4 @@
-"""The lines of the cases."""
+"""The lines of the cases, and a function for each call that adds one: the line of that name below."""
 
 from asked import needed
 
@@ -38,47 +38,48 @@ def pattern(elements, length):
     return [elements[index % len(elements)] for index in range(length)]
 
 
-def check(text, n, rules, row, choice):
-    label(text)
-    lines.append('check %d %s %s %s' % (n, encode(rules), encode(row), encode(choice)))
+def case(name, *values):
+    """The line of a call: a number as it is, a list with its length."""
+    return ' '.join([name] + [str(value) if isinstance(value, int) else encode(value) for value in values])
 
 
-def read_rules(text, file, room=None):
-    """The rule file's reader, by default with a buffer that has room to spare."""
-    if room is None:
-        length = needed('read_rules %s 0' % encode(file))
-        room = 6 if length is None else length + 3
-    buffer = pattern(NUMBERS, room)
-    label('read rules: ' + text)
-    lines.append('read_rules %s %s' % (encode(file), encode(buffer)))
+def call(name, heading, elements=None):
+    """What adds a case of a call, of a label and the values in the call's order. Where the call fills a buffer, of such
+    elements, the last of them is its length."""
+
+    def add(text, *values):
+        if elements:
+            values = [*values[:-1], pattern(elements, values[-1])]
+        label(heading + text)
+        lines.append(case(name, *values))
+
+    return add
 
 
-def write_rules(text, n, numbers, room):
-    buffer = pattern(BYTES, room)
-    label('write rules: ' + text)
-    lines.append('write_rules %d %s %s' % (n, encode(numbers), encode(buffer)))
+def reader(name, heading, elements):
+    """The same of a file's reader, by default with a buffer that has room to spare."""
+    add = call(name, heading, elements)
+
+    def read(text, file, room=None):
+        if room is None:
+            length = needed(case(name, file, []))
+            room = 6 if length is None else length + 3
+        add(text, file, room)
+
+    return read
 
 
-def read_wishes(text, file, room=None):
-    """The wish file's reader, by default with a buffer that has room to spare."""
-    if room is None:
-        length = needed('read_wishes %s 0' % encode(file))
-        room = 6 if length is None else length + 3
-    buffer = pattern(BYTES, room)
-    label('read wishes: ' + text)
-    lines.append('read_wishes %s %s' % (encode(file), encode(buffer)))
-
-
-def write_wishes(text, n, row, d, room):
-    buffer = pattern(BYTES, room)
-    label('write wishes: ' + text)
-    lines.append('write_wishes %d %s %d %s' % (n, encode(row), d, encode(buffer)))
-
-
-def write_opb(text, n, rules, row, d, room):
-    buffer = pattern(BYTES, room)
-    label('write OPB: ' + text)
-    lines.append('write_opb %d %s %s %d %s' % (n, encode(rules), encode(row), d, encode(buffer)))
+check = call('check', '')
+read_rules = reader('read_rules', 'read rules: ', NUMBERS)
+write_rules = call('write_rules', 'write rules: ', BYTES)
+read_wishes = reader('read_wishes', 'read wishes: ', BYTES)
+write_wishes = call('write_wishes', 'write wishes: ', BYTES)
+write_opb = call('write_opb', 'write OPB: ', BYTES)
+search = call('search', 'search: ', BYTES)
+plain = call('plain', 'plain: ', BYTES)
+nearest = call('nearest', 'nearest: ', BYTES)
+rewrite = call('rewrite', 'rewrite: ', NUMBERS)
+forks = call('forks', 'forks: ')
 
 
 def shown(file):
@@ -94,32 +95,3 @@ def damaged(file):
                 yield file[:at] + bytes([byte]) + file[at + 1 :]
         yield file[:at] + file[at + 1 :]
         yield file[:at] + file[at : at + 1] + file[at:]
-
-
-def search(text, n, rules, row, d, room):
-    buffer = pattern(BYTES, room)
-    label('search: ' + text)
-    lines.append('search %d %s %s %d %s' % (n, encode(rules), encode(row), d, encode(buffer)))
-
-
-def plain(text, n, rules, room):
-    buffer = pattern(BYTES, room)
-    label('plain: ' + text)
-    lines.append('plain %d %s %s' % (n, encode(rules), encode(buffer)))
-
-
-def nearest(text, n, rules, row, room):
-    buffer = pattern(BYTES, room)
-    label('nearest: ' + text)
-    lines.append('nearest %d %s %s %s' % (n, encode(rules), encode(row), encode(buffer)))
-
-
-def rewrite(text, n, rules, row, d, room):
-    buffer = pattern(NUMBERS, room)
-    label('rewrite: ' + text)
-    lines.append('rewrite %d %s %s %d %s' % (n, encode(rules), encode(row), d, encode(buffer)))
-
-
-def forks(text, n, rules, row, d):
-    label('forks: ' + text)
-    lines.append('forks %d %s %s %d' % (n, encode(rules), encode(row), d))

@@ -3,7 +3,7 @@
 import itertools
 
 from asked import ask
-from case_lines import encode, nearest
+from case_lines import case, nearest
 from forks import book, ladder, wished
 
 
@@ -100,8 +100,8 @@ def twins(draw, text, count, problem):
     for index in range(count):
         n, rules, row = problem()
         other = twin(draw, n, rules)
-        case = lambda rules: 'nearest %d %s %s %s' % (n, encode(rules), encode(row), encode([0] * n))
-        assert ask(case(rules)) == ask(case(other)), (rules, other, row)
+        answer = lambda rules: ask(case('nearest', n, rules, row, [0] * n))
+        assert answer(rules) == answer(other), (rules, other, row)
         first('%s %d' % (text, index), n, rules, row)
         first('%s %d, its twin' % (text, index), n, other, row)
 

@@ -1,13 +1,13 @@
 """Cases of the forks that the walk of the wish search makes."""
 
 from asked import ask
-from case_lines import encode, forks
+from case_lines import case, forks
 from searches import all_rules, chain, least
 
 
 def made(n, rules, row, d):
     """The forks by the reference."""
-    return int(ask('forks %d %s %s %d' % (n, encode(rules), encode(row), d))[0].split()[-1])
+    return int(ask(case('forks', n, rules, row, d))[0].split()[-1])
 
 
 def limits(n, rules, row):
@@ -77,6 +77,13 @@ def random_ones(draw, text, count, fewest, problem):
             index += 1
             for d in ds:
                 forks('%s %d, limit %d' % (text, index, d), n, rules, row, d)
+
+
+# Lines that are no case.
+NO_CASES = (
+    ('forks without a limit', 'forks 1 0 1 2'),
+    ('forks with a buffer', 'forks 1 0 1 2 0 1 7'),
+)
 
 
 def add(draw):

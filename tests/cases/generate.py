@@ -28,6 +28,8 @@ import wish_files
 from asked import all_answers
 from case_lines import check, label, lines
 
+# Each adds cases, drawn from a seed of its own: a new one stands at the end.
+MODULES = (rule_files, wish_files, searches, forks, opb_files, repeats, first_choices)
 CRATE = pathlib.Path(__file__).resolve().parents[2] / 'crates' / 'cases'
 LEAST, GREATEST = -2**31, 2**31 - 1
 MALFORMED, NO_CASE = 'bad case', 'no case: '
@@ -225,7 +227,8 @@ def random_problems(draw, count):
 
 
 def malformed():
-    """Lines that are no case: the program says so, and goes on with the next line."""
+    """Lines that are no case: the program says so, and goes on with the next line. The modules have those of their
+    calls."""
     for text, line in (
         ('an empty line', ''),
         ('a blank', ' '),
@@ -257,29 +260,7 @@ def malformed():
         ('a repeat from too far back', 'check 1 3 0 @ 2 2 1 2 1 1'),
         ('a repeat of itself', 'check 1 3 0 @ 2 0 1 2 1 1'),
         ('a repeat without its numbers', 'check 1 3 0 @'),
-        ('a file that is too long', 'read_rules 262145 99 @ 262144 1 0'),
-        ('a byte of 256 in a file', 'read_rules 1 256 0'),
-        ('no buffer', 'read_rules 1 99'),
-        ('a value after the buffer', 'read_rules 1 99 0 0'),
-        ('no list', 'write_rules 1'),
-        ('no buffer for rules', 'write_rules 1 2 1 0'),
-        ('a buffer of numbers', 'write_rules 1 2 1 0 1 -1'),
-        ('no buffer for a row', 'read_wishes 1 32'),
-        ('a wish file that is too long', 'read_wishes 1025 32 @ 1024 1 0'),
-        ('no limit', 'write_wishes 1 1 2'),
-        ('no buffer for wishes', 'write_wishes 1 1 2 0'),
-        ('a negative limit', 'write_wishes 1 1 2 -1 0'),
-        ('no limit for a search', 'search 1 0 1 2'),
-        ('a search without a buffer', 'search 1 0 1 2 0'),
-        ('plain search without a buffer', 'plain 1 0'),
-        ('nearest with a limit', 'nearest 1 0 1 2 0 1 7'),
-        ('rewriting without a buffer', 'rewrite 1 0 1 2 0'),
-        ('forks without a limit', 'forks 1 0 1 2'),
-        ('forks with a buffer', 'forks 1 0 1 2 0 1 7'),
-        ('OPB without a limit', 'write_opb 1 0 1 2'),
-        ('OPB without a buffer', 'write_opb 1 0 1 2 0'),
-        ('a buffer of numbers for OPB', 'write_opb 1 0 1 2 0 1 -1'),
-        ('a row that is too long for OPB', 'write_opb 1 0 1025 2 @ 1024 1 0 0'),
+        *(no_case for module in MODULES for no_case in getattr(module, 'NO_CASES', ())),
     ):
         label(NO_CASE + text)
         lines.append(line)
@@ -305,13 +286,8 @@ def main():
     bytes_and_lengths()
     orders()
     random_problems(random.Random(1), 200)
-    rule_files.add(random.Random(2))
-    wish_files.add(random.Random(3))
-    searches.add(random.Random(4))
-    forks.add(random.Random(5))
-    opb_files.add(random.Random(6))
-    repeats.add(random.Random(7))
-    first_choices.add(random.Random(8))
+    for seed, module in enumerate(MODULES, start=2):
+        module.add(random.Random(seed))
     malformed()
     cases = '\n'.join(lines) + '\n'
     answers = all_answers(cases)

@@ -3,7 +3,7 @@
 import itertools
 
 from asked import needed
-from case_lines import encode, write_opb
+from case_lines import case, write_opb
 
 # Room for the longest file: include/powhanire.h has this number.
 ENOUGH = 165306
@@ -12,7 +12,7 @@ ENOUGH = 165306
 def write(text, n, rules, row, d, rooms=None):
     """An export with such rooms; by default with three bytes more than it needs, of which the buffer keeps its own."""
     if rooms is None:
-        length = needed('write_opb %d %s %s %d 0' % (n, encode(rules), encode(row), d))
+        length = needed(case('write_opb', n, rules, row, d, []))
         rooms = (6 if length is None else length + 3,)
     for room in rooms:
         write_opb(text if len(rooms) == 1 else '%s, room for %d' % (text, room), n, rules, row, d, room)
@@ -20,7 +20,7 @@ def write(text, n, rules, row, d, rooms=None):
 
 def with_rooms(text, n, rules, row, d):
     """The same with room as needed, more and less."""
-    length = needed('write_opb %d %s %s %d 0' % (n, encode(rules), encode(row), d))
+    length = needed(case('write_opb', n, rules, row, d, []))
     write(text, n, rules, row, d, (0, length - 1, length, length + 1, length + 70))
 
 
@@ -170,6 +170,15 @@ def random_ones(draw, count):
         wished = draw.sample(range(n), draw.randint(0, min(n, 6)))
         row = [draw.choice((0, 1)) if setting in wished else 2 for setting in range(n)]
         write('random %d' % index, n, rules, row, draw.randint(0, 8))
+
+
+# Lines that are no case.
+NO_CASES = (
+    ('OPB without a limit', 'write_opb 1 0 1 2'),
+    ('OPB without a buffer', 'write_opb 1 0 1 2 0'),
+    ('a buffer of numbers for OPB', 'write_opb 1 0 1 2 0 1 -1'),
+    ('a row that is too long for OPB', 'write_opb 1 0 1025 2 @ 1024 1 0 0'),
+)
 
 
 def add(draw):

@@ -4,7 +4,7 @@ import itertools
 
 from asked import ask
 from case_lines import (
-    NUMBERS, check, encode, forks, pattern, plain, read_rules, rewrite, search, write_opb, write_rules,
+    NUMBERS, case, check, forks, pattern, plain, read_rules, rewrite, search, write_opb, write_rules,
 )
 from forks import random_ones, wished
 from opb_files import ENOUGH
@@ -97,8 +97,8 @@ def random_files(draw, count):
         entry = lambda: draw.choice((-1, 1)) * draw.choice(few)
         rules = [[entry() for _ in range(draw.randint(0, 7))] for _ in range(draw.randint(0, 4))]
         once = [list(dict.fromkeys(rule)) for rule in rules]
-        case = lambda rules: 'read_rules %s %s' % (encode(text_of(n, rules)), encode(pattern(NUMBERS, 40)))
-        assert ask(case(rules)) == ask(case(once)), rules
+        answer = lambda rules: ask(case('read_rules', text_of(n, rules), pattern(NUMBERS, 40)))
+        assert answer(rules) == answer(once), rules
         read_rules('random with repeats %d' % index, text_of(n, rules))
 
 

@@ -3,7 +3,7 @@
 import itertools
 
 from asked import written
-from case_lines import damaged, encode, read_rules, shown, write_rules
+from case_lines import case, damaged, read_rules, shown, write_rules
 
 LEAST, GREATEST = -(2**31), 2**31 - 1
 FOUR = b'1 2 3 4 0\n'
@@ -223,7 +223,7 @@ def rooms():
 
 def round_trip(text, n, numbers):
     """A list written, with room as needed, more and less, and its file read."""
-    file = written('write_rules %d %s' % (n, encode(numbers)))
+    file = written(case('write_rules', n, numbers))
     for room in (len(file) - 1, len(file), len(file) + 1, len(file) + 70):
         write_rules('%s, room for %d' % (text, room), n, numbers, room)
     for room in (len(numbers) - 1, len(numbers), len(numbers) + 1):
@@ -280,6 +280,18 @@ def writer():
     ):
         write_rules(text, 8, numbers, 100)
         write_rules(text + ', no room', 8, numbers, 0)
+
+
+# Lines that are no case.
+NO_CASES = (
+    ('a file that is too long', 'read_rules 262145 99 @ 262144 1 0'),
+    ('a byte of 256 in a file', 'read_rules 1 256 0'),
+    ('no buffer', 'read_rules 1 99'),
+    ('a value after the buffer', 'read_rules 1 99 0 0'),
+    ('no list', 'write_rules 1'),
+    ('no buffer for rules', 'write_rules 1 2 1 0'),
+    ('a buffer of numbers', 'write_rules 1 2 1 0 1 -1'),
+)
 
 
 def add(draw):

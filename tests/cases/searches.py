@@ -3,7 +3,7 @@
 import itertools
 
 from asked import ask, needed
-from case_lines import encode, nearest, plain, rewrite, search
+from case_lines import case, nearest, plain, rewrite, search
 
 
 def every(text, n, rules, row, limits, room=None):
@@ -68,7 +68,7 @@ def long_ones():
 
 def least(n, rules, row):
     """The least number of broken wishes, None if the rules can't be met."""
-    word, *count = ask('nearest %d %s %s %s' % (n, encode(rules), encode(row), encode([0] * n)))[0].split()
+    word, *count = ask(case('nearest', n, rules, row, [0] * n))[0].split()
     return int(count[0]) if word == 'found' else None
 
 
@@ -136,11 +136,21 @@ def rewritings():
             row += [2] * (n - len(row))
             for d in sorted({0, max(count - 1, 0), count, 64}):
                 rules = [1, -n, 0] if n > 1 else [1, 0]
-                length = needed('rewrite %d %s %s %d 0' % (n, encode(rules), encode(row), d))
+                length = needed(case('rewrite', n, rules, row, d, []))
                 for room in (length - 1, length, length + 3):
                     rewrite('%d wishes of %d, limit %d, room for %d' % (count, n, d, room), n, rules, row, d, room)
     rewrite("document 01's example", 2, [1, 2, 0], [0, 0], 1, 30)
     rewrite('an empty rule, no room', 1, [0], [0], 0, 0)
+
+
+# Lines that are no case.
+NO_CASES = (
+    ('no limit for a search', 'search 1 0 1 2'),
+    ('a search without a buffer', 'search 1 0 1 2 0'),
+    ('plain search without a buffer', 'plain 1 0'),
+    ('nearest with a limit', 'nearest 1 0 1 2 0 1 7'),
+    ('rewriting without a buffer', 'rewrite 1 0 1 2 0'),
+)
 
 
 def add(draw):

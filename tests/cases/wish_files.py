@@ -3,7 +3,7 @@
 import itertools
 
 from asked import written
-from case_lines import damaged, encode, read_wishes, shown, write_wishes
+from case_lines import case, damaged, read_wishes, shown, write_wishes
 
 
 def read(file, room=None):
@@ -116,7 +116,7 @@ def rooms():
 
 def round_trip(text, n, row, d):
     """A row written, with room as needed, more and less, and its file read."""
-    file = written('write_wishes %d %s %d' % (n, encode(row), d))
+    file = written(case('write_wishes', n, row, d))
     for room in (len(file) - 1, len(file), len(file) + 1, len(file) + 70):
         write_wishes('%s, room for %d' % (text, room), n, row, d, room)
     for room in (n - 1, n, n + 1):
@@ -179,6 +179,16 @@ def writer():
     write_wishes('a bad byte before 65 wishes', 100, [3] + [1] * 65 + [2] * 34, 1, 1000)
     write_wishes('no wishes, room for 15', 3, [2] * 3, 1, 15)
     write_wishes('no wishes, room for 16', 3, [2] * 3, 1, 16)
+
+
+# Lines that are no case.
+NO_CASES = (
+    ('no buffer for a row', 'read_wishes 1 32'),
+    ('a wish file that is too long', 'read_wishes 1025 32 @ 1024 1 0'),
+    ('no limit', 'write_wishes 1 1 2'),
+    ('no buffer for wishes', 'write_wishes 1 1 2 0'),
+    ('a negative limit', 'write_wishes 1 1 2 -1 0'),
+)
 
 
 def add(draw):

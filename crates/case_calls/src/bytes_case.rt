@@ -1,5 +1,6 @@
-// The calls that are lent bytes: the checking call, the files and the searches.
-use crate::call::CHECK;
+// The calls that write bytes: the files, and the searches.
+use crate::call::NEAREST;
+use crate::call::PLAIN;
 use crate::call::READ_WISHES;
 use crate::call::SEARCH;
 use crate::call::WRITE_OPB;
@@ -10,18 +11,15 @@ use answers::Answer;
 use case_text::held;
 use case_text::words;
 
-pub fn answer(call: usize, n: usize, rules: &[i32], row: &[u8], d: usize, bytes: &mut [u8]) {
-    if call == CHECK {
-        check(n, rules, row, bytes);
-    } else if call < SEARCH {
-        file(call, n, rules, row, d, bytes);
-    } else {
-        search_case::answer(call, n, rules, row, d, bytes);
+pub fn answer(call: usize, n: usize, rules: &[i32], row: &[u8], d: usize, out: &mut [u8]) {
+    match call {
+        SEARCH | PLAIN | NEAREST => {
+            search_case::answer(call, n, rules, row, d, out);
+        }
+        _ => {
+            file(call, n, rules, row, d, out);
+        }
     }
-}
-
-fn check(n: usize, rules: &[i32], row: &[u8], choice: &[u8]) {
-    show::checked(search_answers::of_checked(checking::check(n, rules, row, choice)));
 }
 
 fn file(call: usize, n: usize, rules: &[i32], row: &[u8], d: usize, out: &mut [u8]) {

@@ -21,7 +21,10 @@ pub const REWRITE: usize = 9;
 
 pub const FORKS: usize = 10;
 
-// Which call a line names; any other number where it names none.
+// How many there are.
+pub const CALLS: usize = 11;
+
+// Which call a line names: their number where it names none.
 pub fn named(line: &[u8]) -> usize {
     case_text::name_of(
         line,
@@ -29,27 +32,47 @@ pub fn named(line: &[u8]) -> usize {
     )
 }
 
-// Which values a case of a call has before its buffer. They stand in this order. A file that is read
+// What a call writes into the buffer that comes last.
+pub const NOTHING: usize = 0;
+
+pub const BYTES: usize = 1;
+
+pub const NUMBERS: usize = 2;
+
+// Which values a case of a call has, in this order, and what buffer after them. A file that is read
 // stands as a row.
-pub struct Values {
+pub struct Form {
     pub n: bool,
     pub rules: bool,
     pub row: bool,
     pub d: bool,
+    pub choice: bool,
+    pub buffer: usize,
 }
 
-pub fn values_of(call: usize) -> Values {
+pub fn form_of(call: usize) -> Form {
     match call {
-        CHECK | NEAREST => those(true, true, true, false),
-        READ_RULES | READ_WISHES => those(false, false, true, false),
-        WRITE_RULES | PLAIN => those(true, true, false, false),
-        WRITE_WISHES => those(true, false, true, true),
-        _ => those(true, true, true, true),
+        CHECK => those(true, true, true, false, true, NOTHING),
+        READ_RULES => those(false, false, true, false, false, NUMBERS),
+        READ_WISHES => those(false, false, true, false, false, BYTES),
+        WRITE_RULES | PLAIN => those(true, true, false, false, false, BYTES),
+        WRITE_WISHES => those(true, false, true, true, false, BYTES),
+        NEAREST => those(true, true, true, false, false, BYTES),
+        REWRITE => those(true, true, true, true, false, NUMBERS),
+        FORKS => those(true, true, true, true, false, NOTHING),
+        _ => those(true, true, true, true, false, BYTES),
     }
 }
 
-fn those(n: bool, rules: bool, row: bool, d: bool) -> Values {
-    Values { n, rules, row, d }
+fn those(n: bool, rules: bool, row: bool, d: bool, choice: bool, buffer: usize) -> Form {
+    Form {
+        n,
+        rules,
+        row,
+        d,
+        choice,
+        buffer,
+    }
 }
 
 // The longest row of a case, or file that is read: a rule file may have more bytes.

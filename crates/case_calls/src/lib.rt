@@ -1,7 +1,9 @@
-// The calls on the values of a case, with what they answer written. Numbers name the calls.
+// The calls on the values of a case, with what they answer written. Numbers name the calls. A call is in
+// the module of what it writes.
 pub mod bytes_case;
 pub mod call;
-pub mod forks_case;
+mod forks_case;
+pub mod nothing_case;
 pub mod numbers_case;
 mod search_case;
 mod show;

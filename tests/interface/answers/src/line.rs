@@ -2,41 +2,50 @@
 //! elements; among these `@ COUNT BACK` stands for COUNT further elements, each of them the one that stands
 //! BACK places before it. None is what the program answers with `bad case`.
 
+use calls::{Buffer, Kind, Values, Writes};
 use std::str::Split;
 
-/// The longest lists that the program takes: of numbers; a row, or a wish file that is read; any other bytes.
+/// The longest lists that the program takes: of numbers; a rule file, or bytes that are written; any other bytes.
 const NUMBERS: usize = 40_960;
-const ROW: usize = 1_024;
-const BYTES: usize = 262_144;
+const FILE: usize = 262_144;
+const BYTES: usize = 1_024;
 
-pub struct Values<'a>(Split<'a, char>);
+/// A value of a case.
+type Value = calls::Value<Vec<i32>, Vec<u8>>;
 
-impl<'a> Values<'a> {
-    /// The name with which a line begins, and the values after it.
-    pub fn of(line: &'a str) -> (&'a str, Values<'a>) {
-        let mut words = line.split(' ');
-        (words.next().unwrap_or(""), Values(words))
+/// The words that are not read yet.
+pub struct Words<'a>(Split<'a, char>);
+
+/// The name with which a line begins, and the words after it.
+pub fn start(line: &str) -> (&str, Words<'_>) {
+    let mut words = line.split(' ');
+    (words.next().unwrap_or(""), Words(words))
+}
+
+impl Words<'_> {
+    pub fn value(&mut self, kind: Kind) -> Option<Value> {
+        Some(match Values::default().value(kind) {
+            Value::Number(_) => Value::Number(self.number()?),
+            Value::Numbers(_) => Value::Numbers(self.list(NUMBERS)?),
+            Value::Bytes(_) if kind == Kind::rule_file => Value::Bytes(self.narrow(FILE)?),
+            Value::Bytes(_) => Value::Bytes(self.narrow(BYTES)?),
+        })
     }
 
-    pub fn number(&mut self) -> Option<u64> {
-        digits(self.0.next()?)
-    }
-
-    pub fn numbers(&mut self) -> Option<Vec<i32>> {
-        self.list(NUMBERS)
-    }
-
-    pub fn row(&mut self) -> Option<Vec<u8>> {
-        self.narrow(ROW)
-    }
-
-    pub fn bytes(&mut self) -> Option<Vec<u8>> {
-        self.narrow(BYTES)
+    pub fn buffer(&mut self, writes: Writes) -> Option<Buffer> {
+        Some(match writes {
+            Writes::List => Buffer { numbers: self.list(NUMBERS)?, ..Buffer::default() },
+            _ => Buffer { bytes: self.narrow(FILE)?, ..Buffer::default() },
+        })
     }
 
     /// Nothing may be left.
     pub fn end(mut self) -> Option<()> {
         self.0.next().is_none().then_some(())
+    }
+
+    fn number(&mut self) -> Option<u64> {
+        digits(self.0.next()?)
     }
 
     fn narrow(&mut self, most: usize) -> Option<Vec<u8>> {

@@ -3,6 +3,8 @@
 use crate::both::Both;
 use crate::files::rooms;
 use crate::random::Random;
+use calls::lent::{chosen, wished};
+use calls::{CHECK, WRITE_OPB};
 use reference::opb;
 
 pub const GROUPS: &[crate::Group] = &[
@@ -21,19 +23,21 @@ const ENOUGH: usize = 165_306;
 
 /// The file with all the room it may need, and with others around its length.
 fn export(both: &mut Both, random: &mut Random, n: usize, rules: &[i32], row: &[u8], d: u64) {
-    let (answer, _) = both.write_opb(n as u64, rules, row, d, ENOUGH);
-    for room in rooms(random, answer.value[0] as usize) {
-        both.write_opb(n as u64, rules, row, d, room);
+    let lent = wished(n as u64, rules, row, d);
+    let length = both.call(WRITE_OPB, &lent, ENOUGH).answer.value[0];
+    for room in rooms(random, length as usize) {
+        both.call(WRITE_OPB, &lent, room);
     }
 }
 
 /// "A choice satisfies the lines exactly when it meets the rules within d", by the library's checking call.
 fn every_choice(both: &mut Both, n: usize, list: &[i32], row: &[u8]) {
     let choices: Vec<Vec<u8>> = (0..1 << n).map(|bits| (0..n).map(|v| (bits >> v & 1) as u8).collect()).collect();
-    let checked: Vec<_> = choices.iter().map(|choice| both.check(n as u64, list, row, choice)).collect();
+    let check = |choice: &Vec<u8>| both.call(CHECK, &chosen(n as u64, list, row, choice), 0).answer;
+    let checked: Vec<_> = choices.iter().map(check).collect();
     for d in (0..=n as u64 + 1).chain([64]) {
-        let (answer, file) = both.write_opb(n as u64, list, row, d, 2_000);
-        let read = opb::read(&file[..answer.value[0] as usize]);
+        let written = both.call(WRITE_OPB, &wished(n as u64, list, row, d), 2_000);
+        let read = opb::read(&written.bytes[..written.answer.value[0] as usize]);
         both.hold(read.as_ref().is_some_and(|r| r.0 == n), || "the file has no such lines".to_string());
         let lines = read.map_or(vec![], |r| r.1);
         for (choice, checked) in choices.iter().zip(&checked) {
@@ -63,9 +67,10 @@ fn every_room(both: &mut Both, random: &mut Random) {
     let n = random.of(&[1, 3, 10, 100, 256]);
     let (rules, wishes, d) = (random.below(5), random.below(6), random.below(65) as u64);
     let (list, row) = (random.book(n, rules, 1, 4.min(n)), random.row(n, wishes));
-    let (answer, _) = both.write_opb(n as u64, &list, &row, d, ENOUGH);
-    for room in 0..answer.value[0] as usize + 3 {
-        both.write_opb(n as u64, &list, &row, d, room);
+    let lent = wished(n as u64, &list, &row, d);
+    let length = both.call(WRITE_OPB, &lent, ENOUGH).answer.value[0];
+    for room in 0..length as usize + 3 {
+        both.call(WRITE_OPB, &lent, room);
     }
 }
 
@@ -128,7 +133,7 @@ fn every_count(both: &mut Both, random: &mut Random) {
             let on = on.min(wishes);
             let row = marked(random, 64 + wishes, on, wishes - on);
             for d in [0, 1, on.saturating_sub(1), on, on + 1, on + 9, on + 10, wishes, wishes + 1, 63, 64, 65] {
-                both.write_opb(row.len() as u64, &[1, -2, 0], &row, d as u64, 800);
+                both.call(WRITE_OPB, &wished(row.len() as u64, &[1, -2, 0], &row, d as u64), 800);
             }
         }
     }
@@ -194,7 +199,7 @@ fn largest(both: &mut Both, random: &mut Random) {
         for row in [&last, &random.row(256, 64), &random.row(256, 0)] {
             for d in [0, 1, 63, 64] {
                 export(both, random, 256, list, row, d);
-                longest = longest.max(both.write_opb(256, list, row, d, ENOUGH).0.value[0]);
+                longest = longest.max(both.call(WRITE_OPB, &wished(256, list, row, d), ENOUGH).answer.value[0]);
             }
         }
     }

@@ -2,6 +2,8 @@
 
 use crate::both::Both;
 use crate::random::{without_repeats, Random};
+use calls::lent::{rule_file, ruled, wish_file, wished};
+use calls::{PLAIN, READ_RULES, READ_WISHES, WRITE_RULES, WRITE_WISHES};
 
 pub const GROUPS: &[crate::Group] = &[
     ("rule files: sound", 3_000, sound_rule_file),
@@ -34,23 +36,24 @@ pub fn a_room(random: &mut Random, needed: usize) -> usize {
 
 /// Reads the file with a long buffer, and with others around the length needed; then writes what was read.
 fn read_and_write(both: &mut Both, random: &mut Random, file: &[u8]) {
-    let (answer, list) = both.read_rules(file, file.len() + 3);
-    if answer.refusal != 0 {
-        both.read_rules(file, 0);
+    let read = both.call(READ_RULES, &rule_file(file), file.len() + 3);
+    if read.answer.refusal != 0 {
+        both.call(READ_RULES, &rule_file(file), 0);
         return;
     }
-    let length = answer.value[2] as usize;
+    let length = read.answer.value[2] as usize;
     for room in rooms(random, length) {
-        both.read_rules(file, room);
+        both.call(READ_RULES, &rule_file(file), room);
     }
-    let list = &list[..length];
-    let (written, text) = both.write_rules(answer.value[0], list, 5 * length + 15);
-    let text = &text[..written.value[0] as usize];
+    let list = &read.numbers[..length];
+    let book = ruled(read.answer.value[0], list);
+    let written = both.call(WRITE_RULES, &book, 5 * length + 15);
+    let text = &written.bytes[..written.answer.value[0] as usize];
     for room in rooms(random, text.len()) {
-        both.write_rules(answer.value[0], list, room);
+        both.call(WRITE_RULES, &book, room);
     }
-    let (again, back) = both.read_rules(text, length);
-    let same = again == answer && back[..length] == *list;
+    let again = both.call(READ_RULES, &rule_file(text), length);
+    let same = again.answer == read.answer && again.numbers[..length] == *list;
     both.hold(same, || "a written list does not come back".to_string());
 }
 
@@ -132,21 +135,21 @@ fn comments(both: &mut Both, random: &mut Random) {
     let rules = random.below(5);
     let book = random.book(n, rules, 0, 4.min(n));
     let file = random.rule_file(n, &book);
-    let (plain, list) = both.read_rules(&file, file.len());
+    let plain = both.call(READ_RULES, &rule_file(&file), file.len());
     for at in 0..=file.len() {
         let (before, after) = file.split_at(at);
         let comment = random.comment();
         let whole = [before, &comment, after].concat();
-        let (answer, read) = both.read_rules(&whole, file.len());
+        let read = both.call(READ_RULES, &rule_file(&whole), file.len());
         if at == 0 || before.ends_with(b"\n") {
-            both.hold(answer == plain && read == list, || format!("{comment:?} at {at} alters what is read"));
+            both.hold(read == plain, || format!("{comment:?} at {at} alters what is read"));
         }
-        both.read_rules(&[before, &comment[..comment.len() - 1], after].concat(), file.len());
+        both.call(READ_RULES, &rule_file(&[before, &comment[..comment.len() - 1], after].concat()), file.len());
     }
     if file.ends_with(b"\n") {
         let open = [&file[..], b"c the end"].concat();
-        let (answer, read) = both.read_rules(&open, file.len());
-        both.hold(answer == plain && read == list, || "an open comment at the end alters what is read".to_string());
+        let read = both.call(READ_RULES, &rule_file(&open), file.len());
+        both.hold(read == plain, || "an open comment at the end alters what is read".to_string());
     }
 }
 
@@ -158,13 +161,13 @@ fn long_comments(both: &mut Both, random: &mut Random) {
     for gap in [&long, &many] {
         for rest in ["-1 0\n", "-1 0", "-1 x 0", "-1 2", ""] {
             let file = [b"p cnf 2 2\n", &gap[..], b"1\n", gap, b"2 0\n", gap, rest.as_bytes()].concat();
-            both.read_rules(&file, 5);
-            both.read_rules(&file, 4);
+            both.call(READ_RULES, &rule_file(&file), 5);
+            both.call(READ_RULES, &rule_file(&file), 4);
         }
     }
-    both.read_rules(&[b"p cnf 2 0\n", &long[..long.len() - 1]].concat(), 0);
+    both.call(READ_RULES, &rule_file(&[b"p cnf 2 0\n", &long[..long.len() - 1]].concat()), 0);
     let at = random.below(many.len());
-    both.read_rules(&[b"p cnf 2 0\n", &many[..at]].concat(), 0);
+    both.call(READ_RULES, &rule_file(&[b"p cnf 2 0\n", &many[..at]].concat()), 0);
 }
 
 /// The book of a file that may have equal and opposite entries in a rule.
@@ -179,9 +182,9 @@ fn repeats(both: &mut Both, random: &mut Random) {
     let (n, list) = loose_book(random);
     let once = without_repeats(&list);
     let (file, twin) = (random.rule_file(n, &list), random.rule_file(n, &once));
-    let read = both.read_rules(&file, once.len());
-    both.hold(read.1 == once, || format!("of {list:?} is read {:?}", read.1));
-    let same = read == both.read_rules(&twin, once.len());
+    let read = both.call(READ_RULES, &rule_file(&file), once.len());
+    both.hold(read.numbers == once, || format!("of {list:?} is read {:?}", read.numbers));
+    let same = read == both.call(READ_RULES, &rule_file(&twin), once.len());
     both.hold(same, || format!("{list:?} and the same without repeats are read otherwise"));
     read_and_write(both, random, &file);
 }
@@ -228,8 +231,8 @@ fn repeats_at_limits(both: &mut Both, random: &mut Random) {
         for tokens in [list, &doubled] {
             let file = text(640, rules, tokens);
             read_and_write(both, random, &file);
-            let read = both.read_rules(&file, list.len());
-            both.hold(read.1 == *list, || "repeats at the limit alter what is read".to_string());
+            let read = both.call(READ_RULES, &rule_file(&file), list.len());
+            both.hold(read.numbers == *list, || "repeats at the limit alter what is read".to_string());
             open_at_limit(both, random, &file, list[list.len() - 2]);
         }
     }
@@ -240,9 +243,9 @@ fn many_repeats(both: &mut Both, _: &mut Random) {
     for (gap, stored) in [("1 ".repeat(2_000_000), 2), ("-2 1 2 -1 ".repeat(400_000), 5)] {
         for rest in ["0\n", "0", "01 0", "3 0", "", "0 1"] {
             let file = format!("p cnf 2 1\n1 {gap}{rest}");
-            let (answer, _) = both.read_rules(file.as_bytes(), stored);
+            let answer = both.call(READ_RULES, &rule_file(file.as_bytes()), stored).answer;
             both.hold((answer.refusal == 0) == ["0\n", "0"].contains(&rest), || format!("{rest:?} behind repeats"));
-            both.read_rules(file.as_bytes(), stored - 1);
+            both.call(READ_RULES, &rule_file(file.as_bytes()), stored - 1);
         }
     }
 }
@@ -294,28 +297,28 @@ fn limits(both: &mut Both, random: &mut Random) {
                 file.extend(random.of(&[&b"x"[..], b"-0", b"1", b"999", b"0"]));
                 read_and_write(both, random, &file);
             }
-            both.write_rules(640, &list, 173_015);
-            both.plain(640, &list, 640);
+            both.call(WRITE_RULES, &ruled(640, &list), 173_015);
+            both.call(PLAIN, &ruled(640, &list), 640);
         }
     }
 }
 
 /// Reads a wish file with a long buffer and others; then writes what was read.
 fn read_and_write_wishes(both: &mut Both, random: &mut Random, file: &[u8]) {
-    let (answer, row) = both.read_wishes(file, 300);
-    if answer.refusal != 0 {
-        both.read_wishes(file, 0);
+    let read = both.call(READ_WISHES, &wish_file(file), 300);
+    if read.answer.refusal != 0 {
+        both.call(READ_WISHES, &wish_file(file), 0);
         return;
     }
-    let [n, _, d] = answer.value;
+    let [n, _, d] = read.answer.value;
     for room in rooms(random, n as usize) {
-        both.read_wishes(file, room);
+        both.call(READ_WISHES, &wish_file(file), room);
     }
-    let row = &row[..n as usize];
+    let wishes = wished(n, &[], &read.bytes[..n as usize], d);
     for room in rooms(random, file.len()) {
-        both.write_wishes(n, row, d, room);
+        both.call(WRITE_WISHES, &wishes, room);
     }
-    let (_, text) = both.write_wishes(n, row, d, file.len());
+    let text = both.call(WRITE_WISHES, &wishes, file.len()).bytes;
     both.hold(text == file, || "a wish file does not come back".to_string());
 }
 

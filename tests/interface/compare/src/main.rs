@@ -5,7 +5,6 @@ mod exports;
 mod files;
 mod page;
 mod random;
-mod safe;
 mod searches;
 mod twins;
 mod values;
@@ -37,30 +36,18 @@ fn main() {
 
 /// The refusals and verdicts that each call can give; one that never came was never compared.
 fn every_answer_was_seen(both: &mut Both) {
-    let expected: [(&str, &[u64], &[u64]); 10] = [
-        ("read_rules", &[1, 2, 3, 4, 6, 7, 15], &[1]),
-        ("write_rules", &[13, 14, 15], &[1]),
-        ("read_wishes", &[8, 9, 10, 15], &[1]),
-        ("write_wishes", &[11, 12, 13, 14, 15], &[1]),
-        ("check", &[11, 12, 13, 14], &[0, 1]),
-        ("search", &[11, 12, 13, 14, 15], &[0, 1]),
-        ("plain", &[13, 14, 15], &[0, 1]),
-        ("nearest", &[11, 12, 13, 14, 15], &[0, 1]),
-        ("rewrite", &[11, 12, 13, 14, 15], &[1]),
-        ("write_opb", &[11, 12, 13, 14, 15, 16], &[1]),
-    ];
+    both.label = "answers seen".to_string();
     println!("\nanswers seen: refusal number or verdict, and how often");
-    for (call, refusals, verdicts) in expected {
-        let answers = refusals.iter().map(|&r| (r, 0)).chain(verdicts.iter().map(|&v| (0, v)));
+    for call in calls::PUBLIC {
+        let refusals = call.refusals.iter().map(|&number| (number, 0, number.to_string()));
+        let verdicts = call.says.verdicts().iter().map(|&(verdict, name)| (0, verdict, name.to_string()));
         let mut line = String::new();
-        for (refusal, verdict) in answers {
-            let times = both.seen.remove(&(call, refusal, verdict)).unwrap_or(0);
-            let name = if refusal > 0 { refusal.to_string() } else { ["no", "yes"][verdict as usize].to_string() };
+        for (refusal, verdict, name) in refusals.chain(verdicts) {
+            let times = both.seen.remove(&(call.name, refusal, verdict)).unwrap_or(0);
             line += &format!("  {name}: {times}");
-            both.label = "answers seen".to_string();
-            both.hold(times > 0, || format!("{call} never gave {name}"));
+            both.hold(times > 0, || format!("{} never gave {name}", call.name));
         }
-        println!("{call:<13}{line}");
+        println!("{:<13}{line}", call.name);
     }
     let others = format!("{:?}", both.seen);
     both.hold(both.seen.is_empty(), || format!("answers that the documents do not have: {others}"));

@@ -13,6 +13,9 @@ const ROOM: usize = 4096 * PAGE; // more than any buffer lent here
 const BEFORE: usize = 64;
 const MARK: u8 = 0xa5;
 
+/// A value that is lent.
+type Value<'a> = calls::Value<&'a [i32], &'a [u8]>;
+
 pub struct Page(*mut u8);
 
 impl Page {
@@ -39,17 +42,29 @@ impl Page {
     }
 
     /// What is there after the call, if the bytes before it are as they were.
-    pub fn after<T: Copy>(&self, length: usize) -> Option<Vec<T>> {
+    pub fn after<T: Copy>(&self, length: usize) -> Option<&[T]> {
         unsafe {
             let start = self.0.add(ROOM - length * std::mem::size_of::<T>());
             let before = std::slice::from_raw_parts(start.sub(BEFORE), BEFORE);
-            let lent = std::slice::from_raw_parts(start as *const T, length);
-            before.iter().all(|&b| b == MARK).then(|| lent.to_vec())
+            before.iter().all(|&b| b == MARK).then(|| std::slice::from_raw_parts(start as *const T, length))
+        }
+    }
+
+    /// A value as it is lent: a number needs no page.
+    pub fn lend_value<'a>(&'a mut self, value: Value<'a>) -> Value<'a> {
+        match value {
+            Value::Number(_) => value,
+            Value::Numbers(numbers) => Value::Numbers(self.lend(numbers)),
+            Value::Bytes(bytes) => Value::Bytes(self.lend(bytes)),
         }
     }
 
     /// Whether that is what was lent.
-    pub fn kept<T: Copy + PartialEq>(&self, lent: &[T]) -> bool {
-        self.after(lent.len()).as_deref() == Some(lent)
+    pub fn kept(&self, value: Value) -> bool {
+        match value {
+            Value::Number(_) => true,
+            Value::Numbers(numbers) => self.after(numbers.len()) == Some(numbers),
+            Value::Bytes(bytes) => self.after(bytes.len()) == Some(bytes),
+        }
     }
 }

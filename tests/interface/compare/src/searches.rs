@@ -3,6 +3,8 @@
 use crate::both::Both;
 use crate::files::rooms;
 use crate::random::{ladder, met_ladder, without_opposites, Random};
+use calls::lent::{chosen, rule_file, ruled, wished};
+use calls::{CHECK, NEAREST, PLAIN, READ_RULES, REWRITE, SEARCH, WRITE_RULES};
 use reference::lent::wish_count;
 use reference::{first, totalizer, walk};
 
@@ -23,34 +25,37 @@ pub const GROUPS: &[crate::Group] = &[
 
 /// Rewriting, the writer, the reader and plain search, each on what the one before it left.
 fn second_route(both: &mut Both, n: u64, rules: &[i32], row: &[u8], d: u64) -> bool {
-    let (made, list) = both.rewrite(n, rules, row, d, rules.len() + 18_434);
-    let length = made.value[1] as usize;
-    let (written, file) = both.write_rules(made.value[0], &list[..length], 15 + 5 * length);
-    let (read, list) = both.read_rules(&file[..written.value[0] as usize], length);
-    let (found, choice) = both.plain(read.value[0], &list[..read.value[2] as usize], read.value[0] as usize);
-    let none_refused = [made, written, read, found].iter().all(|a| a.refusal == 0);
+    let made = both.call(REWRITE, &wished(n, rules, row, d), rules.len() + 18_434);
+    let [settings, length, _] = made.answer.value;
+    let list = &made.numbers[..length as usize];
+    let written = both.call(WRITE_RULES, &ruled(settings, list), 15 + 5 * list.len());
+    let file = &written.bytes[..written.answer.value[0] as usize];
+    let read = both.call(READ_RULES, &rule_file(file), list.len());
+    let [settings, _, length] = read.answer.value;
+    let found = both.call(PLAIN, &ruled(settings, &read.numbers[..length as usize]), settings as usize);
+    let none_refused = [made.answer, written.answer, read.answer, found.answer].iter().all(|a| a.refusal == 0);
     both.hold(none_refused, || "the second route was refused".to_string());
-    if found.verdict == 1 {
-        let checked = both.check(n, rules, row, &choice[..n as usize]);
+    if found.answer.verdict == 1 {
+        let checked = both.call(CHECK, &chosen(n, rules, row, &found.bytes[..n as usize]), 0).answer;
         both.hold(checked.verdict == 1 && checked.value[0] <= d, || {
             "the second route's choice is not permitted".to_string()
         });
     }
-    found.verdict == 1
+    found.answer.verdict == 1
 }
 
 /// Both routes at each d, and nearest.
 fn routes(both: &mut Both, random: &mut Random, n: usize, rules: &[i32], row: &[u8], ds: &[u64]) {
-    let (near, _) = both.nearest(n as u64, rules, row, n + random.below(3));
+    let near = both.call(NEAREST, &wished(n as u64, rules, row, 0), n + random.below(3)).answer;
     for &d in ds {
-        let (first, choice) = both.search(n as u64, rules, row, d, n + random.below(3));
-        if first.verdict == 1 {
-            let checked = both.check(n as u64, rules, row, &choice[..n]);
-            both.hold(checked == first, || "the choice found is not what the search says".to_string());
+        let first = both.call(SEARCH, &wished(n as u64, rules, row, d), n + random.below(3));
+        if first.answer.verdict == 1 {
+            let checked = both.call(CHECK, &chosen(n as u64, rules, row, &first.bytes[..n]), 0);
+            both.hold(checked.answer == first.answer, || "the choice found is not what the search says".to_string());
         }
         let second = second_route(both, n as u64, rules, row, d);
         let within = near.verdict == 1 && near.value[0] <= d;
-        both.hold((first.verdict == 1) == within && second == within, || format!("routes differ at d {d}"));
+        both.hold((first.answer.verdict == 1) == within && second == within, || format!("routes differ at d {d}"));
     }
 }
 
@@ -64,11 +69,11 @@ fn tiny(both: &mut Both, random: &mut Random) {
     let (list, row) = (random.book(n, rules, (rules % 7 != 0) as usize, 3.min(n)), random.row(n, wishes));
     routes(both, random, n, &list, &row, &every_d(&row));
     let choice = random.choice(n);
-    both.check(n as u64, &list, &row, &choice);
+    both.call(CHECK, &chosen(n as u64, &list, &row, &choice), 0);
     for room in rooms(random, n) {
-        both.plain(n as u64, &list, room);
-        both.search(n as u64, &list, &row, 1, room);
-        both.nearest(n as u64, &list, &row, room);
+        both.call(PLAIN, &ruled(n as u64, &list), room);
+        both.call(SEARCH, &wished(n as u64, &list, &row, 1), room);
+        both.call(NEAREST, &wished(n as u64, &list, &row, 0), room);
     }
 }
 
@@ -92,19 +97,21 @@ fn long_rules(both: &mut Both, random: &mut Random) {
     }
     let wishes = random.below(n + 1);
     let row: Vec<u8> = random.row(n, wishes).iter().map(|&w| if random.once_in(4) { w } else { w & 2 }).collect();
-    both.plain(n as u64, &list, n);
-    both.nearest(n as u64, &list, &row, n);
+    both.call(PLAIN, &ruled(n as u64, &list), n);
+    both.call(NEAREST, &wished(n as u64, &list, &row, 0), n);
     for d in 0..4 {
-        both.search(n as u64, &list, &row, d, n);
+        both.call(SEARCH, &wished(n as u64, &list, &row, d), n);
     }
 }
 
 /// "Opposite entries are both stored, and such a rule is always met": without such rules a book has the same answers.
 fn same_without_opposites(both: &mut Both, n: usize, list: &[i32], row: &[u8]) {
     let fewer = without_opposites(list);
-    let near = both.nearest(n as u64, list, row, n) == both.nearest(n as u64, &fewer, row, n);
-    let plain = both.plain(n as u64, list, n).0 == both.plain(n as u64, &fewer, n).0;
-    both.hold(near && plain, || format!("rules of both senses count in {list:?} with {row:?}"));
+    let near = [list, &fewer].map(|list| both.call(NEAREST, &wished(n as u64, list, row, 0), n));
+    let plain = [list, &fewer].map(|list| both.call(PLAIN, &ruled(n as u64, list), n).answer);
+    both.hold(near[0] == near[1] && plain[0] == plain[1], || {
+        format!("rules of both senses count in {list:?} with {row:?}")
+    });
 }
 
 fn opposites(both: &mut Both, random: &mut Random) {
@@ -132,17 +139,17 @@ fn long_opposites(both: &mut Both, random: &mut Random) {
     let (rules, wishes) = (2 + random.below(2 * n), random.below(n + 1));
     let list = [random.book(n, rules, 7, 10), random.book(n, 2 * n, 2, 3)].concat();
     let (list, row) = (random.oppose(&list), random.row(n, wishes));
-    both.plain(n as u64, &list, n);
-    both.nearest(n as u64, &list, &row, n);
+    both.call(PLAIN, &ruled(n as u64, &list), n);
+    both.call(NEAREST, &wished(n as u64, &list, &row, 0), n);
     for d in 0..4 {
-        both.search(n as u64, &list, &row, d, n);
+        both.call(SEARCH, &wished(n as u64, &list, &row, d), n);
     }
 }
 
 /// Every setting wished, and rules enough to break many wishes.
 fn many_forks(both: &mut Both, random: &mut Random) {
     let (list, row) = (random.book(64, 180, 3, 3), random.row(64, 64));
-    both.nearest(64, &list, &row, 64);
+    both.call(NEAREST, &wished(64, &list, &row, 0), 64);
 }
 
 /// A book and a row on which the reference's nearest, which climbs the limits by the walk, makes few enough forks for a
@@ -163,10 +170,10 @@ pub fn within_reach(
 fn many_wishes(both: &mut Both, random: &mut Random) {
     let n = random.of(&[64, 70, 100]);
     let (list, row) = within_reach(random, 3_000, |r| (r.book(n, 2 * n, 3, 4), r.row(n, 64)));
-    both.nearest(n as u64, &list, &row, n);
+    both.call(NEAREST, &wished(n as u64, &list, &row, 0), n);
     for d in 0..=65 {
-        both.search(n as u64, &list, &row, d, n);
-        both.rewrite(n as u64, &list, &row, d, 38_914);
+        both.call(SEARCH, &wished(n as u64, &list, &row, d), n);
+        both.call(REWRITE, &wished(n as u64, &list, &row, d), 38_914);
     }
     // plain search may take very long with the counters, so only where it does not
     let quick = |&d: &u64| {
@@ -184,31 +191,31 @@ fn plain_large(both: &mut Both, random: &mut Random) {
     while list.len() - rules > 31_000 {
         list = random.book(n, rules, 2, longest - 1);
     }
-    both.plain(n as u64, &list, n);
+    both.call(PLAIN, &ruled(n as u64, &list), n);
 }
 
 fn wished_large(both: &mut Both, random: &mut Random) {
     let n = 256;
     let rules = random.of(&[200, 250, 300, 350]);
     let (list, row) = within_reach(random, 5_000, |r| (r.book(n, rules, 3, 5), r.row(n, 64)));
-    let (near, _) = both.nearest(n as u64, &list, &row, n);
+    let near = both.call(NEAREST, &wished(n as u64, &list, &row, 0), n).answer;
     for d in near.value[0].saturating_sub(2)..near.value[0] + 2 {
-        both.search(n as u64, &list, &row, d, n);
+        both.call(SEARCH, &wished(n as u64, &list, &row, d), n);
     }
     let dense = random.book(n, 4_096, 3, 5);
     for d in 0..2 {
-        both.search(n as u64, &dense, &row, d, n);
+        both.call(SEARCH, &wished(n as u64, &dense, &row, d), n);
     }
     let choice = random.choice(n);
-    both.check(n as u64, &dense, &row, &choice);
-    both.check(n as u64, &list, &row, &choice);
+    both.call(CHECK, &chosen(n as u64, &dense, &row, &choice), 0);
+    both.call(CHECK, &chosen(n as u64, &list, &row, &choice), 0);
 }
 
 fn deepest(both: &mut Both, _: &mut Random) {
     let list = ladder(640);
     let made = walk::search(&list, &[2; 640], 0);
     both.hold(made.deepest == 639, || format!("{} forks on a path, not 639", made.deepest));
-    both.plain(640, &list, 640);
+    both.call(PLAIN, &ruled(640, &list), 640);
     // with a row: 64 wishes that the path breaks, and that it keeps
     let list = ladder(256);
     for (wish, d) in [(0, 64), (1, 0), (2, 0)] {
@@ -216,9 +223,9 @@ fn deepest(both: &mut Both, _: &mut Random) {
         row[..64].fill(wish);
         let made = walk::search(&list, &row, d);
         both.hold(made.deepest == 255, || format!("{} forks on a path, not 255", made.deepest));
-        both.search(256, &list, &row, d, 256);
+        both.call(SEARCH, &wished(256, &list, &row, d), 256);
         if d == 0 {
-            both.nearest(256, &list, &row, 256);
+            both.call(NEAREST, &wished(256, &list, &row, 0), 256);
         }
     }
     // a path that nearest comes to for the first choice alone; where nothing is wished there are no cores, and the
@@ -229,7 +236,7 @@ fn deepest(both: &mut Both, _: &mut Random) {
         let searches = [walk::least_within, first::by_searches];
         let [counted, made] = searches.map(|search| search(&list, &row, u64::MAX).unwrap().deepest);
         both.hold((counted, made) == (1, 254), || format!("{counted} and then {made} forks on a path"));
-        both.nearest(256, &list, &row, 256);
+        both.call(NEAREST, &wished(256, &list, &row, 0), 256);
     }
 }
 
@@ -237,7 +244,7 @@ fn every_count(both: &mut Both, random: &mut Random) {
     for wishes in 0..=64 {
         let row = random.row(64 + wishes, wishes);
         for d in [0, 1, wishes.saturating_sub(1), wishes, 64] {
-            both.rewrite(row.len() as u64, &[1, -2, 0, 0], &row, d as u64, 18_434 + 4);
+            both.call(REWRITE, &wished(row.len() as u64, &[1, -2, 0, 0], &row, d as u64), 18_434 + 4);
         }
     }
 }

@@ -4,6 +4,8 @@
 use crate::both::Both;
 use crate::random::Random;
 use crate::searches::within_reach;
+use calls::lent::wished;
+use calls::NEAREST;
 use reference::walk;
 
 pub const GROUPS: &[crate::Group] = &[
@@ -26,10 +28,10 @@ fn twins(both: &mut Both, random: &mut Random, books: usize, mut book: impl FnMu
     for _ in 0..books {
         let (list, row) = within_reach(random, MOST, &mut book);
         let n = row.len();
-        let answer = both.nearest(n as u64, &list, &row, n + 2);
+        let answer = both.call(NEAREST, &wished(n as u64, &list, &row, 0), n + 2);
         for more in [false, true] {
             let (twin, _) = within_reach(random, MOST, |r| (r.twin(n, &list, more), row.clone()));
-            let same = both.nearest(n as u64, &twin, &row, n + 2) == answer;
+            let same = both.call(NEAREST, &wished(n as u64, &twin, &row, 0), n + 2) == answer;
             both.hold(same, || format!("twins differ: {list:?} and {twin:?} with {row:?}"));
             others += (walked(&list, &row) != walked(&twin, &row)) as usize;
         }

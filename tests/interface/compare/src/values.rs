@@ -3,6 +3,8 @@
 use crate::both::Both;
 use crate::files::a_room;
 use crate::random::{without_repeats, Random};
+use calls::lent::{chosen, rule_file, ruled, wish_file, wished};
+use calls::{Call, Values, Writes, CHECK, PLAIN, PUBLIC, READ_RULES, READ_WISHES, SEARCH};
 
 pub const GROUPS: &[crate::Group] = &[
     ("values: all lists to length 5", 1, all_lists),
@@ -15,28 +17,40 @@ pub const GROUPS: &[crate::Group] = &[
     ("values: empty buffers", 1, empty),
 ];
 
-/// Every call that takes rules, with rooms that suffice and do not.
-fn every_call(both: &mut Both, random: &mut Random, n: u64, rules: &[i32], row: &[u8], d: u64, choice: &[u8]) {
-    let enough = n.min(700) as usize;
-    let room = a_room(random, enough);
-    both.write_wishes(n, row, d, 1_000);
-    both.check(n, rules, row, choice);
-    both.search(n, rules, row, d, room);
-    both.plain(n, rules, room);
-    both.nearest(n, rules, row, room);
-    let (written, _) = both.write_rules(n, rules, rules.len() * 5 + 30);
-    let (made, _) = both.rewrite(n, rules, row, d, rules.len() + 20_000);
-    let (wished, _) = both.write_wishes(n, row, d, 1_000);
-    let (exported, _) = both.write_opb(n, rules, row, d, rules.len() * 10 + 556);
+/// A value of each kind but the files.
+fn values(n: u64, rules: &[i32], row: &[u8], d: u64, choice: &[u8]) -> Values {
+    Values { d, ..chosen(n, rules, row, choice) }
+}
+
+/// The calls that read no file.
+fn calls_on_values() -> impl Iterator<Item = &'static Call> {
+    PUBLIC.iter().copied().filter(|call| !call.lent.iter().any(|kind| kind.is_file()))
+}
+
+/// Every call on the same values, with rooms that suffice and do not. The rooms are drawn apart, so that one call more
+/// alters no other draw.
+fn every_call(both: &mut Both, random: &mut Random, values: &Values) {
+    let mut drawn = Random(random.next());
+    for call in calls_on_values() {
+        match call.writes {
+            None => drop(both.call(call, values, 0)),
+            Some(Writes::Choice | Writes::Row) => {
+                let room = a_room(&mut drawn, values.n.min(700) as usize);
+                both.call(call, values, room);
+            }
+            Some(Writes::File | Writes::List) => every_room(both, &mut drawn, call, values),
+        }
+    }
+}
+
+/// None, more than enough, and around the length needed, which a refusal for the room has as its place.
+fn every_room(both: &mut Both, random: &mut Random, call: &'static Call, values: &Values) {
+    let none = both.call(call, values, 0).answer;
+    let needed = if none.refusal == 15 { none.place as usize } else { 0 };
+    both.call(call, values, needed + 1_000);
     for _ in 0..2 {
-        let room = a_room(random, written.value[0] as usize);
-        both.write_rules(n, rules, room);
-        let room = a_room(random, made.value[1] as usize);
-        both.rewrite(n, rules, row, d, room);
-        let room = a_room(random, wished.value[0] as usize);
-        both.write_wishes(n, row, d, room);
-        let room = a_room(random, exported.value[0] as usize);
-        both.write_opb(n, rules, row, d, room);
+        let room = a_room(random, needed);
+        both.call(call, values, room);
     }
 }
 
@@ -52,7 +66,7 @@ fn all_lists(both: &mut Both, random: &mut Random) {
     for length in 0..=5 {
         for list in lists(length, &[0, 1, -1, 2, -2, 3]) {
             let row = random.of(&[[0, 0], [0, 1], [1, 2], [2, 2]]);
-            every_call(both, random, 2, &list, &row, (length % 3) as u64, &[0, 1]);
+            every_call(both, random, &values(2, &list, &row, (length % 3) as u64, &[0, 1]));
         }
     }
 }
@@ -62,8 +76,8 @@ fn all_rows(both: &mut Both, random: &mut Random) {
         for row in lists(length, &[0, 1, 2, 3, 255]) {
             let row: Vec<u8> = row.iter().map(|&w| w as u8).collect();
             for n in [2, 3] {
-                every_call(both, random, n, &[1, 2, 0, -1, -2, 0], &row, 1, &[1, 0, 0][..n as usize]);
-                every_call(both, random, n, &[1, 2, 0], &[0, 1, 2][..n as usize], 1, &row);
+                every_call(both, random, &values(n, &[1, 2, 0, -1, -2, 0], &row, 1, &[1, 0, 0][..n as usize]));
+                every_call(both, random, &values(n, &[1, 2, 0], &[0, 1, 2][..n as usize], 1, &row));
             }
         }
     }
@@ -93,7 +107,7 @@ fn faults(both: &mut Both, random: &mut Random) {
     if random.once_in(6) {
         n = random.of(&[0, 1, n + 1, 641, 1_000, 1 << 32]);
     }
-    every_call(both, random, n as u64, &list, &row, d, &choice);
+    every_call(both, random, &values(n as u64, &list, &row, d, &choice));
 }
 
 /// Lists of opposite entries, which every call takes, and the same with an entry once more in its rule, which none
@@ -104,17 +118,17 @@ fn opposites_and_equals(both: &mut Both, random: &mut Random) {
     let mut list = without_repeats(&random.loose_book(n, rules, longest));
     let (wishes, d, choice) = (random.below(6), random.below(6) as u64, random.choice(n));
     let row = random.row(n, wishes);
-    let checked = both.check(n as u64, &list, &row, &choice);
+    let checked = both.call(CHECK, &chosen(n as u64, &list, &row, &choice), 0).answer;
     both.hold(checked.refusal == 0, || format!("refused with opposite entries: {list:?}"));
-    every_call(both, random, n as u64, &list, &row, d, &choice);
+    every_call(both, random, &values(n as u64, &list, &row, d, &choice));
     let at = random.below(list.len());
     if list[at] != 0 {
         let rest = list[at..].iter().position(|&e| e == 0).unwrap();
         let second = at + 1 + random.below(rest);
         list.insert(second, list[at]);
-        let checked = both.check(n as u64, &list, &row, &choice);
+        let checked = both.call(CHECK, &chosen(n as u64, &list, &row, &choice), 0).answer;
         both.hold((checked.refusal, checked.place) == (13, second as u64), || format!("equal entries: {list:?}"));
-        every_call(both, random, n as u64, &list, &row, d, &choice);
+        every_call(both, random, &values(n as u64, &list, &row, d, &choice));
     }
 }
 
@@ -125,7 +139,7 @@ fn huge(both: &mut Both, random: &mut Random) {
         for d in ds {
             for list in [&[][..], &[1, 2, 0], &[1, 2], &[i32::MIN, 0], &[i32::MAX, 0]] {
                 for row in [&[0, 1][..], &[0], &[3, 0], &[]] {
-                    every_call(both, random, n, list, row, d, &[0, 1]);
+                    every_call(both, random, &values(n, list, row, d, &[0, 1]));
                 }
             }
         }
@@ -152,12 +166,12 @@ fn limits(both: &mut Both, random: &mut Random) {
             for wishes in [0, 1, 64] {
                 for d in [0, 63, 64] {
                     let (row, choice) = (random.row(n, wishes), random.choice(n));
-                    every_call(both, random, n as u64, &list, &row, d, &choice);
+                    every_call(both, random, &values(n as u64, &list, &row, d, &choice));
                 }
             }
         }
         for n in [1, 3, 4] {
-            every_call(both, random, n, &list, &vec![2; n as usize], 0, &vec![1; n as usize]);
+            every_call(both, random, &values(n, &list, &vec![2; n as usize], 0, &vec![1; n as usize]));
         }
     }
     // the same limits with opposite entries, and equal ones around entry 31,000
@@ -174,26 +188,26 @@ fn limits(both: &mut Both, random: &mut Random) {
     ] {
         let list = [&senses.repeat(rules)[..], last].concat();
         for row in [[2, 2, 2], [0, 1, 2]] {
-            every_call(both, random, 3, &list, &row, 1, &[0, 0, 1]);
+            every_call(both, random, &values(3, &list, &row, 1, &[0, 0, 1]));
         }
     }
     // empty rules, closed up to the limit and past it, with and without the last zero
     for closed in [4_095, 4_096, 4_097, 8_999, 9_000, 9_001] {
         let mut list = vec![0; closed];
-        every_call(both, random, 3, &list, &[0, 2, 1], 1, &[1, 1, 1]);
+        every_call(both, random, &values(3, &list, &[0, 2, 1], 1, &[1, 1, 1]));
         list.push(2);
-        every_call(both, random, 3, &list, &[0, 2, 1], 1, &[1, 1, 1]);
+        every_call(both, random, &values(3, &list, &[0, 2, 1], 1, &[1, 1, 1]));
         list.push(-2);
-        every_call(both, random, 3, &list, &[0, 2, 1], 1, &[1, 1, 1]);
+        every_call(both, random, &values(3, &list, &[0, 2, 1], 1, &[1, 1, 1]));
     }
     // the wishes: 63 to 66, at both ends of the row, and rows longer than any n
     for n in [64, 65, 66, 256, 257, 640, 1_000] {
         for wishes in [63, 64, 65, 66] {
             let mut row = vec![2; n];
             row[..wishes.min(n)].fill(0);
-            every_call(both, random, n.min(640) as u64, &[1, 0], &row, 64, &vec![0; n.min(640)]);
+            every_call(both, random, &values(n.min(640) as u64, &[1, 0], &row, 64, &vec![0; n.min(640)]));
             row.reverse();
-            every_call(both, random, n.min(640) as u64, &[1, 0], &row, 64, &vec![0; n.min(640)]);
+            every_call(both, random, &values(n.min(640) as u64, &[1, 0], &row, 64, &vec![0; n.min(640)]));
         }
     }
 }
@@ -205,43 +219,39 @@ fn very_long(both: &mut Both, random: &mut Random) {
     for n in [1, 256, 640] {
         let few = vec![2; n as usize];
         for list in [&zeros, &ones] {
-            every_call(both, random, n, list, &few, 0, &few);
+            every_call(both, random, &values(n, list, &few, 0, &few));
         }
-        every_call(both, random, n, &[1, 0], &bytes, 0, &few);
-        every_call(both, random, n, &[1, 0], &few, 0, &vec![1; 200_000]);
-        both.plain(n, &[1, 0], 200_000);
-        both.search(n, &[1, 0], &few, 0, 200_000);
+        every_call(both, random, &values(n, &[1, 0], &bytes, 0, &few));
+        every_call(both, random, &values(n, &[1, 0], &few, 0, &vec![1; 200_000]));
+        both.call(PLAIN, &ruled(n, &[1, 0]), 200_000);
+        both.call(SEARCH, &wished(n, &[1, 0], &few, 0), 200_000);
     }
     for byte in *b" \nc0" {
         let body = vec![byte; 500_000];
-        both.read_rules(&body, 10);
-        both.read_rules(&[b"p cnf 1 1\n1 0", &body[..]].concat(), 10);
-        both.read_rules(&[b"c", &body[..], b"\np cnf 1 1\n1 0"].concat(), 10);
-        both.read_wishes(&body, 10);
-        both.read_wishes(&[b"    1    0    0\n", &body[..]].concat(), 10);
+        both.call(READ_RULES, &rule_file(&body), 10);
+        both.call(READ_RULES, &rule_file(&[b"p cnf 1 1\n1 0", &body[..]].concat()), 10);
+        both.call(READ_RULES, &rule_file(&[b"c", &body[..], b"\np cnf 1 1\n1 0"].concat()), 10);
+        both.call(READ_WISHES, &wish_file(&body), 10);
+        both.call(READ_WISHES, &wish_file(&[b"    1    0    0\n", &body[..]].concat()), 10);
     }
 }
 
 /// A buffer of length 0 stands at a page that may not be touched.
 fn empty(both: &mut Both, random: &mut Random) {
-    both.read_rules(&[], 0);
-    both.read_rules(b"p cnf 1 0\n", 0);
-    both.read_wishes(&[], 0);
-    both.read_wishes(b"    1    0    0\n", 0);
+    both.call(READ_RULES, &rule_file(&[]), 0);
+    both.call(READ_RULES, &rule_file(b"p cnf 1 0\n"), 0);
+    both.call(READ_WISHES, &wish_file(&[]), 0);
+    both.call(READ_WISHES, &wish_file(b"    1    0    0\n"), 0);
     for n in [0, 1, 2, 640, 641] {
         for list in [&[][..], &[0], &[1, 0]] {
             for row in [&[][..], &[2], &[1]] {
                 for choice in [&[][..], &[0], &[2]] {
-                    every_call(both, random, n, list, row, 0, choice);
+                    every_call(both, random, &values(n, list, row, 0, choice));
                 }
             }
-            both.write_rules(n, list, 0);
-            both.plain(n, list, 0);
-            both.search(n, list, &[1], 0, 0);
-            both.nearest(n, list, &[1], 0);
-            both.rewrite(n, list, &[1], 0, 0);
-            both.write_opb(n, list, &[1], 0, 0);
-            both.write_wishes(n, &[1], 0, 0);
+            for call in calls_on_values() {
+                both.call(call, &values(n, list, &[1], 0, &[]), 0);
+            }
         }
     }
 }
