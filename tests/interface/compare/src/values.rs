@@ -4,7 +4,7 @@ use crate::both::Both;
 use crate::files::a_room;
 use crate::random::{without_repeats, Random};
 use calls::lent::{chosen, rule_file, ruled, wish_file, wished};
-use calls::{Call, Values, Writes, CHECK, PLAIN, PUBLIC, READ_RULES, READ_WISHES, SEARCH};
+use calls::{Call, Kind, Value, Values, Writes, CHECK, PLAIN, PUBLIC, READ_RULES, READ_WISHES, SEARCH};
 
 pub const GROUPS: &[crate::Group] = &[
     ("values: all lists to length 5", 1, all_lists),
@@ -83,31 +83,34 @@ fn all_rows(both: &mut Both, random: &mut Random) {
     }
 }
 
-/// Sound values, of which each may then be made unsound.
+/// Sound values, of which each may then be made unsound; n last, so that a list's faults are around the n that it was
+/// made for.
 fn faults(both: &mut Both, random: &mut Random) {
-    let mut n = random.of(&[1, 2, 3, 5, 8, 20, 64, 65, 255, 256, 257, 640]);
-    let rules = random.below(8);
-    let mut list = random.book(n, rules, 0, 4.min(n));
-    let wishes = random.of(&[0, 1, 3, 8, 63, 64, 65]);
-    let mut row = random.row(n, wishes);
-    let mut choice = random.choice(n);
-    let mut d = random.of(&[0, 1, 2, 63, 64]);
-    if random.once_in(3) {
-        random.damage_list(n, &mut list);
+    let n = random.of(&[1, 2, 3, 5, 8, 20, 64, 65, 255, 256, 257, 640]);
+    let (rules, wishes) = (random.below(8), random.of(&[0, 1, 3, 8, 63, 64, 65]));
+    let list = random.book(n, rules, 0, 4.min(n));
+    let (row, choice, d) = (random.row(n, wishes), random.choice(n), random.of(&[0, 1, 2, 63, 64]));
+    let mut values = values(n as u64, &list, &row, d, &choice);
+    for &kind in Kind::ALL.iter().rev() {
+        let seldom = if matches!(values.value(kind), Value::Number(_)) { 6 } else { 3 };
+        if random.once_in(seldom) {
+            damage(random, kind, &mut values);
+        }
     }
-    if random.once_in(3) {
-        random.damage_row(&mut row);
+    every_call(both, random, &values);
+}
+
+/// A fault in the value of a kind. The files have groups of their own.
+fn damage(random: &mut Random, kind: Kind, values: &mut Values) {
+    let n = values.n;
+    match kind {
+        Kind::n => values.n = random.of(&[0, 1, n + 1, 641, 1_000, 1 << 32]),
+        Kind::rules => random.damage_list(n as usize, &mut values.rules),
+        Kind::row => random.damage_row(&mut values.row),
+        Kind::d => values.d = random.of(&[65, 66, 256, 1 << 32, 1 << 63, u64::MAX]),
+        Kind::choice => random.damage_row(&mut values.choice),
+        Kind::rule_file | Kind::wish_file => {}
     }
-    if random.once_in(3) {
-        random.damage_row(&mut choice);
-    }
-    if random.once_in(6) {
-        d = random.of(&[65, 66, 256, 1 << 32, 1 << 63, u64::MAX]);
-    }
-    if random.once_in(6) {
-        n = random.of(&[0, 1, n + 1, 641, 1_000, 1 << 32]);
-    }
-    every_call(both, random, &values(n as u64, &list, &row, d, &choice));
 }
 
 /// Lists of opposite entries, which every call takes, and the same with an entry once more in its rule, which none
