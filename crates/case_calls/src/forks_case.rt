@@ -3,7 +3,7 @@
 use admission_steps::Admission;
 use case_text::report;
 use case_text::words;
-use walk_result::Tried;
+use search_state::Tried;
 
 pub fn answer(n: usize, rules: &[i32], row: &[u8], d: usize) {
     let mut choice = case_text::bytes();

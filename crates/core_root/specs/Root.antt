@@ -12,8 +12,8 @@ use Rattle.distance.specs.Distance.{disagreement}
 use Rattle.choices.specs.Choices.{Model}
 use Rattle.walk.specs.Promises.{ModelWithin}
 use Rattle.walk.specs.Correctness.{Right, start-extends}
-use Rattle.walk_result.specs.declared.Tried.{Tried}
-use Rattle.walk_result.specs.declared.Tried.the-variants.{Found, Nothing}
+use Rattle.search_state.specs.declared.result.Tried.{Tried}
+use Rattle.search_state.specs.declared.result.Tried.the-variants.{Found, Nothing}
 
 -- a model within d in the lent assignment, or none exists
 abbrev pub RootRight : ℕ → List (List ℤ) → List ℕ → ℕ → List ℕ → Tried → Type 0

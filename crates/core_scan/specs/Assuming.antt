@@ -53,7 +53,7 @@ dead-falsified f row a few =
     ap (λ (t : Bool). any (isFalsified a) f || t) (le-ltb noLimit (disagreement row a) (omega (arith, disagreement-length row a))) ∙ or-false (any (isFalsified a) f)
 
 -- the variable v is unassigned in a state to which unit propagation adds nothing
-module _ {list : List ℤ} {ends numbers begins row : List ℕ} {t : Tally} {a trail : List ℕ} (h : Following list ends numbers begins row t a trail) (quiet : NoneDue (clauses list) a)
+module _ {list : List ℤ} {arrangement row : List ℕ} {t : Tally} {a trail : List ℕ} (h : Following list arrangement row t a trail) (quiet : NoneDue (clauses list) a)
     (v : ℕ) (low : 0 < v) (high : v ≤ length a) (free : value a v ≡ 2) where
   searching : Searching (length a) row a trail (t .settled) (t .broken)
   searching = h .looking .searching

@@ -11,11 +11,14 @@ use lib.Dec.{ltb}
 use lib.ListN.{length, getD, List·getD-eq-default}
 use borrow.Author.Tests.{ltb-true, ltb-false, le-ltb}
 use Rattle.literal.specs.Literal.{value}
+use Rattle.literal.specs.declared.Variable.{Variable}
 use Rattle.wish.specs.Wish.{cost, breaks}
 use Rattle.wish.specs.Laws.{cost-unassigned, free-cost}
 use Rattle.distance.specs.Distance.{disagreement}
 use Rattle.walk.specs.Extension.{Extends, disagreement-grows}
 use Rattle.cores.specs.Cores.{isLeft, isBroken, brokenFrom, firstBroken}
+use Rattle.core_scan.specs.Lowest.{lowestOf}
+use Rattle.core_scan.specs.declared.broken.Lowest.the-variants.{Nothing, Wish}
 
 -- of what is not taken nothing is broken
 abbrev pub Unbroken : List ℕ → List ℕ → List ℕ → Type 0
@@ -112,3 +115,15 @@ cost-alike (w ∷ row) (y ∷ b) (x ∷ a) l h e (suc i) =
 pub unbroken-still : (row taken b a : List ℕ) → length b ≡ length a → Extends b a → disagreement row a ≡ disagreement row b → Unbroken row taken a → Unbroken row taken b
 unbroken-still row taken b a l h e u zero = refl
 unbroken-still row taken b a l h e u (suc i) = ap (λ (k : ℕ). isLeft taken (suc i) && ltb 0 k) (cost-alike row b a l h e i) ∙ u (suc i)
+
+-- the number by the variant, and the variant by the number
+pub lowest-none : (w : ℕ) → lowestOf w ≡ Nothing → w ≡ 0
+lowest-none zero e = refl
+lowest-none (suc w) e = absurd (let z : _≡_ {A = ℕ} 0 1 = cc in omega arith)
+
+pub lowest-some : (w : ℕ) (v : Variable) → lowestOf w ≡ Wish v → (0 < v .0) × (v .0 ≡ w)
+lowest-some zero v e = absurd (let z : _≡_ {A = ℕ} 0 1 = cc in omega arith)
+lowest-some (suc w) v e = let same : suc w ≡ v .0 = cc in (omega arith, sym same)
+
+pub lowest-at : (i w : ℕ) → w ≡ i + 1 → Wish (record { 0 = i + 1 }) ≡ lowestOf w
+lowest-at i w e = ap (λ (k : ℕ). Wish (record { 0 = k })) (add-one i) ∙ ap lowestOf (sym (e ∙ add-one i))

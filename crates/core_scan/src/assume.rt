@@ -17,16 +17,14 @@ pub const NO_LIMIT: usize = 18446744073709551615;
 // Assigns a variable as it is wished, and propagates that.
 pub fn assume(
     list: &[i32],
-    ends: &[u16],
-    numbers: &[u16],
-    begins: &[u16],
+    arrangement: &[u16],
     row: &[u8],
     tally: Tally,
     v: Variable,
     a: &mut [u8],
     trail: &mut [u16],
 ) -> Propagated
-    requires { ⌜ Following (now list) (now ends) (now numbers) (now begins) (now row) tally (now a) (now trail) × NoneDue (clauses (now list)) (now a) ⌝ }
+    requires { ⌜ Following (now list) (now arrangement) (now row) tally (now a) (now trail) × NoneDue (clauses (now list)) (now a) ⌝ }
     requires { ⌜ (0 < v .0) × (v .0 ≤ length (now a)) × (value (now a) (v .0) ≡ 2) ⌝ }
     ensures { λ r. ⌜ AssumedBy (length (now (a .entry))) (clauses (now (list .entry))) (now (row .entry)) (v .0) tally (now (a .entry)) (now (trail .entry)) (now (a .exit)) (now (trail .exit)) r ⌝ }
 {
@@ -34,9 +32,7 @@ pub fn assume(
     let with = propagation::assign_to(tally, row, v, wished, a, trail);
     propagation::propagate_units(
         list,
-        ends,
-        numbers,
-        begins,
+        arrangement,
         row,
         NO_LIMIT,
         tally.settled,

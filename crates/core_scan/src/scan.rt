@@ -2,6 +2,7 @@
 use crate::assumable::is_assumable;
 use crate::assumable::take_assigned;
 use crate::assume::assume;
+use crate::broken::Lowest;
 use crate::broken::newly_broken;
 use crate::close::close_at;
 use crate::progress::Progress;
@@ -24,9 +25,7 @@ ghost use Rattle.core_scan.specs.Scanning.{present, setBack, Scanning, S
 // the trail.
 pub fn find_cores(
     list: &[i32],
-    ends: &[u16],
-    numbers: &[u16],
-    begins: &[u16],
+    arrangement: &[u16],
     row: &[u8],
     tally: Tally,
     a: &mut [u8],
@@ -34,7 +33,7 @@ pub fn find_cores(
     taken: &mut [u8],
     assumed: &mut [u16],
 ) -> usize
-    requires { ⌜ Following (now list) (now ends) (now numbers) (now begins) (now row) tally (now a) (now trail) × NoneDue (clauses (now list)) (now a) ⌝ }
+    requires { ⌜ Following (now list) (now arrangement) (now row) tally (now a) (now trail) × NoneDue (clauses (now list)) (now a) ⌝ }
     requires { ⌜ (length (now taken) ≡ length (now a)) × (length (now a) < length (now assumed)) ⌝ }
     ensures bound { λ r. ⌜ r ≡ scanOf (clauses (now (list .entry))) (now (row .entry)) (now (a .entry)) .bound ⌝ }
     ensures taken { λ r. ⌜ now (taken .exit) ≡ scanOf (clauses (now (list .entry))) (now (row .entry)) (now (a .entry)) .taken ⌝ }
@@ -52,9 +51,7 @@ pub fn find_cores(
         let next = i + 1;
         progress = scan_wish(
             list,
-            ends,
-            numbers,
-            begins,
+            arrangement,
             row,
             tally,
             Variable(next),
@@ -74,9 +71,7 @@ pub fn find_cores(
 // back where that gives a core.
 fn scan_wish(
     list: &[i32],
-    ends: &[u16],
-    numbers: &[u16],
-    begins: &[u16],
+    arrangement: &[u16],
     row: &[u8],
     base: Tally,
     v: Variable,
@@ -86,8 +81,8 @@ fn scan_wish(
     taken: &mut [u8],
     assumed: &mut [u16],
 ) -> Progress
-    requires { ⌜ Scanning (now list) (now ends) (now numbers) (now begins) (now row) base (setBack base progress (now trail) (now a)) (v .0) progress (now a) (now trail) (now taken) (now assumed) × (v .0 ≤ length (now a)) ⌝ }
-    ensures { λ r. ⌜ Scanned (now (list .entry)) (now (ends .entry)) (now (numbers .entry)) (now (begins .entry)) (now (row .entry)) base (setBack base progress (now (trail .entry)) (now (a .entry))) (v .0) (present progress (now (a .entry)) (now (taken .entry)) (now (assumed .entry))) (now (trail .entry)) r (now (a .exit)) (now (trail .exit)) (now (taken .exit)) (now (assumed .exit)) ⌝ }
+    requires { ⌜ Scanning (now list) (now arrangement) (now row) base (setBack base progress (now trail) (now a)) (v .0) progress (now a) (now trail) (now taken) (now assumed) × (v .0 ≤ length (now a)) ⌝ }
+    ensures { λ r. ⌜ Scanned (now (list .entry)) (now (arrangement .entry)) (now (row .entry)) base (setBack base progress (now (trail .entry)) (now (a .entry))) (v .0) (present progress (now (a .entry)) (now (taken .entry)) (now (assumed .entry))) (now (trail .entry)) r (now (a .exit)) (now (trail .exit)) (now (taken .exit)) (now (assumed .exit)) ⌝ }
 {
     if !is_assumable(v, row, a, taken) {
         return progress;
@@ -96,7 +91,7 @@ fn scan_wish(
     let at = progress.assumed;
     assumed[at] = v.0 as u16;
     let count = at + 1;
-    match assume(list, ends, numbers, begins, row, before, v, a, trail) {
+    match assume(list, arrangement, row, before, v, a, trail) {
         Propagated::Dead(t) => close_at(
             row,
             base,
@@ -141,24 +136,25 @@ fn assume_unless_broken(
     requires { ⌜ (tally .settled ≤ length (now trail)) × ((j : ℕ) → j < tally .settled → (0 < getD (now trail) j 0) × (getD (now trail) j 0 ≤ length (now a))) ⌝ }
     ensures { λ r. ⌜ BrokenThen (now (row .entry)) base count bound tally (now (trail .entry)) (now (a .entry)) (now (taken .entry)) (now (assumed .entry)) r (now (a .exit)) (now (taken .exit)) (now (assumed .exit)) (firstBroken (now (row .entry)) (now (taken .entry)) (now (a .entry))) ⌝ }
 {
-    let broken = newly_broken(before, tally.broken, row, taken, a);
-    if broken == 0 {
-        return Progress {
+    match newly_broken(before, tally.broken, row, taken, a) {
+        Lowest::Nothing => Progress {
             tally: tally,
             assumed: count,
             bound: bound,
-        };
+        },
+        Lowest::Wish(v) => {
+            assumed[count] = v.0 as u16;
+            let end = count + 1;
+            close_at(
+                row,
+                base,
+                tally.settled,
+                bound,
+                &assumed[..end],
+                trail,
+                a,
+                taken,
+            )
+        }
     }
-    assumed[count] = broken as u16;
-    let end = count + 1;
-    close_at(
-        row,
-        base,
-        tally.settled,
-        bound,
-        &assumed[..end],
-        trail,
-        a,
-        taken,
-    )
 }

@@ -8,13 +8,13 @@ use native.Mathlib.Omega.{arith}
 use lib.IntN.{ℤ}
 use lib.ListN.{length}
 use lib.Seq.{slice}
-use Rattle.literal.specs.declared.Variable.{Variable}
 use Rattle.formula.specs.Formula.{models}
 use Rattle.opposed.specs.Opposed.{NoneShort}
 use Rattle.walk.specs.BranchingLaws.{opposed-open}
 use Rattle.walk.specs.Promises.{Branches}
 use Rattle.walk.specs.State.{fits, unassigned, unassignedIn}
 use Rattle.walk.specs.Walk.{Outcome, deadEnd, isDeadEnd, complete, fork}
+use Rattle.pick.specs.declared.Decision.{Decision}
 use Rattle.pick.specs.declared.Pick.the-variants.{DeadEnd, Branch}
 use Rattle.pick.specs.Pick.{pickOf, afterCompletion, picked-none, picked-fork}
 use Rattle.tally.specs.declared.Tally.{Tally}
@@ -24,11 +24,11 @@ use Rattle.propagation.specs.Searching.{Searching}
 use Rattle.propagation.specs.Trail.{undone}
 use Rattle.unit_queue.specs.Due.{NoneDue}
 use Rattle.unit_queue.specs.Theorems.{settled-none-due}
-use Rattle.walk_result.specs.declared.Tried.{Tried}
-use Rattle.walk_result.specs.declared.Tried.the-variants.{Found, Nothing}
-use Rattle.walk_result.specs.Tried.{clip}
-use Rattle.try_and_fork.specs.Tried.{TriedBy, unwound}
-use Rattle.try_and_fork.specs.Undoing.{dead-undone, fork-undone}
+use Rattle.search_state.specs.declared.result.Tried.{Tried}
+use Rattle.search_state.specs.declared.result.Tried.the-variants.{Found, Nothing}
+use Rattle.search_state.specs.Result.{clip}
+use Rattle.search_state.specs.Tried.{TriedBy, unwound}
+use Rattle.search_state.specs.Undoing.{dead-undone, fork-undone}
 use Rattle.cores.specs.Narrow.{narrow}
 use Rattle.cores.specs.Search.{completedBy, onward, searchFrom}
 use Rattle.cores.specs.NarrowRight.{Narrowed, NarrowedTo, narrow-right}
@@ -108,15 +108,15 @@ module _ {n : ℕ} {f : List (List ℤ)} {row : List ℕ} {d from : ℕ} {t : Ta
       pub by-exhaustion : pickOf f row d a′ ≡ DeadEnd → (a″ : List ℕ) → a″ ≡ before from t′ a′ trail′ → TriedBy (try a) from (before from t a trail) trail trail′ a″ (Nothing 0)
       by-exhaustion e a″ q = ended (p .tries) guide d (p .told .1) (after ∙ picked-none f row d try a′ e) a″ q
 
-      -- or a variable v to branch on, with the value c first
-      module _ (v : Variable) (c : ℕ) (e : pickOf f row d a′ ≡ Branch v c) where
-        branched : (afterCompletion f row d try a′ ≡ fork try a′ (v .0) c) × Branches a′ n (v .0) × (c < 2)
-        branched = picked-fork f row d try a′ (narrowed .state) v c e
+      -- or a variable to branch on, with the value that it takes first
+      module _ (x : Decision) (e : pickOf f row d a′ ≡ Branch x) where
+        branched : (afterCompletion f row d try a′ ≡ fork try a′ (x .variable .0) (x .value)) × Branches a′ n (x .variable .0) × (x .value < 2)
+        branched = picked-fork f row d try a′ (narrowed .state) x e
 
-        pub branches : Branches a′ n (v .0) × (c < 2)
+        pub branches : Branches a′ n (x .variable .0) × (x .value < 2)
         branches = (branched .1, branched .2)
 
         -- step 5: what the fork says, undone where it found nothing
-        pub by-fork : (trail″ a″ a‴ : List ℕ) (r : Tried) → TriedBy (fork try a′ (v .0) c) (t′ .settled) a′ trail′ trail″ a″ r → length trail″ ≡ length trail′
+        pub by-fork : (trail″ a″ a‴ : List ℕ) (r : Tried) → TriedBy (fork try a′ (x .variable .0) (x .value)) (t′ .settled) a′ trail′ trail″ a″ r → length trail″ ≡ length trail′
             → a‴ ≡ unwound r (slice from (t′ .settled) trail″) a″ → TriedBy (try a) from (before from t a trail) trail trail″ a‴ r
-        by-fork trail″ a″ a‴ r w l q = fork-undone (p .told .1) from (p .tries .inside) (try a) (fork try a′ (v .0) c) (after ∙ branched .0) trail″ a″ a‴ r w q
+        by-fork trail″ a″ a‴ r w l q = fork-undone (p .told .1) from (p .tries .inside) (try a) (fork try a′ (x .variable .0) (x .value)) (after ∙ branched .0) trail″ a″ a‴ r w q

@@ -1,4 +1,4 @@
--- A fork tries its two states from its own place of the trail on. There the branching variable stands, which is the newest one: so the laws of a fork in crate try_and_fork serve.
+-- A fork tries its two states from its own place of the trail on. There the branching variable stands, which is the newest one: so the laws of a fork in crate search_state serve.
 use mathlib.Core.Path.{_≡_, sym, subst}
 use mathlib.Core.List.{List}
 use Prim.Native.Nat.{ℕ}
@@ -9,9 +9,9 @@ use Rattle.tally.specs.declared.Tally.{Tally}
 use Rattle.propagation.specs.Assigned.{AssignedTo}
 use Rattle.propagation.specs.Looked.{pending}
 use Rattle.unit_queue.specs.Theorems.{Covers}
-use Rattle.walk_result.specs.declared.Tried.{Tried}
-use Rattle.try_and_fork.specs.AttemptLaws as by-newest
-use Rattle.try_and_fork.specs.Tried.{TriedBy}
+use Rattle.search_state.specs.declared.result.Tried.{Tried}
+use Rattle.search_state.specs.Newest as by-newest
+use Rattle.search_state.specs.Tried.{TriedBy}
 use Rattle.core_search.specs.Attempt.{before}
 
 module _ {row : List ℕ} {v b : ℕ} {t : Tally} {a trail : List ℕ} {t₁ : Tally} {a₁ trail₁ : List ℕ} (told : AssignedTo row v b t a trail t₁ a₁ trail₁) where

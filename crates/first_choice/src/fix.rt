@@ -8,6 +8,7 @@ ghost use Prim.Native.Nat.{_+_, _<_};
 ghost use lib.ListN.{length};
 ghost use Rattle.formula.specs.Formula.{clauses};
 ghost use Rattle.literal.specs.Literal.{value};
+ghost use Rattle.search_state.specs.Ready.{Ready};
 ghost use Rattle.walk.specs.State.{assign};
 ghost use Rattle.witnesses.specs.Witnesses.{Witnesses};
 ghost use Rattle.first_choice.specs.Fixing.{Fixing};
@@ -17,9 +18,7 @@ ghost use Rattle.first_choice.specs.Refining.{Refining};
 // as it is.
 pub fn fix(
     list: &[i32],
-    ends: &[u16],
-    numbers: &[u16],
-    begins: &[u16],
+    arrangement: &[u16],
     row: &[u8],
     d: usize,
     tally: Tally,
@@ -27,10 +26,12 @@ pub fn fix(
     a: &mut [u8],
     trail: &mut [u16],
     witnesses: &mut [u16],
+    weights: &mut [u64],
     choice: &mut [u8],
 ) -> Tally
-    requires { ⌜ Fixing (now list) (now ends) (now numbers) (now begins) (now row) d i tally (now a) (now trail) (now choice) × (i < length (now a)) × Witnesses (now list) (now witnesses) ⌝ }
-    ensures fixed { λ r. ⌜ Fixing (now (list .entry)) (now (ends .entry)) (now (numbers .entry)) (now (begins .entry)) (now (row .entry)) d (i + 1) r (now (a .exit)) (now (trail .exit)) (now (choice .exit)) ⌝ }
+    requires { ⌜ Fixing (now list) (now row) d i tally (now a) (now trail) (now choice) × (i < length (now a)) ⌝ }
+    requires { ⌜ Ready (now list) (now arrangement) (now witnesses) (length (now a)) (length (now weights)) ⌝ }
+    ensures fixed { λ r. ⌜ Fixing (now (list .entry)) (now (row .entry)) d (i + 1) r (now (a .exit)) (now (trail .exit)) (now (choice .exit)) ⌝ }
     ensures witness { λ r. ⌜ Witnesses (now (list .entry)) (now (witnesses .exit)) ⌝ }
 {
     let v = Variable(i + 1);
@@ -39,9 +40,7 @@ pub fn fix(
     }
     let bit = first_value(
         list,
-        ends,
-        numbers,
-        begins,
+        arrangement,
         row,
         d,
         tally,
@@ -49,19 +48,18 @@ pub fn fix(
         a,
         trail,
         witnesses,
+        weights,
         choice,
     );
     let with = propagation::assign_to(tally, row, v, bit, a, trail);
-    settle(list, ends, numbers, begins, row, d, with, a, trail)
+    settle(list, arrangement, row, d, with, a, trail)
 }
 
 // Its value: off where the choice at hand has it off, or where a search finds a choice that has, which is
 // then at hand; else on.
 fn first_value(
     list: &[i32],
-    ends: &[u16],
-    numbers: &[u16],
-    begins: &[u16],
+    arrangement: &[u16],
     row: &[u8],
     d: usize,
     tally: Tally,
@@ -69,9 +67,11 @@ fn first_value(
     a: &[u8],
     trail: &[u16],
     witnesses: &mut [u16],
+    weights: &mut [u64],
     choice: &mut [u8],
 ) -> u8
-    requires { ⌜ Fixing (now list) (now ends) (now numbers) (now begins) (now row) d i tally (now a) (now trail) (now choice) × (i < length (now a)) × (value (now a) (i + 1) ≡ 2) × Witnesses (now list) (now witnesses) ⌝ }
+    requires { ⌜ Fixing (now list) (now row) d i tally (now a) (now trail) (now choice) × (i < length (now a)) × (value (now a) (i + 1) ≡ 2) ⌝ }
+    requires { ⌜ Ready (now list) (now arrangement) (now witnesses) (length (now a)) (length (now weights)) ⌝ }
     ensures refined { λ r. ⌜ (r < 2) × Refining (length (now (a .entry))) (clauses (now (list .entry))) (now (row .entry)) d (i + 1) (assign (now (a .entry)) (i + 1) r) (now (choice .exit)) ⌝ }
     ensures witness { λ r. ⌜ Witnesses (now (list .entry)) (now (witnesses .exit)) ⌝ }
 {
@@ -81,9 +81,7 @@ fn first_value(
     }
     value_by_search(
         list,
-        ends,
-        numbers,
-        begins,
+        arrangement,
         row,
         d,
         tally,
@@ -91,6 +89,7 @@ fn first_value(
         a,
         trail,
         witnesses,
+        weights,
         choice,
     )
 }

@@ -15,6 +15,7 @@ use Rattle.walk.specs.Propagation.{propagate}
 use Rattle.walk.specs.State.{fits, unassigned}
 use Rattle.walk.specs.Walk.{isDeadEnd}
 use Rattle.tally.specs.declared.Tally.{Tally}
+use Rattle.propagation.specs.declared.propagated.Propagated.{Propagated}
 use Rattle.propagation.specs.declared.propagated.Propagated.the-variants.{Dead as PropagatedDead, Settled as PropagatedSettled}
 use Rattle.propagation.specs.Looked.{pending, Moved, moved-none, moved-more, ComesTo}
 use Rattle.propagation.specs.Propagated.{PropagatedBy}
@@ -132,3 +133,8 @@ module _ {n : ℕ} {f : List (List ℤ)} {row : List ℕ} {d : ℕ} {t₀ : Tall
 
   pub narrowing-next : {place : ℕ} {t′ : Tally} {a′ trail′ : List ℕ} → RoundBy n f row d t a trail a′ trail′ (Kept place t′) → Narrowing n f row d t₀ a₀ trail₀ place t′ a′ trail′
   narrowing-next w = record { moved = moved-more (p .moved) (w .1); begun = w .2; covers = w .3; same = p .same ∙ w .0 }
+
+  -- what narrowing comes to from here is what it comes to from the start
+  pub narrowing-on : (a′ trail′ : List ℕ) (r : Propagated) → ComesTo n row (narrow f row d a) t a trail a′ trail′ r → ComesTo n row (narrow f row d a₀) t₀ a₀ trail₀ a′ trail′ r
+  narrowing-on a′ trail′ (PropagatedDead t′) w = (p .same ∙ w .0, moved-more (p .moved) (w .1))
+  narrowing-on a′ trail′ (PropagatedSettled t′) w = (p .same ∙ w .0, moved-more (p .moved) (w .1))

@@ -1,11 +1,11 @@
 -- From the walk without a limit, and the least count, to the first nearest choice.
 use mathlib.Core.Path.{_≡_, refl, sym, ap, _∙_}
 use mathlib.Core.List.{List, _++_}
-use mathlib.Core.Option.{Option, none, some, Option·some-injective, Option·none-ne-some}
+use mathlib.Core.Option.{Option, none, some, Option·none-ne-some}
 use Prim.Native.Nat.{ℕ, _≤_}
 use native.Mathlib.Omega.{arith}
 use lib.IntN.{ℤ}
-use lib.ListN.{take, drop}
+use lib.ListN.{length, take, drop}
 use lib.Seq.{take-at, drop-at}
 use Rattle.formula.specs.Formula.{clauses}
 use Rattle.wish.specs.Wish.{totalWeight}
@@ -27,47 +27,40 @@ no-broken none e = refl
 no-broken (some x) e = absurd (Option·none-ne-some (x .broken) e)
 
 module _ (n : ℕ) (rules : List ℤ) (sound : SoundList n rules) (row : List ℕ) where
-  -- the walk without a limit, which was lent the bytes `before` and left `after`
-  module _ (total : ℕ) (before after : List ℕ) (walked : after ≡ choiceAfter none (walk n (clauses rules) row total .answer) n before) where
+  -- the walk without a limit
+  module _ (total : ℕ) where
     abbrev answer : Option Answer
     answer = walk n (clauses rules) row total .answer
 
     -- it found none: there is no model
-    module _ (all : total ≡ totalWeight row) (e : none ≡ brokenBy answer) where
+    module _ (all : total ≡ totalWeight row) (e : answer ≡ none) where
       nothing : nearestAnswer n rules row ≡ none
       nothing =
-          let never = walk-none n (clauses rules) (sound-fits n rules sound) row total .0 (no-broken answer e) in
+          let never = walk-none n (clauses rules) (sound-fits n rules sound) row total .0 e in
           no-broken (nearestAnswer n rules row) (sym (nearest-is n rules row ∙ nearest-none n rules row .1 (λ a m. omega (arith, never a m, disagreement-most row a))))
 
       pub none-answered : none ≡ brokenBy (nearestAnswer n rules row)
       none-answered = sym (ap brokenBy nothing)
 
-      pub none-written : after ≡ choiceAfter none (nearestAnswer n rules row) n before
-      none-written = walked ∙ ap (λ (o : Option Answer). choiceAfter none o n before) (no-broken answer e) ∙ sym (ap (λ (o : Option Answer). choiceAfter none o n before) nothing)
+      pub none-written : (bytes : List ℕ) → bytes ≡ choiceAfter none (nearestAnswer n rules row) n bytes
+      none-written bytes = sym (ap (λ (o : Option Answer). choiceAfter none o n bytes) nothing)
 
-    -- it found a model that breaks k wishes
-    module _ (k : ℕ) (e : some k ≡ brokenBy answer) where
-      split : (x : Answer) × (answer ≡ some x) × (x .broken ≡ k)
-      split = go answer e
-        where
-          go : (o : Option Answer) → some k ≡ brokenBy o → (x : Answer) × (o ≡ some x) × (x .broken ≡ k)
-          go none g = absurd (Option·none-ne-some k (sym g))
-          go (some x) g = (x, refl, sym (Option·some-injective k (x .broken) g))
+    -- it found the model a, which breaks k wishes, and that was copied to the front of the bytes
+    module _ (a : List ℕ) (k : ℕ) (e : answer ≡ some (record { choice = a; broken = k })) (before after : List ℕ) (copied : after ≡ a ++ drop (length a) before) where
+      found : ModelWithin n (clauses rules) row total (record { choice = a; broken = k })
+      found = walk-sound n (clauses rules) (sound-fits n rules sound) row total (record { choice = a; broken = k }) e
 
-      found : ModelWithin n (clauses rules) row total (split .0)
-      found = walk-sound n (clauses rules) (sound-fits n rules sound) row total (split .0) (split .1)
+      size : length a ≡ n
+      size = found .model .choice .size
 
-      written : after ≡ split .0 .choice ++ drop n before
-      written = walked ∙ ap (λ (o : Option Answer). choiceAfter none o n before) (split .1)
-
-      front : take n after ≡ split .0 .choice
-      front = ap (take n) written ∙ take-at (split .0 .choice) (drop n before) n (found .model .choice .size)
+      front : take n after ≡ a
+      front = ap (take n) copied ∙ take-at a (drop (length a) before) n size
 
       pub found-model : Model n (clauses rules) (take n after) × (disagreement row (take n after) ≤ k)
-      found-model = rw front (found .model, omega (arith, found .own-count, split .2))
+      found-model = rw front (found .model, omega (arith, found .own-count))
 
       pub found-rest : drop n after ≡ drop n before
-      found-rest = ap (drop n) written ∙ drop-at (split .0 .choice) (drop n before) n (found .model .choice .size)
+      found-rest = ap (drop n) copied ∙ drop-at a (drop (length a) before) n size ∙ ap (λ (i : ℕ). drop i before) size
 
   -- the least count, with a model that has it in the first n bytes
   module _ {before after : List ℕ} {k : ℕ} (h : Least n (clauses rules) row before after k) where

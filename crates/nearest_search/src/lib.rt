@@ -1,8 +1,8 @@
 // Nearest: the least number of broken wishes with the first choice that meets all rules and breaks so
 // many, or none when the rules can't be met.
 use admission_steps::Admission;
+use search_state::Tried;
 use searches::Searched;
-use walk_result::Tried;
 ghost use mathlib.Core.Path.{_≡_};
 ghost use mathlib.Core.Option.{none};
 ghost use Prim.Native.Nat.{_≤_};
@@ -11,8 +11,7 @@ ghost use Rattle.choices.specs.Choices.{Model};
 ghost use Rattle.distance.specs.Distance.{disagreement};
 ghost use Rattle.formula.specs.Formula.{clauses};
 ghost use Rattle.wish.specs.Wish.{totalWeight};
-ghost use Rattle.occurrences.specs.Table.{Beside};
-ghost use Rattle.root_walk.specs.Into.{Startable};
+ghost use Rattle.search_state.specs.Ready.{Ready, Startable};
 ghost use Rattle.searches.specs.Answers.{replyOf, NearestMeans, searchedOf};
 ghost use Rattle.searches.specs.Searches.{nearestReply, nearestAnswer, nearestChoice, brokenBy, choiceAfter};
 ghost use Rattle.witnesses.specs.Witnesses.{Witnesses};
@@ -31,30 +30,29 @@ pub fn search(n: usize, rules: &[i32], row: &[u8], choice: &mut [u8]) -> Searche
     }
 }
 
-// Arranges the clauses once, for all that follows.
+// Makes the tables and prepares them, once for all that follows.
 fn first_nearest(n: usize, rules: &[i32], row: &[u8], total: usize, choice: &mut [u8]) -> Searched
     requires { ⌜ Startable n (now rules) (length (now choice)) × (total ≡ totalWeight (now row)) ⌝ }
     ensures answer { λ r. ⌜ r ≡ searchedOf (brokenBy (nearestAnswer n (now (rules .entry)) (now (row .entry)))) ⌝ }
     ensures output { λ r. ⌜ now (choice .exit) ≡ choiceAfter none (nearestAnswer n (now (rules .entry)) (now (row .entry))) n (now (choice .entry)) ⌝ }
 {
-    let mut ends = walk_tables::no_ends();
-    let mut numbers = walk_tables::no_numbers();
-    let mut begins = walk_tables::no_begins();
-    let literals = 2 * n + 2;
-    occurrences::arrange(n, rules, &mut ends[..literals], &mut numbers, &mut begins);
-    // at first a clause's witness is what stands where it begins
-    let mut witnesses = begins;
-    // the first two parts name each clause once
-    let many = ends[1] as usize;
+    let mut arrangement = search_state::no_arrangement();
+    let mut witnesses = search_state::no_witnesses();
+    let mut a = search_state::no_values();
+    let mut trail = search_state::no_trail();
+    let mut weights = search_state::no_weights();
+    let many = search_state::prepare(n, rules, &mut arrangement, &mut witnesses);
+    // what n variables need of the table: the weighing clears what it is lent
+    let places = 3 * n + 3;
     nearest_with(
-        n,
         rules,
-        &ends[..literals],
-        &numbers,
-        &begins,
+        &arrangement,
         row,
         total,
+        &mut a[..n],
+        &mut trail[..n],
         &mut witnesses[..many],
+        &mut weights[..places],
         choice,
     )
 }
@@ -62,53 +60,45 @@ fn first_nearest(n: usize, rules: &[i32], row: &[u8], total: usize, choice: &mut
 // One walk with all that the wishes weigh for a limit, which no choice exceeds, tells whether the rules can be
 // met. Then the least count is found, and the first choice that has it: as none has less, the first within it.
 fn nearest_with(
-    n: usize,
     rules: &[i32],
-    ends: &[u16],
-    numbers: &[u16],
-    begins: &[u16],
+    arrangement: &[u16],
     row: &[u8],
     total: usize,
+    a: &mut [u8],
+    trail: &mut [u16],
     witnesses: &mut [u16],
+    weights: &mut [u64],
     choice: &mut [u8],
 ) -> Searched
-    requires { ⌜ Startable n (now rules) (length (now choice)) × (total ≡ totalWeight (now row)) × Beside n (now rules) (now ends) (now numbers) (now begins) × Witnesses (now rules) (now witnesses) ⌝ }
-    ensures answer { λ r. ⌜ r ≡ searchedOf (brokenBy (nearestAnswer n (now (rules .entry)) (now (row .entry)))) ⌝ }
-    ensures output { λ r. ⌜ now (choice .exit) ≡ choiceAfter none (nearestAnswer n (now (rules .entry)) (now (row .entry))) n (now (choice .entry)) ⌝ }
+    requires { ⌜ (length (now trail) ≡ length (now a)) × Ready (now rules) (now arrangement) (now witnesses) (length (now a)) (length (now weights)) ⌝ }
+    requires { ⌜ (length (now a) ≤ length (now choice)) × (total ≡ totalWeight (now row)) ⌝ }
+    ensures answer { λ r. ⌜ r ≡ searchedOf (brokenBy (nearestAnswer (length (now (a .entry))) (now (rules .entry)) (now (row .entry)))) ⌝ }
+    ensures output { λ r. ⌜ now (choice .exit) ≡ choiceAfter none (nearestAnswer (length (now (a .entry))) (now (rules .entry)) (now (row .entry))) (length (now (a .entry))) (now (choice .entry)) ⌝ }
 {
-    match root_walk::walk_with(
-        n,
-        rules,
-        ends,
-        numbers,
-        begins,
-        row,
-        total,
-        witnesses,
-        choice,
-    ) {
+    match root_walk::walk_from_root(rules, arrangement, row, total, a, trail, witnesses, weights) {
         Tried::Nothing(_) => Searched::Nothing,
         Tried::Found(most, _) => {
+            search_state::copy_to(a, choice);
             let least = least_count(
-                n,
                 rules,
-                ends,
-                numbers,
-                begins,
+                arrangement,
                 row,
                 most,
+                a,
+                trail,
                 witnesses,
+                weights,
                 choice,
             );
             first_choice::make_first(
-                n,
                 rules,
-                ends,
-                numbers,
-                begins,
+                arrangement,
                 row,
                 least,
+                a,
+                trail,
                 witnesses,
+                weights,
                 choice,
             );
             Searched::Found(least)
@@ -120,24 +110,34 @@ fn nearest_with(
 // Limits below the root's bound have none; from there on they are searched one after the other, up to `most`. Where
 // none of these finds, the choice at hand has the least count.
 fn least_count(
-    n: usize,
     rules: &[i32],
-    ends: &[u16],
-    numbers: &[u16],
-    begins: &[u16],
+    arrangement: &[u16],
     row: &[u8],
     most: usize,
+    a: &mut [u8],
+    trail: &mut [u16],
     witnesses: &mut [u16],
+    weights: &mut [u64],
     choice: &mut [u8],
 ) -> usize
-    requires { ⌜ Startable n (now rules) (length (now choice)) × Beside n (now rules) (now ends) (now numbers) (now begins) × Witnesses (now rules) (now witnesses) ⌝ }
-    requires { ⌜ Model n (clauses (now rules)) (take n (now choice)) × (disagreement (now row) (take n (now choice)) ≤ most) ⌝ }
-    ensures least { λ r. ⌜ Least n (clauses (now (rules .entry))) (now (row .entry)) (now (choice .entry)) (now (choice .exit)) r ⌝ }
+    requires { ⌜ (length (now trail) ≡ length (now a)) × Ready (now rules) (now arrangement) (now witnesses) (length (now a)) (length (now weights)) ⌝ }
+    requires { ⌜ (length (now a) ≤ length (now choice)) × Model (length (now a)) (clauses (now rules)) (take (length (now a)) (now choice)) × (disagreement (now row) (take (length (now a)) (now choice)) ≤ most) ⌝ }
+    ensures least { λ r. ⌜ Least (length (now (a .entry))) (clauses (now (rules .entry))) (now (row .entry)) (now (choice .entry)) (now (choice .exit)) r ⌝ }
     ensures witness { λ r. ⌜ Witnesses (now (rules .entry)) (now (witnesses .exit)) ⌝ }
 {
-    let mut d = core_root::root_bound(n, rules, ends, numbers, begins, row);
+    let mut d = core_root::root_bound(rules, arrangement, row, a, trail);
     while d < most {
-        if core_root::search_within(n, rules, ends, numbers, begins, row, d, witnesses, choice) {
+        if core_root::search_within(
+            rules,
+            arrangement,
+            row,
+            d,
+            a,
+            trail,
+            witnesses,
+            weights,
+            choice,
+        ) {
             return d;
         }
         d += 1;

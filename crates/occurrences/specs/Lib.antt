@@ -4,10 +4,13 @@ pub mod Fillable
 pub mod Filling
 pub mod KeyLaws
 pub mod Keys
+pub mod Layout
+pub mod LayoutLaws
 pub mod Members
 pub mod Numbered
 pub mod Occurrences
 pub mod Parts
+pub mod Reading
 pub mod SameRules
 pub mod Sorting
 pub mod Stages

@@ -6,7 +6,6 @@ use mathlib.Core.Option.{Option, none, some}
 use Prim.Native.Nat.{ℕ, _<_}
 use native.Mathlib.Omega.{arith}
 use lib.IntN.{ℤ}
-use Rattle.literal.specs.declared.Variable.{Variable}
 use borrow.Author.Tests.{eq-eqb, ne-eqb}
 use Rattle.formula.specs.Formula.{any, models}
 use Rattle.distance.specs.Distance.{disagreement}
@@ -18,16 +17,17 @@ use Rattle.walk.specs.Promises.{Branches}
 use Rattle.walk.specs.State.{State}
 use Rattle.walk.specs.Walk.{Outcome, deadEnd, isDeadEnd, complete, isExhausted, firstValue, fork, forkOn, decide}
 use Rattle.walk.specs.WalkLaws.{first-bit}
+use Rattle.pick.specs.declared.Decision.{Decision}
 use Rattle.pick.specs.declared.Pick.{Pick}
 use Rattle.pick.specs.declared.Pick.the-variants.{DeadEnd, Branch}
 
-abbrev pub variable : ℕ → Variable
-variable v = record { 0 = v }
+abbrev pub decision : ℕ → ℕ → Decision
+decision v value = record { variable = record { 0 = v }; value = value }
 
 -- the branching variable (step 4) and the value that is tried first (step 5)
 abbrev pub branchOn : List ℕ → Option ℕ → Option ℕ → Pick
 branchOn row size none = DeadEnd
-branchOn row size (some v) = Branch (variable v) (firstValue row size v)
+branchOn row size (some v) = Branch (decision v (firstValue row size v))
 
 -- "it is a dead end" (step 3), or else that
 abbrev pub picked : Bool → List ℕ → Option ℕ → Option ℕ → Pick
@@ -42,17 +42,11 @@ pickOf f row d a = picked (isExhausted f row d a) row (fewest row a f) (branchin
 abbrev pub pickSpent : List (List ℤ) → List ℕ → List ℕ → Pick
 pickSpent f row a = picked (any (isOpposed row a) f) row (fewest row a f) (branchingVariable row a f)
 
-clash : {v : Variable} {c : ℕ} → DeadEnd ≡ Branch v c → ⊥
+clash : {x : Decision} → DeadEnd ≡ Branch x → ⊥
 clash e = let z : _≡_ {A = ℕ} 0 1 = cc in omega arith
 
-branch-variable : (u : ℕ) (v : Variable) (k c : ℕ) → Branch (variable u) k ≡ Branch v c → variable u ≡ v
-branch-variable u v k c e = cc
-
-branch-value : (u v : Variable) (k c : ℕ) → Branch u k ≡ Branch v c → k ≡ c
-branch-value u v k c e = cc
-
-abbrev number : Variable → ℕ
-number v = v .0
+same-decision : (x y : Decision) → Branch x ≡ Branch y → x ≡ y
+same-decision x y e = cc
 
 -- what it says of steps 3 to 5, where the search goes on as `try` says
 module _ (f : List (List ℤ)) (row : List ℕ) (d : ℕ) (try : List ℕ → Outcome) (a : List ℕ) where
@@ -70,19 +64,19 @@ module _ (f : List (List ℤ)) (row : List ℕ) (d : ℕ) (try : List ℕ → Ou
       go false p none q r = by-tests false p none q
       go false p (some v) q r = cc
 
-  pub picked-fork : {n : ℕ} → State n a → (v : Variable) (c : ℕ) → pickOf f row d a ≡ Branch v c → (afterCompletion ≡ fork try a (v .0) c) × Branches a n (v .0) × (c < 2)
-  picked-fork {n} h v c e = go (isExhausted f row d a) refl (branchingVariable row a f) refl e
+  pub picked-fork : {n : ℕ} → State n a → (x : Decision) → pickOf f row d a ≡ Branch x → (afterCompletion ≡ fork try a (x .variable .0) (x .value)) × Branches a n (x .variable .0) × (x .value < 2)
+  picked-fork {n} h x e = go (isExhausted f row d a) refl (branchingVariable row a f) refl e
     where
-      go : (t : Bool) → isExhausted f row d a ≡ t → (o : Option ℕ) → branchingVariable row a f ≡ o → picked t row (fewest row a f) o ≡ Branch v c
-          → (afterCompletion ≡ fork try a (v .0) c) × Branches a n (v .0) × (c < 2)
+      go : (t : Bool) → isExhausted f row d a ≡ t → (o : Option ℕ) → branchingVariable row a f ≡ o → picked t row (fewest row a f) o ≡ Branch x
+          → (afterCompletion ≡ fork try a (x .variable .0) (x .value)) × Branches a n (x .variable .0) × (x .value < 2)
       go true p o q r = absurd (clash r)
       go false p none q r = absurd (clash r)
       go false p (some u) q r =
-          let at : variable u ≡ v = branch-variable u v (firstValue row (fewest row a f) u) c r in
-          let same : u ≡ v .0 = ap number at in
-          let first : firstValue row (fewest row a f) u ≡ c = branch-value (variable u) v (firstValue row (fewest row a f) u) c r in (
-            by-tests false p (some u) q ∙ ap₂ (fork try a) same first,
-            subst (Branches a n) same (branching-sound h row f q),
+          let same = same-decision (decision u (firstValue row (fewest row a f) u)) x r in
+          let on : u ≡ x .variable .0 = ap (λ (y : Decision). y .variable .0) same in
+          let first : firstValue row (fewest row a f) u ≡ x .value = ap (λ (y : Decision). y .value) same in (
+            by-tests false p (some u) q ∙ ap₂ (fork try a) on first,
+            subst (Branches a n) on (branching-sound h row f q),
             subst (λ (k : ℕ). k < 2) first (first-bit row (fewest row a f) u),
           )
 
@@ -94,9 +88,9 @@ module _ (f : List (List ℤ)) (row : List ℕ) (d : ℕ) (try : List ℕ → Ou
   pub pick-none : pickOf f row d a ≡ DeadEnd → decide f row d try a ≡ deadEnd
   pick-none e = decided ∙ picked-none f row d try a e
 
-  pub pick-fork : {n : ℕ} → State n a → (v : Variable) (c : ℕ) → pickOf f row d a ≡ Branch v c
-      → (decide f row d try a ≡ fork try a (v .0) c) × Branches a n (v .0) × (c < 2)
-  pick-fork h v c e = let r = picked-fork f row d try a h v c e in (decided ∙ r .0, r .1, r .2)
+  pub pick-fork : {n : ℕ} → State n a → (x : Decision) → pickOf f row d a ≡ Branch x
+      → (decide f row d try a ≡ fork try a (x .variable .0) (x .value)) × Branches a n (x .variable .0) × (x .value < 2)
+  pick-fork h x e = let r = picked-fork f row d try a h x e in (decided ∙ r .0, r .1, r .2)
 
 -- the answer, by whether the limit is spent
 module _ (f : List (List ℤ)) (row : List ℕ) (d : ℕ) (a : List ℕ) (broken : ℕ) (breaks : broken ≡ disagreement row a) where

@@ -19,7 +19,7 @@ pub fn search(n: usize, rules: &[i32], choice: &mut [u8]) -> Searched
         Admission::Refused(r) => Searched::Refused(r),
         Admission::Admitted(_) => {
             let row = no_wishes();
-            walk_result::answer_of(root_walk::walk_into(n, rules, &row[..n], 0, choice))
+            search_state::answer_of(root_walk::walk_into(n, rules, &row[..n], 0, choice))
         }
     }
 }

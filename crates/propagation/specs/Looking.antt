@@ -19,6 +19,7 @@ use Rattle.limits.specs.Limits.{maxVariables}
 use Rattle.walk.specs.Counting.{find-member}
 use Rattle.walk.specs.Fits.{fits-at}
 use Rattle.walk.specs.State.{find, satisfy, isUnassigned, isUnit, isFalsified, fits}
+use Rattle.occurrences.specs.Layout.{beginsOf}
 use Rattle.occurrences.specs.Table.{Located, Beside}
 use Rattle.unit_queue.specs.Queue.{Pending, makeHold, look}
 use Rattle.tally.specs.declared.Tally.{Tally}
@@ -36,20 +37,20 @@ abbrev pub Numbers : List ℤ → List ℕ → Type 0
 Numbers list ks = (i : ℕ) → i < length ks → (0 < getD ks i 0) × (getD ks i 0 ≤ length (clauses list))
 
 -- a state of the search over the clauses of a list, which can be found by number
-pub record Looking (list : List ℤ) (begins row : List ℕ) (t : Tally) (a trail : List ℕ) : Type 0 where
+pub record Looking (list : List ℤ) (arrangement row : List ℕ) (t : Tally) (a trail : List ℕ) : Type 0 where
   pub few : length a ≤ maxVariables
   pub fit : fits (length a) (clauses list) ≡ true
-  pub located : Located list begins
+  pub located : Located list (beginsOf arrangement)
   pub searching : Searching (length a) row a trail (t .settled) (t .broken)
 
 -- and with the arrangement beside it
-pub record Following (list : List ℤ) (ends numbers begins row : List ℕ) (t : Tally) (a trail : List ℕ) : Type 0 where
-  pub looking : Looking list begins row t a trail
-  pub beside : Beside (length a) list ends numbers begins
+pub record Following (list : List ℤ) (arrangement row : List ℕ) (t : Tally) (a trail : List ℕ) : Type 0 where
+  pub looking : Looking list arrangement row t a trail
+  pub beside : Beside (length a) list arrangement
 
 -- later states are of the same kind
-pub looking-moved : {list : List ℤ} {begins row : List ℕ} {t t′ : Tally} {a trail a′ trail′ : List ℕ} → Looking list begins row t a trail → Moved (length a) row t a trail t′ a′ trail′ → Looking list begins row t′ a′ trail′
-looking-moved {list} {begins} {row} {t} {t′} {a} {trail} {a′} {trail′} h m =
+pub looking-moved : {list : List ℤ} {arrangement row : List ℕ} {t t′ : Tally} {a trail a′ trail′ : List ℕ} → Looking list arrangement row t a trail → Moved (length a) row t a trail t′ a′ trail′ → Looking list arrangement row t′ a′ trail′
+looking-moved {list} {arrangement} {row} {t} {t′} {a} {trail} {a′} {trail′} h m =
     let long : length a ≡ length a′ = sym (m .searching .state .size) in
     record {
       few = omega (arith, h .few);
@@ -58,9 +59,10 @@ looking-moved {list} {begins} {row} {t} {t′} {a} {trail} {a′} {trail′} h m
       searching = subst (λ (n : ℕ). Searching n row a′ trail′ (t′ .settled) (t′ .broken)) long (m .searching);
     }
 
-pub following-moved : {list : List ℤ} {ends numbers begins row : List ℕ} {t t′ : Tally} {a trail a′ trail′ : List ℕ} → Following list ends numbers begins row t a trail
-    → Moved (length a) row t a trail t′ a′ trail′ → Following list ends numbers begins row t′ a′ trail′
-following-moved h m = record { looking = looking-moved (h .looking) m; beside = record { arranged = h .beside .arranged; wide = omega (arith, h .beside .wide, m .searching .state .size) } }
+pub following-moved : {list : List ℤ} {arrangement row : List ℕ} {t t′ : Tally} {a trail a′ trail′ : List ℕ} → Following list arrangement row t a trail
+    → Moved (length a) row t a trail t′ a′ trail′ → Following list arrangement row t′ a′ trail′
+following-moved {list} {arrangement} h m =
+    record { looking = looking-moved (h .looking) m; beside = subst (λ (n : ℕ). Beside n list arrangement) (sym (m .searching .state .size)) (h .beside) }
 
 -- what a clause asks for decides what looking at it does
 abbrev pub lookBy : List ℕ → ℕ → Pending → Unit → Option Pending
@@ -87,7 +89,7 @@ asks-found a c x e = go (isFalsified a c) (isUnit a c) (find (isUnassigned a) c)
     go false false o q = cc
 
 -- a clause is looked at: its number k, and what it asks for
-module _ {list : List ℤ} {begins row : List ℕ} {t : Tally} {a trail : List ℕ} (h : Looking list begins row t a trail) (d : ℕ) (k : ℕ) (low : 0 < k) (high : k ≤ length (clauses list)) where
+module _ {list : List ℤ} {arrangement row : List ℕ} {t : Tally} {a trail : List ℕ} (h : Looking list arrangement row t a trail) (d : ℕ) (k : ℕ) (low : 0 < k) (high : k ≤ length (clauses list)) where
   abbrev c : List ℤ
   c = getD (clauses list) (k - 1) []
 

@@ -12,7 +12,9 @@ use Rattle.formula.specs.Formula.{clauses}
 use Rattle.choices.specs.Lists.{member-at}
 use Rattle.walk.specs.State.{unassigned}
 use Rattle.occurrences.specs.Occurrences.{occurrences, filledClauses, emptyClauses}
-use Rattle.occurrences.specs.Table.{Arranged, partOf, every}
+use Rattle.occurrences.specs.Layout.{numbersOf, partAt}
+use Rattle.occurrences.specs.Reading.{part-holding, every-clause}
+use Rattle.occurrences.specs.Table.{Beside}
 use Rattle.unit_queue.specs.Numbers.{every-inside, occurrences-inside}
 use Rattle.unit_queue.specs.Queue.{Pending, andThen, look, lookAt, falseIn, takeFirst, drainBy, drain}
 use Rattle.tally.specs.declared.Tally.{Tally}
@@ -114,10 +116,10 @@ module _ {n : ℕ} {f : List (List ℤ)} {row : List ℕ} {d from : ℕ} {t₀ :
       empty zero = refl
       empty (suc m) = refl
 
--- the clauses of the false literal of a variable, and all clauses, as parts of the arrangement
-module _ {list : List ℤ} {ends numbers begins : List ℕ} (h : Arranged list ends numbers begins) where
-  pub part-numbers : (v b : ℕ) → 0 < v → b < 2 → 2 * v + b < length ends → Numbers list (partOf ends numbers (2 * v + b))
-  part-numbers v b low bit l = rw (h .literals v b low bit l) (λ i q. occurrences-inside (clauses list) v b (member-at 0 (occurrences (clauses list) v b) i q))
+-- the clauses of a literal of a variable, and all clauses, as parts of the arrangement
+module _ {n : ℕ} {list : List ℤ} {t : List ℕ} (h : Beside n list t) where
+  pub part-numbers : (v b : ℕ) → 0 < v → b < 2 → v ≤ n → Numbers list (partAt t (2 * v + b))
+  part-numbers v b low bit l = rw (part-holding h v b low bit l) (λ i q. occurrences-inside (clauses list) v b (member-at 0 (occurrences (clauses list) v b) i q))
 
-  pub every-numbers : 1 < length ends → Numbers list (take (getD ends 1 0) numbers)
-  every-numbers l = rw (every h l) (λ i q. every-inside (clauses list) (member-at 0 (filledClauses (clauses list) ++ emptyClauses (clauses list)) i q))
+  pub every-numbers : Numbers list (take (getD t 1 0) (numbersOf t))
+  every-numbers = rw (every-clause h) (λ i q. every-inside (clauses list) (member-at 0 (filledClauses (clauses list) ++ emptyClauses (clauses list)) i q))

@@ -17,7 +17,7 @@ ghost use Rattle.propagation.specs.Looking.{Looking, Numbers};
 // literal breaks one wish too many, it is a dead end.
 pub fn look_at(
     list: &[i32],
-    begins: &[u16],
+    arrangement: &[u16],
     number: Clause,
     row: &[u8],
     d: usize,
@@ -25,12 +25,11 @@ pub fn look_at(
     a: &mut [u8],
     trail: &mut [u16],
 ) -> Propagated
-    requires { ⌜ Looking (now list) (now begins) (now row) tally (now a) (now trail) ⌝ }
+    requires { ⌜ Looking (now list) (now arrangement) (now row) tally (now a) (now trail) ⌝ }
     requires { ⌜ (0 < number .0) × (number .0 ≤ length (clauses (now list))) ⌝ }
     ensures { λ r. ⌜ LookedBy (length (now (a .entry))) (now (row .entry)) (λ (head : ℕ). look (now (row .entry)) d (pending head tally (now (a .entry)) (now (trail .entry))) (getD (clauses (now (list .entry))) (number .0 - 1) [])) tally (now (a .entry)) (now (trail .entry)) (now (a .exit)) (now (trail .exit)) r ⌝ }
 {
-    let at = number.0 - 1;
-    let from = begins[at] as usize;
+    let from = occurrences::begin_of(arrangement, number);
     match unit_at(list, from, a) {
         Unit::Conflict => Propagated::Dead(tally),
         Unit::Nothing => Propagated::Settled(tally),
@@ -49,7 +48,7 @@ pub fn look_at(
 // Looks at clauses one after the other, up to the first dead end.
 pub fn look_at_all(
     list: &[i32],
-    begins: &[u16],
+    arrangement: &[u16],
     numbers: &[u16],
     row: &[u8],
     d: usize,
@@ -57,7 +56,7 @@ pub fn look_at_all(
     a: &mut [u8],
     trail: &mut [u16],
 ) -> Propagated
-    requires { ⌜ Looking (now list) (now begins) (now row) tally (now a) (now trail) ⌝ }
+    requires { ⌜ Looking (now list) (now arrangement) (now row) tally (now a) (now trail) ⌝ }
     requires { ⌜ Numbers (now list) (now numbers) ⌝ }
     ensures { λ r. ⌜ LookedBy (length (now (a .entry))) (now (row .entry)) (λ (head : ℕ). lookAt (clauses (now (list .entry))) (now (row .entry)) d (pending head tally (now (a .entry)) (now (trail .entry))) (now (numbers .entry))) tally (now (a .entry)) (now (trail .entry)) (now (a .exit)) (now (trail .exit)) r ⌝ }
 {
@@ -65,7 +64,7 @@ pub fn look_at_all(
     let mut i = 0;
     while i < numbers.len() {
         let number = Clause(numbers[i] as usize);
-        match look_at(list, begins, number, row, d, present, a, trail) {
+        match look_at(list, arrangement, number, row, d, present, a, trail) {
             Propagated::Dead(t) => return Propagated::Dead(t),
             Propagated::Settled(t) => present = t,
         }

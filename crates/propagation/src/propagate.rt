@@ -14,9 +14,7 @@ ghost use Rattle.propagation.specs.Looking.{Following};
 // anything, as after a fork. It stops at the first sign of a dead end, since what follows cannot mend it.
 pub fn propagate_units(
     list: &[i32],
-    ends: &[u16],
-    numbers: &[u16],
-    begins: &[u16],
+    arrangement: &[u16],
     row: &[u8],
     d: usize,
     from: usize,
@@ -24,42 +22,37 @@ pub fn propagate_units(
     a: &mut [u8],
     trail: &mut [u16],
 ) -> Propagated
-    requires { ⌜ Following (now list) (now ends) (now numbers) (now begins) (now row) tally (now a) (now trail) × (from ≤ tally .settled) ⌝ }
+    requires { ⌜ Following (now list) (now arrangement) (now row) tally (now a) (now trail) × (from ≤ tally .settled) ⌝ }
     ensures { λ r. ⌜ ComesTo (length (now (a .entry))) (now (row .entry)) (follow (clauses (now (list .entry))) (now (row .entry)) d (pending from tally (now (a .entry)) (now (trail .entry)))) tally (now (a .entry)) (now (trail .entry)) (now (a .exit)) (now (trail .exit)) r ⌝ }
 {
     if d < tally.broken {
         return Propagated::Dead(tally);
     }
-    follow_queue(list, ends, numbers, begins, row, d, from, tally, a, trail)
+    follow_queue(list, arrangement, row, d, from, tally, a, trail)
 }
 
 // Propagates any state: each clause is looked at once, and then the queue is followed.
 pub fn propagate_all(
     list: &[i32],
-    ends: &[u16],
-    numbers: &[u16],
-    begins: &[u16],
+    arrangement: &[u16],
     row: &[u8],
     d: usize,
     tally: Tally,
     a: &mut [u8],
     trail: &mut [u16],
 ) -> Propagated
-    requires { ⌜ Following (now list) (now ends) (now numbers) (now begins) (now row) tally (now a) (now trail) ⌝ }
+    requires { ⌜ Following (now list) (now arrangement) (now row) tally (now a) (now trail) ⌝ }
     ensures { λ r. ⌜ ComesTo (length (now (a .entry))) (now (row .entry)) (settle (clauses (now (list .entry))) (now (row .entry)) d (now (a .entry))) tally (now (a .entry)) (now (trail .entry)) (now (a .exit)) (now (trail .exit)) r ⌝ }
 {
     if d < tally.broken {
         return Propagated::Dead(tally);
     }
-    // the first two parts name each clause once
-    let end = ends[1] as usize;
-    match look_at_all(list, begins, &numbers[..end], row, d, tally, a, trail) {
+    let numbers = occurrences::every_clause(arrangement);
+    match look_at_all(list, arrangement, numbers, row, d, tally, a, trail) {
         Propagated::Dead(t) => Propagated::Dead(t),
         Propagated::Settled(t) => follow_queue(
             list,
-            ends,
-            numbers,
-            begins,
+            arrangement,
             row,
             d,
             tally.settled,

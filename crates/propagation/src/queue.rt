@@ -11,7 +11,7 @@ ghost use Rattle.literal.specs.Literal.{value};
 ghost use Rattle.limits.specs.Limits.{maxVariables};
 ghost use Rattle.unit_queue.specs.Queue.{drain};
 ghost use Rattle.propagation.specs.Looked.{ComesTo, pending};
-ghost use Rattle.occurrences.specs.Table.{Parts, partOf};
+ghost use Rattle.occurrences.specs.Layout.{HasPart, partAt};
 ghost use Rattle.propagation.specs.Looking.{Following};
 
 // The slot of the literal of an assigned variable that is false: of the one that asks it to be on, where
@@ -25,25 +25,19 @@ fn false_slot(v: Variable, a: &[u8]) -> usize
 }
 
 // The numbers of the clauses that hold it: the part of that slot.
-fn false_part<'a>(v: Variable, a: &[u8], ends: &[u16], numbers: &'a [u16]) -> &'a [u16]
+fn false_part<'a>(v: Variable, a: &[u8], arrangement: &'a [u16]) -> &'a [u16]
     requires { ⌜ (0 < v .0) × (v .0 ≤ length (now a)) × (value (now a) (v .0) < 2) ⌝ }
-    requires { ⌜ (length (now a) ≤ maxVariables) × (2 * length (now a) + 1 < length (now ends)) ⌝ }
-    requires { ⌜ Parts (now ends) (now numbers) ⌝ }
-    ensures { λ r. ⌜ now r ≡ partOf (now (ends .entry)) (now (numbers .entry)) (2 * v .0 + (1 - value (now (a .entry)) (v .0))) ⌝ }
+    requires { ⌜ (length (now a) ≤ maxVariables) × HasPart (now arrangement) (2 * v .0 + (1 - value (now a) (v .0))) ⌝ }
+    ensures { λ r. ⌜ now r ≡ partAt (now (arrangement .entry)) (2 * v .0 + (1 - value (now (a .entry)) (v .0))) ⌝ }
 {
-    let slot = false_slot(v, a);
-    let begin = ends[slot - 1] as usize;
-    let end = ends[slot] as usize;
-    &numbers[begin..end]
+    occurrences::part_of(arrangement, false_slot(v, a))
 }
 
 // Takes one variable after the other from the queue, which begins at a place of the trail, and looks at
 // the clauses that hold its false literal.
 pub fn follow_queue(
     list: &[i32],
-    ends: &[u16],
-    numbers: &[u16],
-    begins: &[u16],
+    arrangement: &[u16],
     row: &[u8],
     d: usize,
     from: usize,
@@ -51,15 +45,15 @@ pub fn follow_queue(
     a: &mut [u8],
     trail: &mut [u16],
 ) -> Propagated
-    requires { ⌜ Following (now list) (now ends) (now numbers) (now begins) (now row) tally (now a) (now trail) × (from ≤ tally .settled) ⌝ }
+    requires { ⌜ Following (now list) (now arrangement) (now row) tally (now a) (now trail) × (from ≤ tally .settled) ⌝ }
     ensures { λ r. ⌜ ComesTo (length (now (a .entry))) (now (row .entry)) (drain (clauses (now (list .entry))) (now (row .entry)) d (pending from tally (now (a .entry)) (now (trail .entry)))) tally (now (a .entry)) (now (trail .entry)) (now (a .exit)) (now (trail .exit)) r ⌝ }
 {
     let mut present = tally;
     let mut head = from;
     while head < present.settled {
         let v = Variable(trail[head] as usize);
-        let part = false_part(v, a, ends, numbers);
-        match look_at_all(list, begins, part, row, d, present, a, trail) {
+        let part = false_part(v, a, arrangement);
+        match look_at_all(list, arrangement, part, row, d, present, a, trail) {
             Propagated::Dead(t) => return Propagated::Dead(t),
             Propagated::Settled(t) => present = t,
         }

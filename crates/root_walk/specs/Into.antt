@@ -2,29 +2,14 @@
 use mathlib.Core.Path.{_≡_, sym, ap, _∙_}
 use mathlib.Core.List.{List, _++_}
 use mathlib.Core.Option.{Option, none}
-use Prim.Native.Nat.{ℕ, _≤_}
-use lib.IntN.{ℤ}
+use Prim.Native.Nat.{ℕ}
 use lib.ListN.{drop}
-use Rattle.limits.specs.Limits.{maxVariables}
-use Rattle.rule_list.specs.Sound.{SoundList}
-use Rattle.causes.specs.Admitted.{Admitted}
-use Rattle.causes.specs.Lent.{Lent}
 use Rattle.walk.specs.Walk.{Answer, Outcome}
 use Rattle.searches.specs.Searches.{brokenBy, choiceAfter}
-use Rattle.walk_result.specs.declared.Tried.{Tried}
-use Rattle.walk_result.specs.declared.Tried.the-variants.{Found, Nothing}
-use Rattle.walk_result.specs.Tried.{clip, brokenIn, forksIn}
-use Rattle.root_walk.specs.Root.{RootSays}
-
--- what a walk asks for: so many variables, a sound list, and room for the choice
-pub record Startable (n : ℕ) (rules : List ℤ) (room : ℕ) : Type 0 where
-  pub few : n ≤ maxVariables
-  pub sound : SoundList n rules
-  pub wide : n ≤ room
-
--- any call that is admitted with room for it may walk
-pub startable : (s : Lent) (room : ℕ) → Admitted s × (s .problem .n ≤ room) → Startable (s .problem .n) (s .problem .rules) room
-startable s room a = record { few = a .0 .most; sound = a .0 .soundRules; wide = a .1 }
+use Rattle.search_state.specs.declared.result.Tried.{Tried}
+use Rattle.search_state.specs.declared.result.Tried.the-variants.{Found, Nothing}
+use Rattle.search_state.specs.Result.{clip, brokenIn, forksIn}
+use Rattle.search_state.specs.Tried.{RootSays}
 
 -- r tells what the walk came to, and the choice of n bytes has its answer
 pub record Reaches (o : Outcome) (n : ℕ) (before after : List ℕ) (r : Tried) : Type 0 where

@@ -1,72 +1,62 @@
 -- The walk from its root, where every variable is unassigned.
-use mathlib.Core.Path.{_≡_, refl, sym, ap, ap₂, subst, _∙_}
+use mathlib.Core.Path.{_≡_, sym, ap, subst, _∙_}
 use mathlib.Core.Bool.{true}
-use mathlib.Core.List.{List, [], _∷_}
-use mathlib.Core.Option.{none, some}
-use Prim.Native.Nat.{ℕ, zero, suc, _+_, _<_}
+use mathlib.Core.List.{List, []}
+use Prim.Native.Nat.{ℕ, _+_, _<_}
 use native.Mathlib.Omega.{arith}
 use lib.IntN.{ℤ}
 use lib.ListN.{length, getD, take, replicate}
 use lib.Seq.{slice, length-slice, getD-take, getD-drop}
 use Rattle.literal.specs.Literal.{value}
+use Rattle.formula.specs.Formula.{clauses}
+use Rattle.rule_list.specs.Sound.{SoundList}
+use Rattle.searches.specs.Fits.{sound-fits}
 use Rattle.choices.specs.Lists.{member-at, member-index}
-use Rattle.distance.specs.Distance.{disagreement}
-use Rattle.wish.specs.Laws.{cost-unassigned}
-use Rattle.walk.specs.Correctness.{start-state, start-unassigned}
+use Rattle.walk.specs.Correctness.{start-state}
 use Rattle.walk.specs.Propagation.{propagate}
 use Rattle.walk.specs.PropagationLaws.{propagate-state, propagate-done, propagate-quiet}
-use Rattle.walk.specs.State.{State, fits}
-use Rattle.walk.specs.Walk.{Outcome, deadEnd, isDeadEnd, decide, walkFrom}
+use Rattle.walk.specs.State.{fits}
+use Rattle.walk.specs.Walk.{Outcome, deadEnd, decide, walkFrom, walk}
 use Rattle.walk.specs.WalkLaws.{walk-step, decide-dead}
 use Rattle.tally.specs.declared.Tally.{Tally}
 use Rattle.propagation.specs.Looked.{pending}
 use Rattle.propagation.specs.Searching.{Searching, settled-most}
 use Rattle.unit_queue.specs.Theorems.{Covers}
-use Rattle.walk_result.specs.declared.Tried.{Tried}
-use Rattle.walk_result.specs.declared.Tried.the-variants.{Found, Nothing}
-use Rattle.walk_result.specs.Tried.{clip}
-use Rattle.try_and_fork.specs.AttemptLaws.{newest}
+use Rattle.propagation.specs.declared.propagated.Propagated.the-variants.{Dead, Settled}
+use Rattle.search_state.specs.declared.result.Tried.{Tried}
+use Rattle.search_state.specs.declared.result.Tried.the-variants.{Nothing}
+use Rattle.search_state.specs.Result.{clip}
+use Rattle.search_state.specs.Newest.{newest}
 use Rattle.unit_queue.specs.Due.{NoneDue}
-use Rattle.try_and_fork.specs.Tried.{TriedBy}
+use Rattle.search_state.specs.Root.{SettledRoot}
+use Rattle.search_state.specs.RootLaws.{root-says}
+use Rattle.search_state.specs.Tried.{TriedBy, RootSays}
 
--- where the walk comes to o: its answer in the lent assignment, or nothing
-abbrev pub RootSays : Outcome → List ℕ → Tried → Type 0
-RootSays o a (Found broken forks) = (o .answer ≡ some (record { choice = a; broken = broken })) × (forks ≡ clip (o .forks))
-RootSays o a (Nothing forks) = (o .answer ≡ none) × (forks ≡ clip (o .forks))
+-- the walk of a sound list with n variables
+module _ (n : ℕ) (list : List ℤ) (sound : SoundList n list) (row : List ℕ) (d : ℕ) where
+  abbrev f : List (List ℤ)
+  f = clauses list
 
-pub root-says : (o : Outcome) (k : ℕ) (back trail trail′ a′ : List ℕ) (r : Tried) → TriedBy o k back trail trail′ a′ r → RootSays o a′ r
-root-says o k back trail trail′ a′ (Found c g) w = w
-root-says o k back trail trail′ a′ (Nothing g) w = (w .0, w .1)
+  fit : fits n f ≡ true
+  fit = sound-fits n list sound
 
--- the walk from the propagated state is the walk from the state before; and a dead end of propagation is one of the walk
-module _ (n : ℕ) (f : List (List ℤ)) (fit : fits n f ≡ true) (row : List ℕ) (d : ℕ) (a : List ℕ) (s : State n a) where
-  pub walk-propagated : walkFrom f row d (propagate f a) ≡ walkFrom f row d a
-  walk-propagated =
-      walk-step n f fit row d (propagate f a) (propagate-state f s)
-      ∙ ap (decide f row d (walkFrom f row d)) (propagate-done f (propagate f a) (propagate-quiet n f fit s))
-      ∙ sym (walk-step n f fit row d a s)
+  stepped : walk n f row d ≡ decide f row d (walkFrom f row d) (propagate f (replicate n 2))
+  stepped = walk-step n f fit row d (replicate n 2) (start-state n)
 
-  pub walk-dead : (a′ : List ℕ) → isDeadEnd f row d (propagate f a) ≡ true → RootSays (walkFrom f row d a) a′ (Nothing 0)
-  walk-dead a′ e =
-      let o : walkFrom f row d a ≡ deadEnd = walk-step n f fit row d a s ∙ decide-dead f row d (walkFrom f row d) (propagate f a) e in
+  -- a dead end of propagation is one of the walk
+  pub walk-dead : {trail a trail′ : List ℕ} {t : Tally} → SettledRoot n f row d trail a trail′ (Dead t) → (a′ : List ℕ) → RootSays (walk n f row d) a′ (Nothing 0)
+  walk-dead told a′ =
+      let o : walk n f row d ≡ deadEnd = stepped ∙ decide-dead f row d (walkFrom f row d) (propagate f (replicate n 2)) (told .0) in
       (ap (λ (o : Outcome). o .answer) o, sym (ap (λ (o : Outcome). clip (o .forks)) o))
 
-nothing-broken : (row : List ℕ) (n : ℕ) → disagreement row (replicate n 2) ≡ 0
-nothing-broken [] n = refl
-nothing-broken (w ∷ row) zero = refl
-nothing-broken (w ∷ row) (suc n) = ap₂ _+_ (cost-unassigned w) (nothing-broken row n)
-
-pub root-searching : (n : ℕ) (row trail a : List ℕ) → length trail ≡ n → a ≡ replicate n 2 → Searching n row a trail 0 0
-root-searching n row trail a l e =
-    rw e
-    (record {
-      state = start-state n;
-      long = l;
-      assigned-and-not = omega (arith, start-unassigned n);
-      breaks = sym (nothing-broken row n);
-      few = omega arith;
-      traced = λ j h. absurd (omega arith);
-    })
+  -- else the walk from the settled root is the walk
+  pub walk-settled : {trail a trail′ : List ℕ} {t : Tally} → SettledRoot n f row d trail a trail′ (Settled t) → (k : ℕ) (back trail″ trail‴ a′ : List ℕ) (r : Tried) → TriedBy (walkFrom f row d a) k back trail″ trail‴ a′ r
+      → RootSays (walk n f row d) a′ r
+  walk-settled {a = a} told k back trail″ trail‴ a′ r w =
+      let again = walk-step n f fit row d (propagate f (replicate n 2)) (propagate-state f (start-state n)) in
+      let done = propagate-done f (propagate f (replicate n 2)) (propagate-quiet n f fit (start-state n)) in
+      let same : walkFrom f row d a ≡ walk n f row d = ap (walkFrom f row d) (told .0) ∙ again ∙ ap (decide f row d (walkFrom f row d)) done ∙ sym stepped in
+      subst (λ (o : Outcome). RootSays o a′ r) same (root-says (walkFrom f row d a) k back trail″ trail‴ a′ r w)
 
 -- where no clause asks for anything, the newest variable is all that can be in the queue
 pub quiet-covers : {n : ℕ} (f : List (List ℤ)) {row a trail : List ℕ} {t : Tally} → Searching n row a trail (t .settled) (t .broken) → NoneDue f a → Covers f (pending (newest t) t a trail)

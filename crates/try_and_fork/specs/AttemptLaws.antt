@@ -2,12 +2,11 @@
 use mathlib.Core.Path.{_≡_, sym, ap, _∙_}
 use mathlib.Core.Bool.{true, false}
 use mathlib.Core.List.{List}
-use Prim.Native.Nat.{ℕ, _-_, _≤_, _<_}
+use Prim.Native.Nat.{ℕ, _≤_, _<_}
 use native.Mathlib.Omega.{arith}
 use lib.IntN.{ℤ}
 use lib.ListN.{length}
 use lib.Seq.{slice}
-use Rattle.literal.specs.declared.Variable.{Variable}
 use Rattle.formula.specs.Formula.{models}
 use Rattle.opposed.specs.Opposed.{NoneShort}
 use Rattle.walk.specs.BranchingLaws.{opposed-open}
@@ -18,6 +17,7 @@ use Rattle.walk.specs.PropagationLaws.{propagate-fewer}
 use Rattle.walk.specs.State.{fits, unassigned, unassignedIn}
 use Rattle.walk.specs.Walk.{Outcome, deadEnd, complete, completed, decide, fork, walkFrom, isDeadEnd}
 use Rattle.walk.specs.WalkLaws.{walk-step, decide-dead, decide-complete}
+use Rattle.pick.specs.declared.Decision.{Decision}
 use Rattle.pick.specs.declared.Pick.the-variants.{DeadEnd, Branch}
 use Rattle.pick.specs.Pick.{pickOf, pick-none, pick-fork}
 use Rattle.tally.specs.declared.Tally.{Tally}
@@ -27,20 +27,13 @@ use Rattle.propagation.specs.Propagated.{PropagatedBy}
 use Rattle.propagation.specs.Searching.{Searching}
 use Rattle.propagation.specs.Trail.{undone}
 use Rattle.unit_queue.specs.Theorems.{settled-none-due}
-use Rattle.walk_result.specs.declared.Tried.{Tried}
-use Rattle.walk_result.specs.declared.Tried.the-variants.{Found, Nothing}
-use Rattle.walk_result.specs.Tried.{clip}
+use Rattle.search_state.specs.declared.result.Tried.{Tried}
+use Rattle.search_state.specs.declared.result.Tried.the-variants.{Found, Nothing}
+use Rattle.search_state.specs.Result.{clip}
 use Rattle.unit_queue.specs.Due.{NoneDue}
-use Rattle.try_and_fork.specs.Tried.{TriedBy, unwound}
-use Rattle.try_and_fork.specs.Undoing.{dead-undone, fork-undone}
-
--- where the newest variable stands on the trail: a state is tried after a fork assigned one, or at the root
-abbrev pub newest : Tally → ℕ
-newest t = t .settled - 1
-
--- the state before it was assigned
-abbrev pub before : Tally → List ℕ → List ℕ → List ℕ
-before t a trail = undone (slice (newest t) (t .settled) trail) a
+use Rattle.search_state.specs.Newest.{newest, before}
+use Rattle.search_state.specs.Tried.{TriedBy, unwound}
+use Rattle.search_state.specs.Undoing.{dead-undone, fork-undone}
 
 -- the walk from a state is the decision of the propagated one
 module _ {n : ℕ} {row : List ℕ} {t : Tally} {a trail : List ℕ} (given : Searching n row a trail (t .settled) (t .broken)) (f : List (List ℤ)) (fit : fits n f ≡ true) (d : ℕ) where
@@ -96,15 +89,15 @@ module _ {n : ℕ} {f : List (List ℤ)} {row : List ℕ} {d : ℕ} {t : Tally} 
     pub by-exhaustion : pickOf f row d a′ ≡ DeadEnd → (a″ : List ℕ) → a″ ≡ undone (slice (newest t) (t′ .settled) trail′) a′ → TriedBy (try a) (newest t) (before t a trail) trail trail′ a″ (Nothing 0)
     by-exhaustion e a″ q = ended (p .given) f (p .fit) d (p .told .2) (decided ∙ pick-none f row d try a′ (p .told .1) incomplete e) a″ q
 
-    -- or a variable v to branch on, with the value c first
-    module _ (v : Variable) (c : ℕ) (e : pickOf f row d a′ ≡ Branch v c) where
-      branched : (decide f row d try a′ ≡ fork try a′ (v .0) c) × Branches a′ n (v .0) × (c < 2)
-      branched = pick-fork f row d try a′ (p .told .1) incomplete (propagated .state) v c e
+    -- or a variable to branch on, with the value that it takes first
+    module _ (x : Decision) (e : pickOf f row d a′ ≡ Branch x) where
+      branched : (decide f row d try a′ ≡ fork try a′ (x .variable .0) (x .value)) × Branches a′ n (x .variable .0) × (x .value < 2)
+      branched = pick-fork f row d try a′ (p .told .1) incomplete (propagated .state) x e
 
-      pub branches : Branches a′ n (v .0) × (c < 2)
+      pub branches : Branches a′ n (x .variable .0) × (x .value < 2)
       branches = (branched .1, branched .2)
 
       -- step 5: what the fork says, undone where it found nothing
-      pub by-fork : (trail″ a″ a‴ : List ℕ) (r : Tried) → TriedBy (fork try a′ (v .0) c) (t′ .settled) a′ trail′ trail″ a″ r → length trail″ ≡ length trail′
+      pub by-fork : (trail″ a″ a‴ : List ℕ) (r : Tried) → TriedBy (fork try a′ (x .variable .0) (x .value)) (t′ .settled) a′ trail′ trail″ a″ r → length trail″ ≡ length trail′
           → a‴ ≡ unwound r (slice (newest t) (t′ .settled) trail″) a″ → TriedBy (try a) (newest t) (before t a trail) trail trail″ a‴ r
-      by-fork trail″ a″ a‴ r w l q = fork-undone (p .told .2) (newest t) (omega arith) (try a) (fork try a′ (v .0) c) (decided ∙ branched .0) trail″ a″ a‴ r w q
+      by-fork trail″ a″ a‴ r w l q = fork-undone (p .told .2) (newest t) (omega arith) (try a) (fork try a′ (x .variable .0) (x .value)) (decided ∙ branched .0) trail″ a″ a‴ r w q

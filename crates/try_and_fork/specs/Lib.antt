@@ -1,5 +1,1 @@
 pub mod AttemptLaws
-pub mod ForkLaws
-pub mod Ready
-pub mod Tried
-pub mod Undoing

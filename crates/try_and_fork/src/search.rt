@@ -1,11 +1,11 @@
 // Trying a state may call for a fork, and a fork tries two states (document 01, step 5).
-use crate::unwinding::newest_of;
-use crate::unwinding::unwind;
-use literal::Variable;
+use pick::Decision;
 use pick::Pick;
 use propagation::Propagated;
+use search_state::Tried;
+use search_state::newest_of;
+use search_state::unwind;
 use tally::Tally;
-use walk_result::Tried;
 ghost use Prim.Native.Nat.{_<_};
 ghost use lib.ListN.{length};
 ghost use Rattle.formula.specs.Formula.{clauses};
@@ -15,18 +15,16 @@ ghost use Rattle.unit_queue.specs.Theorems.{Covers};
 ghost use Rattle.walk.specs.Promises.{Branches};
 ghost use Rattle.walk.specs.Walk.{fork as forkOf, walkFrom};
 ghost use Rattle.witnesses.specs.Witnesses.{Witnesses};
-ghost use Rattle.try_and_fork.specs.AttemptLaws.{newest, before};
+ghost use Rattle.search_state.specs.Newest.{newest, before};
 ghost use Rattle.unit_queue.specs.Due.{NoneDue};
-ghost use Rattle.try_and_fork.specs.Ready.{Ready};
-ghost use Rattle.try_and_fork.specs.Tried.{TriedBy};
+ghost use Rattle.search_state.specs.Ready.{Ready};
+ghost use Rattle.search_state.specs.Tried.{TriedBy};
 
 // The walk from a state in which only clauses of the newest variable can ask for anything. Where it finds
 // an answer, that is what the lent assignment holds at the end; else it is the state before that variable.
 pub fn attempt(
     list: &[i32],
-    ends: &[u16],
-    numbers: &[u16],
-    begins: &[u16],
+    arrangement: &[u16],
     row: &[u8],
     d: usize,
     tally: Tally,
@@ -34,40 +32,35 @@ pub fn attempt(
     trail: &mut [u16],
     witnesses: &mut [u16],
     weights: &mut [u64],
-    marks: &mut [u64],
 ) -> Tried
     requires { ⌜ Searching (length (now a)) (now row) (now a) (now trail) (tally .settled) (tally .broken) ⌝ }
-    requires { ⌜ Ready (now list) (now ends) (now numbers) (now begins) (now witnesses) (length (now a)) (length (now weights)) (length (now marks)) ⌝ }
+    requires { ⌜ Ready (now list) (now arrangement) (now witnesses) (length (now a)) (length (now weights)) ⌝ }
     requires { ⌜ Covers (clauses (now list)) (pending (newest tally) tally (now a) (now trail)) ⌝ }
     ensures tried { λ r. ⌜ TriedBy (walkFrom (clauses (now (list .entry))) (now (row .entry)) d (now (a .entry))) (newest tally) (before tally (now (a .entry)) (now (trail .entry))) (now (trail .entry)) (now (trail .exit)) (now (a .exit)) r ⌝ }
     ensures witness { λ r. ⌜ Witnesses (now (list .entry)) (now (witnesses .exit)) ⌝ }
 {
     let from = newest_of(tally.settled);
-    match propagation::propagate_units(list, ends, numbers, begins, row, d, from, tally, a, trail) {
+    match propagation::propagate_units(list, arrangement, row, d, from, tally, a, trail) {
         Propagated::Dead(t) => unwind(Tried::Nothing(0), from, t.settled, trail, a),
         Propagated::Settled(t) => {
             if completion::completes(list, row, a) {
                 completion::fill_completion(row, a);
                 return Tried::Found(t.broken, 0);
             }
-            match pick::pick_branch(list, begins, row, d, t.broken, a, witnesses, weights, marks) {
+            match pick::pick_branch(list, arrangement, row, d, t.broken, a, witnesses, weights) {
                 Pick::DeadEnd => unwind(Tried::Nothing(0), from, t.settled, trail, a),
-                Pick::Branch(v, value) => {
+                Pick::Branch(decision) => {
                     let tried = fork(
                         list,
-                        ends,
-                        numbers,
-                        begins,
+                        arrangement,
                         row,
                         d,
                         t,
-                        v,
-                        value,
+                        decision,
                         a,
                         trail,
                         witnesses,
                         weights,
-                        marks,
                     );
                     unwind(tried, from, t.settled, trail, a)
                 }
@@ -80,32 +73,28 @@ pub fn attempt(
 // does, the state is as it was.
 fn fork(
     list: &[i32],
-    ends: &[u16],
-    numbers: &[u16],
-    begins: &[u16],
+    arrangement: &[u16],
     row: &[u8],
     d: usize,
     tally: Tally,
-    v: Variable,
-    value: u8,
+    decision: Decision,
     a: &mut [u8],
     trail: &mut [u16],
     witnesses: &mut [u16],
     weights: &mut [u64],
-    marks: &mut [u64],
 ) -> Tried
     requires { ⌜ Searching (length (now a)) (now row) (now a) (now trail) (tally .settled) (tally .broken) ⌝ }
-    requires { ⌜ Ready (now list) (now ends) (now numbers) (now begins) (now witnesses) (length (now a)) (length (now weights)) (length (now marks)) ⌝ }
-    requires { ⌜ Branches (now a) (length (now a)) (v .0) × (value < 2) × NoneDue (clauses (now list)) (now a) ⌝ }
-    ensures tried { λ r. ⌜ TriedBy (forkOf (walkFrom (clauses (now (list .entry))) (now (row .entry)) d) (now (a .entry)) (v .0) value) (tally .settled) (now (a .entry)) (now (trail .entry)) (now (trail .exit)) (now (a .exit)) r ⌝ }
+    requires { ⌜ Ready (now list) (now arrangement) (now witnesses) (length (now a)) (length (now weights)) ⌝ }
+    requires { ⌜ Branches (now a) (length (now a)) (decision .variable .0) × (decision .value < 2) × NoneDue (clauses (now list)) (now a) ⌝ }
+    ensures tried { λ r. ⌜ TriedBy (forkOf (walkFrom (clauses (now (list .entry))) (now (row .entry)) d) (now (a .entry)) (decision .variable .0) (decision .value)) (tally .settled) (now (a .entry)) (now (trail .entry)) (now (trail .exit)) (now (a .exit)) r ⌝ }
     ensures witness { λ r. ⌜ Witnesses (now (list .entry)) (now (witnesses .exit)) ⌝ }
 {
+    let v = decision.variable;
+    let value = decision.value;
     let first = propagation::assign_to(tally, row, v, value, a, trail);
     match attempt(
         list,
-        ends,
-        numbers,
-        begins,
+        arrangement,
         row,
         d,
         first,
@@ -113,18 +102,15 @@ fn fork(
         trail,
         witnesses,
         weights,
-        marks,
     ) {
-        Tried::Found(broken, forks) => Tried::Found(broken, walk_result::add_forks(forks, 0)),
+        Tried::Found(broken, forks) => Tried::Found(broken, search_state::add_forks(forks, 0)),
         Tried::Nothing(before) => {
             let second = propagation::assign_to(tally, row, v, 1 - value, a, trail);
-            walk_result::with_forks(
+            search_state::with_forks(
                 before,
                 attempt(
                     list,
-                    ends,
-                    numbers,
-                    begins,
+                    arrangement,
                     row,
                     d,
                     second,
@@ -132,7 +118,6 @@ fn fork(
                     trail,
                     witnesses,
                     weights,
-                    marks,
                 ),
             )
         }

@@ -15,7 +15,7 @@ use Rattle.literal.specs.Slots.{isAt}
 use Rattle.formula.specs.Formula.{any, all, satisfied}
 use Rattle.walk.specs.State.{unassignedIn, isOpen}
 use Rattle.walk.specs.Branching.{assignedOrAgainst, isOpposed, isSource, mentions, offers, clauseWeight}
-use Rattle.weighing.specs.Weights.{isMarked, weightAt, Weighed}
+use Rattle.weighing.specs.Weights.{isMarked, weightAt, weightsOf, marksOf, Weighed}
 
 -- a power of 4 is a power of 2 with twice the exponent
 even-power : (j : ℕ) → 2 ^ (j + j) ≡ 4 ^ j
@@ -86,11 +86,11 @@ module _ (row a : List ℕ) (c : List ℤ) where
   marked-other size r e t marks v = sym (ap (λ (b : Bool). isMarked marks v || (b && mentions v c)) (sym e ∙ t) ∙ or-false (isMarked marks v))
 
   -- what weighing it does: a satisfied clause changes nothing
-  pub weighed-satisfied : satisfied a c ≡ true → (size : Option ℕ) (weights marks : List ℕ) → Weighed row a size c weights marks weights marks
-  weighed-satisfied s size weights marks =
+  pub weighed-satisfied : satisfied a c ≡ true → (size : Option ℕ) (weights : List ℕ) → Weighed row a size c weights weights
+  weighed-satisfied s size weights =
       record {
         sums = λ i. omega (arith, nothing (any (isAt i) c));
-        marked = marked-other size (isSource row a size c) refl (satisfied-source s size) marks;
+        marked = marked-other size (isSource row a size c) refl (satisfied-source s size) (marksOf (length a) weights);
       }
     where
       nothing : (b : Bool) → cond b (clauseWeight a c) 0 ≡ 0
@@ -102,10 +102,10 @@ module _ (row a : List ℕ) (c : List ℤ) where
   satisfied-unopposed s = ap (λ (b : Bool). not b && all (assignedOrAgainst row a) c) s
 
   -- an open one adds its weight, and its marks if it gives candidates
-  pub weighed-open : (k w : ℕ) → satisfied a c ≡ false → unassignedIn a c ≡ k → w ≡ 4 ^ (10 - min k 10) → (size : Option ℕ) (weights marks weights′ marks′ : List ℕ)
-      → ((i : ℕ) → getD weights′ i 0 ≡ getD weights i 0 + cond (any (isAt i) c) w 0)
-      → ((v : ℕ) → isMarked marks′ v ≡ isMarked marks v || offers row a size v c)
-      → Weighed row a size c weights marks weights′ marks′
-  weighed-open k w s e q size weights marks weights′ marks′ h g =
+  pub weighed-open : (k w : ℕ) → satisfied a c ≡ false → unassignedIn a c ≡ k → w ≡ 4 ^ (10 - min k 10) → (size : Option ℕ) (weights weights′ : List ℕ)
+      → ((i : ℕ) → getD (weightsOf (length a) weights′) i 0 ≡ getD (weightsOf (length a) weights) i 0 + cond (any (isAt i) c) w 0)
+      → ((v : ℕ) → isMarked (marksOf (length a) weights′) v ≡ isMarked (marksOf (length a) weights) v || offers row a size v c)
+      → Weighed row a size c weights weights′
+  weighed-open k w s e q size weights weights′ h g =
       let weighs : w ≡ clauseWeight a c = q ∙ sym (open-weight a c k s e) in
-      record { sums = λ i. h i ∙ ap (λ (j : ℕ). getD weights i 0 + cond (any (isAt i) c) j 0) weighs; marked = g }
+      record { sums = λ i. h i ∙ ap (λ (j : ℕ). getD (weightsOf (length a) weights) i 0 + cond (any (isAt i) c) j 0) weighs; marked = g }

@@ -1,4 +1,5 @@
 pub mod ClauseLaws
 pub mod Laws
 pub mod ListLaws
+pub mod PartLaws
 pub mod Weights

@@ -3,22 +3,21 @@ use mathlib.Core.Path.{_≡_, refl, sym, ap, _∙_}
 use mathlib.Core.Bool.{Bool, true, false, _&&_, _||_, true≢false, and-false, or-false, or-assoc, and-eq-true-iff}
 use mathlib.Core.List.{List, [], _∷_}
 use mathlib.Core.Option.{Option}
-use Prim.Native.Nat.{ℕ, zero, suc, _+_, _≤_, _<_}
+use Prim.Native.Nat.{ℕ, zero, suc, _+_, _*_, _≤_, _<_}
 use native.Mathlib.Nat.{not-suc-le-zero, le-of-suc-le-suc}
 use native.Mathlib.Numerals.{add-one}
 use native.Mathlib.Omega.{arith}
 use lib.Dec.{ltb, leb}
 use lib.IntN.{ℤ, pos}
-use lib.ListN.{length, getD, drop, drop-of-length-le}
-use lib.Seq.{drop-cons}
+use lib.ListN.{length, getD, take, drop, drop-of-length-le}
+use lib.Seq.{drop-cons, getD-drop}
 use borrow.Author.Tests.{leb-true, ne-eqb}
 use Rattle.literal.specs.Literal.{variable}
-use Rattle.literal.specs.Slots.{wanted-bit}
 use Rattle.formula.specs.Formula.{any, all, clauses}
 use Rattle.walk.specs.State.{hasVariable}
 use Rattle.walk.specs.Branching.{isOpposed, offers}
 use Rattle.witnesses.specs.Witnesses.{Witnesses}
-use Rattle.weighing.specs.Weights.{isMarked, weightAt, distinct, isClean, Weighable, Weighed, WeighableList, Totals}
+use Rattle.weighing.specs.Weights.{isMarked, weightAt, weightsOf, marksOf, distinct, isClean, Weighable, Weighed, WeighableList, Totals}
 use Rattle.weighing.specs.ClauseLaws.{weight-most}
 
 -- a test that every element passes, at an index
@@ -27,30 +26,34 @@ all-index z p [] k e h = absurd (not-suc-le-zero h)
 all-index z p (x ∷ l) zero e h = and-eq-true-iff (p x) (all p l) .0 e .0
 all-index z p (x ∷ l) (suc k) e h = all-index z p l k (and-eq-true-iff (p x) (all p l) .0 e .1) (le-of-suc-le-suc h)
 
+-- a part of a list of zeros
+take-zero : (m : ℕ) (l : List ℕ) → ((j : ℕ) → getD l j 0 ≡ 0) → (j : ℕ) → getD (take m l) j 0 ≡ 0
+take-zero zero l z j = refl
+take-zero (suc m) [] z j = refl
+take-zero (suc m) (x ∷ l) z zero = z 0
+take-zero (suc m) (x ∷ l) z (suc j) = take-zero m l (λ i. z (suc i)) j
+
 -- the first k clauses have been weighed; where the limit is spent, none of them makes a dead end
-pub record Weighing (row a : List ℕ) (size : Option ℕ) (spent : Bool) (list : List ℤ) (before beforeMarks witnesses weights marks : List ℕ) (k : ℕ) : Type 0 where
+pub record Weighing (row a : List ℕ) (size : Option ℕ) (spent : Bool) (list : List ℤ) (before witnesses weights : List ℕ) (k : ℕ) : Type 0 where
   pub wide : length weights ≡ length before
-  pub long : length marks ≡ length beforeMarks
   pub known : Witnesses list witnesses
   pub alive : spent && any (isOpposed row a) (clauses list) ≡ spent && any (isOpposed row a) (drop k (clauses list))
-  pub sums : (j : ℕ) → getD weights j 0 + weightAt a j (drop k (clauses list)) ≡ weightAt a j (clauses list)
-  pub marked : (v : ℕ) → isMarked marks v || any (offers row a size v) (drop k (clauses list)) ≡ any (offers row a size v) (clauses list)
+  pub sums : (j : ℕ) → getD (weightsOf (length a) weights) j 0 + weightAt a j (drop k (clauses list)) ≡ weightAt a j (clauses list)
+  pub marked : (v : ℕ) → isMarked (marksOf (length a) weights) v || any (offers row a size v) (drop k (clauses list)) ≡ any (offers row a size v) (clauses list)
 
-module _ (n : ℕ) (row a : List ℕ) (size : Option ℕ) (spent : Bool) (list : List ℤ) (before beforeMarks : List ℕ) (weighable : WeighableList n list before beforeMarks) where
+module _ (row a : List ℕ) (size : Option ℕ) (spent : Bool) (list : List ℤ) (before : List ℕ) (weighable : WeighableList (length a) list before) where
   -- nothing has been weighed
-  pub weighing-start : (witnesses weights marks : List ℕ) → Witnesses list witnesses → length weights ≡ length before → length marks ≡ length beforeMarks
-      → ((j : ℕ) → getD weights j 0 ≡ 0) → ((v : ℕ) → getD marks v 0 ≡ 0) → Weighing row a size spent list before beforeMarks witnesses weights marks 0
-  weighing-start witnesses weights marks t p q z w =
+  pub weighing-start : (witnesses weights : List ℕ) → Witnesses list witnesses → length weights ≡ length before → ((j : ℕ) → getD weights j 0 ≡ 0) → Weighing row a size spent list before witnesses weights 0
+  weighing-start witnesses weights t p z =
       record {
         wide = p;
-        long = q;
         known = t;
         alive = refl;
-        sums = λ j. omega (arith, z j);
-        marked = λ v. ap (λ (b : Bool). b || any (offers row a size v) (clauses list)) (ne-eqb (getD marks v 0) 1 (λ e. omega (arith, w v)));
+        sums = λ j. omega (arith, take-zero (2 * length a + 2) weights z j);
+        marked = λ v. ap (λ (b : Bool). b || any (offers row a size v) (clauses list)) (ne-eqb (getD (marksOf (length a) weights) v 0) 1 (λ e. omega (arith, e, getD-drop (2 * length a + 2) weights v 0, z (2 * length a + 2 + v))));
       }
 
-  module _ (witnesses weights marks : List ℕ) (k : ℕ) (s : Weighing row a size spent list before beforeMarks witnesses weights marks k) where
+  module _ (witnesses weights : List ℕ) (k : ℕ) (s : Weighing row a size spent list before witnesses weights k) where
     module _ (h : k < length (clauses list)) where
       abbrev c : List ℤ
       c = getD (clauses list) k []
@@ -62,36 +65,34 @@ module _ (n : ℕ) (row a : List ℕ) (size : Option ℕ) (spent : Bool) (list :
       split = rw (drop-cons (clauses list) k [] h, add-one k)
 
       -- the next clause can be weighed
-      pub weighing-clause : Weighable c weights marks
+      pub weighing-clause : Weighable (length a) c weights
       weighing-clause =
-          let good = and-eq-true-iff (all (hasVariable n) c) (distinct c) .0 (all-index [] (isClean n) (clauses list) k (weighable .clean) h) in
+          let good = and-eq-true-iff (all (hasVariable (length a)) c) (distinct c) .0 (all-index [] (isClean (length a)) (clauses list) k (weighable .clean) h) in
           record {
-            slots = λ i l. omega (arith, inside i (good .0) l, wanted-bit (getD c i (pos 0)), s .wide, weighable .slots);
-            places = λ i l. omega (arith, inside i (good .0) l, s .long, weighable .places);
+            wide = omega (arith, s .wide, weighable .wide);
+            within = λ i l. inside i (good .0) l;
             once = good .1;
             fits = λ j. omega (arith, s .sums j, weight-most a j (clauses list), weighable .few);
           }
         where
-          inside : (i : ℕ) → all (hasVariable n) c ≡ true → i < length c → variable (getD c i (pos 0)) ≤ n
+          inside : (i : ℕ) → all (hasVariable (length a)) c ≡ true → i < length c → variable (getD c i (pos 0)) ≤ length a
           inside i good l =
               let x : ℤ = getD c i (pos 0) in
-              leb-true (variable x) n (and-eq-true-iff (ltb 0 (variable x)) (leb (variable x) n) .0 (all-index (pos 0) (hasVariable n) c i good l) .1)
+              leb-true (variable x) (length a) (and-eq-true-iff (ltb 0 (variable x)) (leb (variable x) (length a)) .0 (all-index (pos 0) (hasVariable (length a)) c i good l) .1)
 
       -- and then it has been
-      pub weighing-next : (witnesses′ weights′ marks′ : List ℕ) → Witnesses list witnesses′ → length weights′ ≡ length weights → length marks′ ≡ length marks
-          → spent && isOpposed row a c ≡ false → Weighed row a size c weights marks weights′ marks′
-          → Weighing row a size spent list before beforeMarks witnesses′ weights′ marks′ (k + 1)
-      weighing-next witnesses′ weights′ marks′ t p r u w =
+      pub weighing-next : (witnesses′ weights′ : List ℕ) → Witnesses list witnesses′ → length weights′ ≡ length weights → spent && isOpposed row a c ≡ false → Weighed row a size c weights weights′
+          → Weighing row a size spent list before witnesses′ weights′ (k + 1)
+      weighing-next witnesses′ weights′ t p u w =
           record {
             wide = p ∙ s .wide;
-            long = r ∙ s .long;
             known = t;
             alive = s .alive ∙ ap (λ (g : List (List ℤ)). spent && any (isOpposed row a) g) split ∙ passed spent (isOpposed row a c) (any (isOpposed row a) f) u;
             sums = λ j. omega (arith, w .sums j, s .sums j, ap (weightAt a j) split);
             marked = λ v.
                 ap (λ (b : Bool). b || any (offers row a size v) f) (w .marked v)
-                ∙ or-assoc (isMarked marks v) (offers row a size v c) (any (offers row a size v) f)
-                ∙ sym (ap (λ (g : List (List ℤ)). isMarked marks v || any (offers row a size v) g) split)
+                ∙ or-assoc (isMarked (marksOf (length a) weights) v) (offers row a size v c) (any (offers row a size v) f)
+                ∙ sym (ap (λ (g : List (List ℤ)). isMarked (marksOf (length a) weights) v || any (offers row a size v) g) split)
                 ∙ s .marked v;
           }
         where
@@ -114,15 +115,13 @@ module _ (n : ℕ) (row a : List ℕ) (size : Option ℕ) (spent : Bool) (list :
       pub weighing-alive : spent && any (isOpposed row a) (clauses list) ≡ false
       weighing-alive = s .alive ∙ ap (λ (g : List (List ℤ)). spent && any (isOpposed row a) g) (drop-of-length-le (clauses list) h) ∙ and-false spent
 
-      pub weighing-end : Totals row a size (clauses list) weights marks
+      pub weighing-end : Totals row a size (clauses list) weights
       weighing-end =
           record {
             sums = λ j. omega (arith, s .sums j, ap (weightAt a j) (drop-of-length-le (clauses list) h));
-            marked = λ v. sym (or-false (isMarked marks v)) ∙ sym (ap (λ (g : List (List ℤ)). isMarked marks v || any (offers row a size v) g) (drop-of-length-le (clauses list) h)) ∙ s .marked v;
+            marked = λ v. sym (or-false (isMarked (marksOf (length a) weights) v)) ∙ sym (ap (λ (g : List (List ℤ)). isMarked (marksOf (length a) weights) v || any (offers row a size v) g) (drop-of-length-le (clauses list) h)) ∙ s .marked v;
           }
 
--- only the lengths matter
-pub weighable-kept : (n : ℕ) (list : List ℤ) (weights marks weights′ marks′ : List ℕ) → WeighableList n list weights marks → length weights′ ≡ length weights → length marks′ ≡ length marks
-    → WeighableList n list weights′ marks′
-weighable-kept n list weights marks weights′ marks′ r p q =
-    record { clean = r .clean; few = r .few; slots = omega (arith, r .slots); places = omega (arith, r .places) }
+-- only the length matters
+pub weighable-kept : (n : ℕ) (list : List ℤ) (weights weights′ : List ℕ) → WeighableList n list weights → length weights′ ≡ length weights → WeighableList n list weights′
+weighable-kept n list weights weights′ r p = record { clean = r .clean; few = r .few; wide = omega (arith, r .wide) }

@@ -5,6 +5,7 @@ use opposed::Fewest;
 ghost use mathlib.Core.Path.{_≡_};
 ghost use mathlib.Core.Bool.{false};
 ghost use Prim.Native.Nat.{_-_, _^_, min};
+ghost use lib.ListN.{length};
 ghost use Rattle.formula.specs.Formula.{satisfied};
 ghost use Rattle.walk.specs.State.{unassignedIn};
 ghost use Rattle.walk.specs.Branching.{isSource};
@@ -46,14 +47,14 @@ pub fn weigh_clause(
     assignment: &[u8],
     fewest: Fewest,
     weights: &mut [u64],
-    marks: &mut [u64],
 )
     requires { ⌜ (satisfied (now assignment) (now clause) ≡ false) × (unassignedIn (now assignment) (now clause) ≡ count) ⌝ }
-    requires { ⌜ Weighable (now clause) (now weights) (now marks) ⌝ }
-    ensures { λ _. ⌜ Weighed (now (row .entry)) (now (assignment .entry)) (sizeOf fewest) (now (clause .entry)) (now (weights .entry)) (now (marks .entry)) (now (weights .exit)) (now (marks .exit)) ⌝ }
+    requires { ⌜ Weighable (length (now assignment)) (now clause) (now weights) ⌝ }
+    ensures { λ _. ⌜ Weighed (now (row .entry)) (now (assignment .entry)) (sizeOf fewest) (now (clause .entry)) (now (weights .entry)) (now (weights .exit)) ⌝ }
 {
-    add_weight(clause, clause_weight(count), &mut *weights);
+    let literals = 2 * assignment.len() + 2;
+    add_weight(clause, clause_weight(count), &mut weights[..literals]);
     if is_source(clause, count, row, assignment, fewest) {
-        mark_variables(clause, &mut *marks);
+        mark_variables(clause, &mut weights[literals..]);
     }
 }

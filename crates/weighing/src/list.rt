@@ -10,6 +10,7 @@ ghost use mathlib.Core.List.{[]};
 ghost use Prim.Native.Nat.{_-_, _≤_, _<_};
 ghost use lib.ListN.{length, getD};
 ghost use Rattle.formula.specs.Formula.{any, clauses};
+ghost use Rattle.occurrences.specs.Layout.{beginsOf};
 ghost use Rattle.occurrences.specs.Table.{Located};
 ghost use Rattle.walk.specs.Branching.{isOpposed};
 ghost use Rattle.witnesses.specs.Witnesses.{Witnesses};
@@ -31,7 +32,7 @@ fn exhausts(spent: bool, clause: &[i32], row: &[u8], assignment: &[u8]) -> bool
 // another literal does, that is its witness from now on.
 fn weigh_at(
     list: &[i32],
-    begins: &[u16],
+    arrangement: &[u16],
     number: Clause,
     row: &[u8],
     assignment: &[u8],
@@ -39,22 +40,20 @@ fn weigh_at(
     spent: bool,
     witnesses: &mut [u16],
     weights: &mut [u64],
-    marks: &mut [u64],
 ) -> bool
-    requires { ⌜ Located (now list) (now begins) × Witnesses (now list) (now witnesses) × (0 < number .0) × (number .0 ≤ length (clauses (now list))) ⌝ }
-    requires { ⌜ Weighable (getD (clauses (now list)) (number .0 - 1) []) (now weights) (now marks) ⌝ }
+    requires { ⌜ Located (now list) (beginsOf (now arrangement)) × Witnesses (now list) (now witnesses) × (0 < number .0) × (number .0 ≤ length (clauses (now list))) ⌝ }
+    requires { ⌜ Weighable (length (now assignment)) (getD (clauses (now list)) (number .0 - 1) []) (now weights) ⌝ }
     ensures witness { λ r. ⌜ Witnesses (now (list .entry)) (now (witnesses .exit)) ⌝ }
     ensures dead { λ r. ⌜ r ≡ spent && isOpposed (now (row .entry)) (now (assignment .entry)) (getD (clauses (now (list .entry))) (number .0 - 1) []) ⌝ }
-    ensures weighed { λ r. ⌜ (r ≡ false → Weighed (now (row .entry)) (now (assignment .entry)) (sizeOf fewest) (getD (clauses (now (list .entry))) (number .0 - 1) []) (now (weights .entry)) (now (marks .entry)) (now (weights .exit)) (now (marks .exit))) ⌝ }
+    ensures weighed { λ r. ⌜ (r ≡ false → Weighed (now (row .entry)) (now (assignment .entry)) (sizeOf fewest) (getD (clauses (now (list .entry))) (number .0 - 1) []) (now (weights .entry)) (now (weights .exit))) ⌝ }
 {
     if witnesses::is_witnessed(list, witnesses, number, assignment) {
         return false;
     }
-    let k = number.0 - 1;
-    let from = begins[k] as usize;
+    let from = occurrences::begin_of(arrangement, number);
     match clause_standing::read_clause(list, from, assignment) {
         ReadClause::Satisfied(at) => {
-            witnesses[k] = at as u16;
+            witnesses[number.0 - 1] = at as u16;
             false
         }
         ReadClause::Open(end, count) => {
@@ -62,15 +61,7 @@ fn weigh_at(
             if exhausts(spent, clause, row, assignment) {
                 return true;
             }
-            weigh_clause(
-                clause,
-                count,
-                row,
-                assignment,
-                fewest,
-                &mut *weights,
-                &mut *marks,
-            );
+            weigh_clause(clause, count, row, assignment, fewest, &mut *weights);
             false
         }
     }
@@ -80,28 +71,26 @@ fn weigh_at(
 // that makes a dead end, and tells so; the weights and marks then say nothing.
 pub fn weigh_list(
     list: &[i32],
-    begins: &[u16],
+    arrangement: &[u16],
     row: &[u8],
     assignment: &[u8],
     fewest: Fewest,
     spent: bool,
     witnesses: &mut [u16],
     weights: &mut [u64],
-    marks: &mut [u64],
 ) -> bool
-    requires { ⌜ WeighableList (length (now assignment)) (now list) (now weights) (now marks) ⌝ }
-    requires { ⌜ Located (now list) (now begins) × Witnesses (now list) (now witnesses) ⌝ }
+    requires { ⌜ WeighableList (length (now assignment)) (now list) (now weights) ⌝ }
+    requires { ⌜ Located (now list) (beginsOf (now arrangement)) × Witnesses (now list) (now witnesses) ⌝ }
     ensures witness { λ r. ⌜ Witnesses (now (list .entry)) (now (witnesses .exit)) ⌝ }
     ensures dead { λ r. ⌜ r ≡ spent && any (isOpposed (now (row .entry)) (now (assignment .entry))) (clauses (now (list .entry))) ⌝ }
-    ensures weighed { λ r. ⌜ (r ≡ false → Totals (now (row .entry)) (now (assignment .entry)) (sizeOf fewest) (clauses (now (list .entry))) (now (weights .exit)) (now (marks .exit))) ⌝ }
+    ensures weighed { λ r. ⌜ (r ≡ false → Totals (now (row .entry)) (now (assignment .entry)) (sizeOf fewest) (clauses (now (list .entry))) (now (weights .exit))) ⌝ }
 {
     clear(&mut *weights);
-    clear(&mut *marks);
     let mut k = 0;
     while k < witnesses.len() {
         if weigh_at(
             list,
-            begins,
+            arrangement,
             Clause(k + 1),
             row,
             assignment,
@@ -109,7 +98,6 @@ pub fn weigh_list(
             spent,
             &mut *witnesses,
             &mut *weights,
-            &mut *marks,
         ) {
             return true;
         }

@@ -15,7 +15,7 @@ pub fn search(n: usize, rules: &[i32], row: &[u8], d: usize, choice: &mut [u8]) 
     let admitted = admission::admit_wishes(n, rules, row, d);
     match admission_steps::with_room(admitted, n, choice.len()) {
         Admission::Refused(r) => Searched::Refused(r),
-        Admission::Admitted(_) => walk_result::answer_of(root_walk::walk_into(
+        Admission::Admitted(_) => search_state::answer_of(root_walk::walk_into(
             n,
             rules,
             row,

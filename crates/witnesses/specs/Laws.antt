@@ -1,12 +1,12 @@
 -- The first literals are witnesses, and so is any literal that is read in its clause.
 use mathlib.Core.Path.{_≡_, sym, ap, _∙_}
 use mathlib.Core.Bool.{Bool, true, false}
-use mathlib.Core.List.{List, [], _++_}
+use mathlib.Core.List.{List, []}
 use Prim.Native.Nat.{ℕ, _+_, _-_, _≤_, _<_}
 use native.Mathlib.Decide.{ℕ-discrete}
 use native.Mathlib.Omega.{arith}
 use lib.IntN.{ℤ, pos}
-use lib.ListN.{length, getD, drop, set, take, length-set, length-drop, List·getD-append}
+use lib.ListN.{length, getD, drop, set, take, length-set, length-drop}
 use lib.Seq.{getD-set-same, getD-set-other, getD-take, getD-drop, length-take-le}
 use borrow.Author.Tests.{eqb-true}
 use Rattle.literal.specs.Literal.{variable, wanted, value, closes, holds}
@@ -15,7 +15,9 @@ use Rattle.formula.specs.Formula.{clauses, clauseLength, satisfied}
 use Rattle.formula.specs.Laws.{length-literal, end-inside}
 use Rattle.choices.specs.Lists.{member-at, any-at}
 use Rattle.clause_standing.specs.Clause.{clauseAt}
-use Rattle.occurrences.specs.Table.{Located, Arranged, begins-inside, begins-clause, clause-count}
+use Rattle.occurrences.specs.Layout.{beginsOf}
+use Rattle.occurrences.specs.Reading.{beside-located, count-read}
+use Rattle.occurrences.specs.Table.{Located, Beside, begins-inside, begins-clause}
 use Rattle.witnesses.specs.Witnesses.{Witnesses}
 
 -- a literal of the clause that begins at `from`, which stands at an index of the list
@@ -57,16 +59,13 @@ first-witnesses {list} {begins} h m n =
     same : (k : ℕ) → k < length (clauses list) → getD (take m begins) k 0 ≡ getD begins k 0
     same k l = getD-take m begins k 0 (omega arith)
 
--- of an arrangement whose ends stand at the front of a space: the clauses' number is read there
-module _ {list : List ℤ} {ends numbers begins : List ℕ} (h : Arranged list ends numbers begins) (wide : 1 < length ends) (rest : List ℕ) where
-  pub count-read : getD (ends ++ rest) 1 0 ≡ length (clauses list)
-  count-read = List·getD-append ends rest 0 1 wide ∙ clause-count h wide
+-- so the begins in an arrangement, as many as there are clauses, are witnesses
+module _ {n : ℕ} {list : List ℤ} {t : List ℕ} (h : Beside n list t) where
+  pub count-inside : getD t 1 0 ≤ length (beginsOf t)
+  count-inside = omega (arith, count-read h, beside-located h .many)
 
-  pub count-inside : getD (ends ++ rest) 1 0 ≤ length begins
-  count-inside = omega (arith, count-read, h .located .many)
-
-  pub count-witnesses : Witnesses list (take (getD (ends ++ rest) 1 0) begins)
-  count-witnesses = first-witnesses (h .located) (getD (ends ++ rest) 1 0) count-read
+  pub count-witnesses : Witnesses list (take (getD t 1 0) (beginsOf t))
+  count-witnesses = first-witnesses (beside-located h) (getD t 1 0) (count-read h)
 
 -- and a literal of clause k, read from where that begins, may be its witness
 pub new-witness : {list : List ℤ} {begins witnesses : List ℕ} → Located list begins → Witnesses list witnesses → (k at : ℕ) → k < length (clauses list)

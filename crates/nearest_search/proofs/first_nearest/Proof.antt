@@ -1,166 +1,176 @@
--- `nearest_search::first_nearest` meets its contract: the arrangement is made in its own space.
-use mathlib.Core.Path.{_≡_, sym, ap, subst, _∙_}
-use mathlib.Core.List.{List, _++_}
-use Prim.Native.Nat.{ℕ, _+_, _*_, _≤_, _<_}
+-- `nearest_search::first_nearest` meets its contract: the tables are as long as they should be.
+use mathlib.Core.Path.{_≡_, sym, subst, _∙_}
+use mathlib.Core.List.{List}
+use mathlib.Core.Option.{none}
+use Prim.Native.Nat.{ℕ, _+_, _*_}
 use native.Mathlib.Omega.{arith}
-use lib.ListN.{length, getD, take, drop, length-append}
-use lib.Seq.{length-take-le, take-at}
+use lib.ListN.{length, take}
+use lib.Seq.{length-take-le}
+use Rattle.searches.specs.Answers.{searchedOf}
+use Rattle.searches.specs.Searches.{brokenBy, choiceAfter, nearestAnswer}
+use Rattle.search_state.specs.ReadyLaws.{prepared-ready, ready-still}
 use borrow.Author.Needs.{needs}
-use Rattle.occurrences.specs.KeyLaws.{list-short}
-use Rattle.soundness.specs.Soundness.{sound}
-use Rattle.occurrences.specs.Table.{Beside}
-use Rattle.witnesses.specs.Laws.{count-read, count-inside, count-witnesses}
 use Rattle.nearest_search.proofs.first_nearest.Statement.{statement}
 use Rattle.nearest_search.proofs.first_nearest.Tie as tie
 
--- the space is there: what is lent of the ends for n variables is as long as it should be
-module _ (c : tie.After-no-begins) where
-  abbrev call : tie.Start
-  call = c .before .before .before .before .before
+-- Points of the program: the entry, and the tables as they are made, from where all is prepared; that, from the slices that are lent, from the call that searches and after it; after it, from the end.
+abbrev entry : tie.After-prepare → tie.Start
+entry c = c .before .before .before .before .before .before .before .before .before .before
 
-  abbrev literals : ℕ
-  literals = 2 * call .args .n + 2
+abbrev values : tie.After-prepare → tie.After-no-values
+values c = c .before .before .before .before .before
 
-  abbrev ends-space : List ℕ
-  ends-space = c .before .before .no-ends .result
+abbrev trail : tie.After-prepare → tie.After-no-trail
+trail c = c .before .before .before .before
 
-  ends-long : length (take literals ends-space) ≡ literals
-  ends-long = length-take-le literals ends-space (omega (arith, call .pre .0 .few, c .before .before .no-ends .ensures))
+abbrev weights : tie.After-prepare → tie.After-no-weights
+weights c = c .before .before .before
 
--- after the clauses are arranged
-module _ (c : tie.After-arrange) where
-  abbrev space : tie.After-no-begins
-  space = c .before .before .before .before
+abbrev with-a : tie.After-a → tie.After-prepare
+with-a c = c .before .before .before .before
 
-  abbrev ends : List ℕ
-  ends = c .arrange .last .1 .1 .0
+abbrev with-trail : tie.After-trail → tie.After-prepare
+with-trail c = c .before .before .before .before .before
 
-  made-long : length ends ≡ literals space
-  made-long = c .arrange .kept .1 .1 .0 ∙ ends-long space
+abbrev with-witnesses : tie.After-witnesses3 → tie.After-prepare
+with-witnesses c = c .before .before .before .before .before .before
 
-  front : take (literals space) (ends ++ drop (literals space) (ends-space space)) ≡ ends
-  front = take-at ends (drop (literals space) (ends-space space)) (literals space) made-long
+abbrev with-weights : tie.After-weights → tie.After-prepare
+with-weights c = c .before .before .before .before .before .before .before
 
-  -- the clauses' number is read from the ends as they lie in their space
-  abbrev count : ℕ
-  count = getD (ends ++ drop (literals space) (ends-space space)) 1 0
+abbrev searching : tie.After-nearest-with-arg → tie.After-prepare
+searching c = c .before .before .before .before .before .before .before .before
 
-  wide : 1 < length ends
-  wide = omega (arith, made-long)
+abbrev prepared : tie.After-nearest-with → tie.After-prepare
+prepared c = c .before .before .before .before .before .before .before .before .before
 
-  inside : count ≤ length (c .arrange .last .1 .1 .1 .1 .0)
-  inside = count-inside (c .arrange .ensures) wide (drop (literals space) (ends-space space))
+abbrev searched : tie.After-slice-known2 → tie.After-nearest-with
+searched c = c .before .before .before .before .before .before
 
-no-ends-requires : tie.Need-no-ends-requires
-no-ends-requires c κs = search needs
+-- what is left of `witnesses`
+abbrev first-witnesses : tie.After-prepare → List ℕ
+first-witnesses c = c .prepare .last .1 .1 .1 .0
 
-no-numbers-requires : tie.Need-no-numbers-requires
-no-numbers-requires c κs = search needs
+-- what is left of `choice`
+abbrev written : tie.After-nearest-with → List ℕ
+written c = c .nearest-with .last .1 .1 .1 .1 .1 .1 .1 .1 .0
 
-no-begins-requires : tie.Need-no-begins-requires
-no-begins-requires c κs = search needs
+-- what is lent for n variables is as long as it should be
+module _ (c : tie.After-prepare) where
+  abbrev n : ℕ
+  n = entry c .args .n
 
-mul-literals : tie.Need-mul-literals
-mul-literals c = search needs
+  a-long : length (take n (values c .no-values .result)) ≡ n
+  a-long = length-take-le n (values c .no-values .result) (omega (arith, entry c .pre .0 .few, values c .no-values .ensures))
 
-add-literals : tie.Need-add-literals
-add-literals c = search needs
+  trail-long : length (take n (trail c .no-trail .result)) ≡ n
+  trail-long = length-take-le n (trail c .no-trail .result) (omega (arith, entry c .pre .0 .few, trail c .no-trail .ensures))
 
-array-borrow-prefix-ends : tie.Need-array-borrow-prefix-ends
-array-borrow-prefix-ends c = search needs
+  witnesses-long : length (take (c .prepare .result) (first-witnesses c)) ≡ c .prepare .result
+  witnesses-long = length-take-le (c .prepare .result) (first-witnesses c) (c .prepare .ensures .inside)
 
-slice-aggregate-arrange : tie.Need-slice-aggregate-arrange
-slice-aggregate-arrange c = sym (ends-long (c .before))
+  weights-long : length (take (3 * n + 3) (weights c .no-weights .result)) ≡ 3 * n + 3
+  weights-long = length-take-le (3 * n + 3) (weights c .no-weights .result) (omega (arith, entry c .pre .0 .few, weights c .no-weights .ensures))
 
-slice-aggregate-arrange-2 : tie.Need-slice-aggregate-arrange-2
-slice-aggregate-arrange-2 c = search needs
+no-arrangement-requires : tie.Need-no-arrangement-requires
+no-arrangement-requires c κs = search needs
 
-slice-aggregate-arrange-3 : tie.Need-slice-aggregate-arrange-3
-slice-aggregate-arrange-3 c = search needs
+no-witnesses-requires : tie.Need-no-witnesses-requires
+no-witnesses-requires c κs = search needs
 
-arrange-requires : tie.Need-arrange-requires
-arrange-requires c κs =
-    let space = c .before .before .before in
-    let given = call space in (
-      (given .pre .0 .sound, ends-long space),
-      (
-        omega (arith, list-short (given .args .n) (given .args .rules .now) (given .pre .0 .sound), space .before .no-numbers .ensures),
-        omega (arith, sound (given .args .n) (given .args .rules .now) (given .pre .0 .sound) .few, space .no-begins .ensures),
-      ),
-    )
+no-values-requires : tie.Need-no-values-requires
+no-values-requires c κs = search needs
 
-array-read-many : tie.Need-array-read-many
-array-read-many c = search needs
+no-trail-requires : tie.Need-no-trail-requires
+no-trail-requires c κs = search needs
 
-cast-many : tie.Need-cast-many
-cast-many c =
-    let arranged = c .before .before .before in
-    let given = call (space arranged) in
-    record { fits = omega (arith, count-read (arranged .arrange .ensures) (wide arranged) (drop (literals (space arranged)) (ends-space (space arranged))), sound (given .args .n) (given .args .rules .now) (given .pre .0 .sound) .few) }
+no-weights-requires : tie.Need-no-weights-requires
+no-weights-requires c κs = search needs
 
-array-share-prefix-ends : tie.Need-array-share-prefix-ends
-array-share-prefix-ends c =
-    let arranged = c .before .before .before in
-    omega (arith, length-append (ends arranged) (drop (literals (space arranged)) (ends-space (space arranged))), made-long arranged)
+slice-aggregate-prepare : tie.Need-slice-aggregate-prepare
+slice-aggregate-prepare c = search needs
+
+slice-aggregate-prepare-2 : tie.Need-slice-aggregate-prepare-2
+slice-aggregate-prepare-2 c = search needs
+
+prepare-requires : tie.Need-prepare-requires
+prepare-requires c κs = search needs
+
+mul-places : tie.Need-mul-places
+mul-places c = search needs
+
+add-places : tie.Need-add-places
+add-places c = search needs
 
 slice-aggregate-nearest-with : tie.Need-slice-aggregate-nearest-with
-slice-aggregate-nearest-with c =
-    let arranged = c .before .before .before .before in
-    sym (ap length (front arranged) ∙ made-long arranged)
+slice-aggregate-nearest-with c = search needs
+
+array-borrow-prefix-a : tie.Need-array-borrow-prefix-a
+array-borrow-prefix-a c = search needs
 
 slice-aggregate-nearest-with-2 : tie.Need-slice-aggregate-nearest-with-2
-slice-aggregate-nearest-with-2 c = search needs
+slice-aggregate-nearest-with-2 c = sym (a-long (with-a c))
+
+array-borrow-prefix-trail : tie.Need-array-borrow-prefix-trail
+array-borrow-prefix-trail c = search needs
 
 slice-aggregate-nearest-with-3 : tie.Need-slice-aggregate-nearest-with-3
-slice-aggregate-nearest-with-3 c = search needs
+slice-aggregate-nearest-with-3 c = sym (trail-long (with-trail c))
 
 array-borrow-prefix-witnesses : tie.Need-array-borrow-prefix-witnesses
-array-borrow-prefix-witnesses c = inside (c .before .before .before .before .before .before)
+array-borrow-prefix-witnesses c = search needs
 
 slice-aggregate-nearest-with-4 : tie.Need-slice-aggregate-nearest-with-4
-slice-aggregate-nearest-with-4 c =
-    let arranged = c .before .before .before .before .before .before .before in
-    sym (length-take-le (count arranged) (arranged .arrange .last .1 .1 .1 .1 .0) (inside arranged))
+slice-aggregate-nearest-with-4 c = sym (witnesses-long (with-witnesses c))
+
+array-borrow-prefix-weights : tie.Need-array-borrow-prefix-weights
+array-borrow-prefix-weights c = search needs
+
+slice-aggregate-nearest-with-5 : tie.Need-slice-aggregate-nearest-with-5
+slice-aggregate-nearest-with-5 c = sym (weights-long (with-weights c))
 
 nearest-with-requires : tie.Need-nearest-with-requires
 nearest-with-requires c κs =
-    let arranged = c .before .before .before .before .before .before .before .before in
-    let given = call (space arranged) in (
-      given .pre .0,
-      given .pre .1,
-      subst (λ (l : List ℕ). Beside (given .args .n) (given .args .rules .now) l (arranged .arrange .last .1 .1 .1 .0) (arranged .arrange .last .1 .1 .1 .1 .0)) (sym (front arranged))
-          (record { arranged = arranged .arrange .ensures; wide = omega (arith, made-long arranged) }),
-      count-witnesses (arranged .arrange .ensures) (wide arranged) (drop (literals (space arranged)) (ends-space (space arranged))),
-    )
+    let at = searching c in
+    let given = entry at .pre in
+    let ready = prepared-ready {weights = 3 * n at + 3} (given .0) (at .prepare .ensures) (omega arith) in
+    ((trail-long at ∙ sym (a-long at), ready-still (a-long at) (ready .witnessed) (weights-long at) ready), (omega (arith, a-long at, given .0 .wide), given .1))
 
 same-length : tie.Need-same-length
 same-length c = search needs
 
 returns : tie.Need-returns
-returns c = search needs
+returns c =
+    let end = searched c in
+    let args = entry (prepared end) .args in
+    let said = end .nearest-with .ensures in (
+      subst (λ (k : ℕ). end .nearest-with .result ≡ searchedOf (brokenBy (nearestAnswer k (args .rules .now) (args .row .now)))) (a-long (prepared end)) (said .0),
+      subst (λ (k : ℕ). written end ≡ choiceAfter none (nearestAnswer k (args .rules .now) (args .row .now)) k (args .choice .now)) (a-long (prepared end)) (said .1),
+    )
 
 pub first-nearest-spec : {M : Type 1} → statement M
 first-nearest-spec =
     tie.close
     (tie.spec
-    no-ends-requires
-    no-numbers-requires
-    no-begins-requires
-    mul-literals
-    add-literals
-    array-borrow-prefix-ends
-    slice-aggregate-arrange
-    slice-aggregate-arrange-2
-    slice-aggregate-arrange-3
-    arrange-requires
-    array-read-many
-    cast-many
-    array-share-prefix-ends
+    no-arrangement-requires
+    no-witnesses-requires
+    no-values-requires
+    no-trail-requires
+    no-weights-requires
+    slice-aggregate-prepare
+    slice-aggregate-prepare-2
+    prepare-requires
+    mul-places
+    add-places
     slice-aggregate-nearest-with
+    array-borrow-prefix-a
     slice-aggregate-nearest-with-2
+    array-borrow-prefix-trail
     slice-aggregate-nearest-with-3
     array-borrow-prefix-witnesses
     slice-aggregate-nearest-with-4
+    array-borrow-prefix-weights
+    slice-aggregate-nearest-with-5
     nearest-with-requires
     same-length
     returns)

@@ -13,7 +13,7 @@ use Rattle.admission_steps.specs.Laws.{refused-by, admitted-by, started}
 use Rattle.searches.specs.Answers.{NearestMeans, refused-reply, refused-answer, given-answer, nearest-means}
 use Rattle.searches.specs.Meaning.{nearest-is}
 use Rattle.searches.specs.Searches.{lentToSearch, found, nearestAnswer}
-use Rattle.root_walk.specs.Into.{startable}
+use Rattle.search_state.specs.ReadyLaws.{startable}
 use borrow.Author.Needs.{needs}
 use Rattle.nearest_search.proofs.search.Statement.{statement}
 use Rattle.nearest_search.proofs.search.Tie as tie

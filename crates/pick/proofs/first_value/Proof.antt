@@ -8,6 +8,10 @@ use borrow.Author.Needs.{needs}
 use Rattle.pick.proofs.first_value.Statement.{statement}
 use Rattle.pick.proofs.first_value.Tie as tie
 
+-- Points of the program: the entry; the wish read.
+abbrev entry : tie.After-value-of → tie.Start
+entry c = c .before .before .before .before
+
 enum-told : tie.Need-enum-told
 enum-told c = search needs
 
@@ -25,7 +29,7 @@ returns c = search needs
 
 returns-2 : tie.Need-returns-2
 returns-2 c =
-    let args = c .before .before .before .before .before .args in
+    let args = entry (c .before) .args in
     c .unwished-value .ensures
     ∙ ap unwishedValue (c .before .value-of .ensures)
     ∙ sym (ap (λ (o : Fewest). firstValue (args .row .now) (sizeOf o) (args .v .0)) (c .before .before .enum-told2 .given .1))

@@ -14,7 +14,8 @@ use Rattle.admission_steps.specs.Laws.{refused-by, admitted-by, started}
 use Rattle.walk.specs.Walk.{walk, plainWalk}
 use Rattle.searches.specs.Answers.{PlainMeans, searchedOf, refused-answer, given-answer, plain-means}
 use Rattle.searches.specs.Searches.{lentToPlain, brokenBy}
-use Rattle.root_walk.specs.Into.{Reaches, startable}
+use Rattle.root_walk.specs.Into.{Reaches}
+use Rattle.search_state.specs.ReadyLaws.{startable}
 use borrow.Author.Needs.{needs}
 use Rattle.plain_search.proofs.search.Statement.{statement}
 use Rattle.plain_search.proofs.search.Tie as tie

@@ -11,7 +11,7 @@ use Rattle.admission_steps.specs.Laws.{refused-by, admitted-by, started}
 use Rattle.walk.specs.Walk.{walk}
 use Rattle.searches.specs.Answers.{SearchMeans, searchedOf, refused-answer, given-answer, search-means}
 use Rattle.searches.specs.Searches.{lentToSearch, brokenBy}
-use Rattle.root_walk.specs.Into.{startable}
+use Rattle.search_state.specs.ReadyLaws.{startable}
 use borrow.Author.Needs.{needs}
 use Rattle.wish_search.proofs.search.Statement.{statement}
 use Rattle.wish_search.proofs.search.Tie as tie

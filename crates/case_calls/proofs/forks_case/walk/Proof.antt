@@ -6,7 +6,7 @@ use Rattle.causes.specs.Admitted.{unrefused}
 use Rattle.causes.specs.Lent.{Lent, wishedProblem, withRoom, refusalOf}
 use Rattle.admission_steps.specs.Admission.{countsOf, start}
 use Rattle.admission_steps.specs.Laws.{admitted-by, started}
-use Rattle.root_walk.specs.Into.{startable}
+use Rattle.search_state.specs.ReadyLaws.{startable}
 use Rattle.case_calls.proofs.forks_case.walk.Statement.{statement}
 use Rattle.case_calls.proofs.forks_case.walk.Tie as tie
 

@@ -1,102 +1,143 @@
--- `core_root::bound::root_bound` meets its contract: there is as much space as it asks for.
-use mathlib.Core.Path.{_≡_, sym, ap, subst, _∙_}
+-- `core_root::bound::root_bound` meets its contract: the cores of the settled root bound what every model breaks.
+use mathlib.Core.Path.{_≡_, sym, subst, _∙_}
 use mathlib.Core.List.{List}
 use Prim.Native.Nat.{ℕ}
 use native.Mathlib.Omega.{arith}
 use lib.ListN.{length, take}
 use lib.Seq.{length-take-le}
 use Rattle.formula.specs.Formula.{clauses}
-use Rattle.choices.specs.Choices.{Model}
-use Rattle.rule_list.specs.Sound.{unread, badRule}
+use Rattle.tally.specs.declared.Tally.{Tally}
+use Rattle.propagation.specs.declared.propagated.Propagated.the-variants.{Settled}
+use Rattle.core_scan.specs.Assuming.{noLimit}
+use Rattle.search_state.specs.ReadyLaws.{following}
+use Rattle.search_state.specs.Root.{SettledRoot}
+use Rattle.search_state.specs.RootLaws.{root-quiet}
+use Rattle.core_root.specs.Start.{root-bounded}
 use borrow.Author.Needs.{needs}
 use Rattle.core_root.proofs.bound.root_bound.Statement.{statement}
 use Rattle.core_root.proofs.bound.root_bound.Tie as tie
 
--- of each part, what is lent for n variables is as long as it should be
-module _ (c : tie.After-no-assumed) where
+-- Points of the program: the entry, and the tables as they are made, from the settled root; that, with its tally; with that, at the call that looks for cores and after it, from the end.
+abbrev entry : tie.After-settle-root → tie.Start
+entry c = c .before .before .before .before .before .before .before .before .before
+
+abbrev values : tie.After-settle-root → tie.After-no-values
+values c = c .before .before .before .before
+
+abbrev wishes : tie.After-settle-root → tie.After-no-assumed
+wishes c = c .before .before .before
+
+abbrev settled : tie.After-known-told → tie.After-settle-root
+settled c = c .before .before .before .before .before .before .before
+
+abbrev with-taken : tie.After-taken → tie.After-known-told
+with-taken c = c .before .before .before
+
+abbrev with-assumed : tie.After-assumed → tie.After-known-told
+with-assumed c = c .before .before .before .before
+
+abbrev alive : tie.After-find-cores → tie.After-known-told
+alive c = c .before .before .before .before .before
+
+abbrev bounded : tie.After-assumed2 → tie.After-find-cores
+bounded c = c .before .before .before .before .before .before
+
+-- what is left of `a`
+abbrev there : tie.After-settle-root → List ℕ
+there c = c .settle-root .last .1 .1 .1 .1 .0
+
+-- what is left of `trail`
+abbrev trail : tie.After-settle-root → List ℕ
+trail c = c .settle-root .last .1 .1 .1 .1 .1 .0
+
+-- the settled root
+module _ (c : tie.After-known-told) where
   abbrev call : tie.Start
-  call = c .before .before .before .before .before .before .before .before
+  call = entry (settled c)
 
   abbrev n : ℕ
-  n = call .args .n
+  n = length (call .args .a .now)
 
-  long : (table : List ℕ) → length table ≡ 640 → length (take n table) ≡ n
-  long table e = length-take-le n table (omega (arith, call .pre .0, e))
+  abbrev tally : Tally
+  tally = c .before .t .given .0 .0
 
-  a-long : length (take n (c .before .before .before .no-values .result)) ≡ n
-  a-long = long (c .before .before .before .no-values .result) (c .before .before .before .no-values .ensures)
+  told : SettledRoot n (clauses (call .args .list .now)) (call .args .row .now) noLimit (call .args .trail .now) (there (settled c)) (trail (settled c)) (Settled tally)
+  told = subst (SettledRoot n (clauses (call .args .list .now)) (call .args .row .now) noLimit (call .args .trail .now) (there (settled c)) (trail (settled c))) (c .before .t .given .1) (settled c .settle-root .ensures)
 
-  trail-long : length (take n (c .before .before .no-trail .result)) ≡ n
-  trail-long = long (c .before .before .no-trail .result) (c .before .before .no-trail .ensures)
+  size : length (there (settled c)) ≡ n
+  size = told .2 .searching .state .size
 
-  taken-long : length (take n (c .before .no-values2 .result)) ≡ n
-  taken-long = long (c .before .no-values2 .result) (c .before .no-values2 .ensures)
+  taken-long : length (take n (values (settled c) .no-values .result)) ≡ n
+  taken-long = length-take-le n (values (settled c) .no-values .result) (omega (arith, call .pre .0, values (settled c) .no-values .ensures))
 
 no-values-requires : tie.Need-no-values-requires
 no-values-requires c κs = search needs
 
-no-trail-requires : tie.Need-no-trail-requires
-no-trail-requires c κs = search needs
-
-no-values-requires-2 : tie.Need-no-values-requires-2
-no-values-requires-2 c κs = search needs
-
 no-assumed-requires : tie.Need-no-assumed-requires
 no-assumed-requires c κs = search needs
 
-array-borrow-prefix-a : tie.Need-array-borrow-prefix-a
-array-borrow-prefix-a c = search needs
+settle-root-requires : tie.Need-settle-root-requires
+settle-root-requires c κs = search needs
 
-slice-aggregate-bound-in : tie.Need-slice-aggregate-bound-in
-slice-aggregate-bound-in c = sym (a-long (c .before))
+enum-told : tie.Need-enum-told
+enum-told c = search needs
 
-array-borrow-prefix-trail : tie.Need-array-borrow-prefix-trail
-array-borrow-prefix-trail c = search needs
-
-slice-aggregate-bound-in-2 : tie.Need-slice-aggregate-bound-in-2
-slice-aggregate-bound-in-2 c = sym (trail-long (c .before .before))
+enum-known-t : tie.Need-enum-known-t
+enum-known-t c = search needs
 
 array-borrow-prefix-taken : tie.Need-array-borrow-prefix-taken
 array-borrow-prefix-taken c = search needs
 
-slice-aggregate-bound-in-3 : tie.Need-slice-aggregate-bound-in-3
-slice-aggregate-bound-in-3 c = sym (taken-long (c .before .before .before))
+slice-aggregate-find-cores : tie.Need-slice-aggregate-find-cores
+slice-aggregate-find-cores c = sym (taken-long (with-taken c))
 
-slice-aggregate-bound-in-4 : tie.Need-slice-aggregate-bound-in-4
-slice-aggregate-bound-in-4 c = search needs
+slice-aggregate-find-cores-2 : tie.Need-slice-aggregate-find-cores-2
+slice-aggregate-find-cores-2 c = search needs
 
-bound-in-requires : tie.Need-bound-in-requires
-bound-in-requires c κs =
-    let space = c .before .before .before .before in
-    let given = call space .pre in
-    let args = call space .args in (
-      (
-        omega (arith, a-long space, given .0),
-        ap (λ (k : ℕ). badRule k unread 0 (args .list .now)) (a-long space) ∙ given .1,
-        record { arranged = given .2 .arranged; wide = omega (arith, a-long space, given .2 .wide) },
-      ),
-      (trail-long space ∙ sym (a-long space), taken-long space ∙ sym (a-long space), omega (arith, a-long space, given .0, space .no-assumed .ensures)),
-    )
+find-cores-requires : tie.Need-find-cores-requires
+find-cores-requires c κs =
+    let at = with-assumed c in
+    let given = call at .pre in
+    let quiet = root-quiet (n at) (call at .args .list .now) (given .1) (call at .args .row .now) noLimit (told at) in
+    ((following (given .0) (given .1) (given .2) (told at .2 .searching), quiet), (taken-long at ∙ sym (size at), omega (arith, size at, given .0, wishes (settled at) .no-assumed .ensures)))
+
+same-length : tie.Need-same-length
+same-length c = search needs
+
+same-length-2 : tie.Need-same-length-2
+same-length-2 c = search needs
 
 returns : tie.Need-returns
-returns c = λ x m.
-    let space = c .before .before .before .before .before .before .before .before .before in
-    c .before .before .before .before .bound-in .ensures x (subst (λ (k : ℕ). Model k (clauses (call space .args .list .now)) x) (sym (a-long space)) m)
+returns c = search needs
+
+same-length-3 : tie.Need-same-length-3
+same-length-3 c = search needs
+
+same-length-4 : tie.Need-same-length-4
+same-length-4 c = search needs
+
+returns-2 : tie.Need-returns-2
+returns-2 c = λ x m.
+    let at = alive (bounded c) in
+    let given = call at in
+    omega (arith, bounded c .find-cores .ensures .0, root-bounded (n at) (given .args .list .now) (given .pre .1) (given .args .row .now) noLimit (told at) x m)
 
 pub root-bound-spec : {M : Type 1} → statement M
 root-bound-spec =
     tie.close
     (tie.spec
     no-values-requires
-    no-trail-requires
-    no-values-requires-2
     no-assumed-requires
-    array-borrow-prefix-a
-    slice-aggregate-bound-in
-    array-borrow-prefix-trail
-    slice-aggregate-bound-in-2
+    settle-root-requires
+    enum-told
+    enum-known-t
     array-borrow-prefix-taken
-    slice-aggregate-bound-in-3
-    slice-aggregate-bound-in-4
-    bound-in-requires
-    returns)
+    slice-aggregate-find-cores
+    slice-aggregate-find-cores-2
+    find-cores-requires
+    same-length
+    same-length-2
+    returns
+    same-length-3
+    same-length-4
+    returns-2)

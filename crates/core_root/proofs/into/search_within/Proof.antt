@@ -1,137 +1,118 @@
--- `core_root::into::search_within` meets its contract: there is as much space as a search asks for.
+-- `core_root::into::search_within` meets its contract: the search is guided by the choice, and what it finds is copied.
 use mathlib.Core.Path.{_≡_, sym, ap, subst, _∙_}
-use mathlib.Core.List.{List}
-use Prim.Native.Nat.{ℕ, _+_, _*_}
+use mathlib.Core.List.{List, _++_}
+use Prim.Native.Nat.{ℕ}
 use native.Mathlib.Omega.{arith}
-use lib.ListN.{length, take}
-use lib.Seq.{length-take-le}
+use lib.ListN.{length, take, drop, length-append}
+use lib.Seq.{length-take-le, take-at}
 use Rattle.formula.specs.Formula.{clauses}
-use Rattle.choices.specs.Choices.{Model}
-use Rattle.rule_list.specs.Sound.{unread, badRule}
-use Rattle.core_root.specs.Root.{FoundWithin}
+use Rattle.cores.specs.SearchRight.{Guides}
+use Rattle.core_root.specs.Root.{within-found, within-nothing, front-bytes}
 use borrow.Author.Needs.{needs}
 use Rattle.core_root.proofs.into.search_within.Statement.{statement}
 use Rattle.core_root.proofs.into.search_within.Tie as tie
 
--- of each part, what is lent for n variables is as long as it should be
-module _ (c : tie.After-no-values3) where
-  abbrev call : tie.Start
-  call = c .before .before .before .before .before .before .before .before .before .before .before .before .before
+-- Points of the program: the entry; the table for the guide; the guide, from the search and before it; after the search, where something was found, and where nothing was.
+abbrev entry : tie.After-no-values → tie.Start
+entry c = c .before .before .before .before .before .before .before .before
 
+abbrev made : tie.After-guide → tie.After-no-values
+made c = c .before .before
+
+abbrev table : tie.After-write-guide → tie.After-no-values
+table c = c .before .before .before
+
+abbrev guided : tie.After-guide2 → tie.After-write-guide
+guided c = c .before
+
+abbrev sharing : tie.After-guide3 → tie.After-write-guide
+sharing c = c .before .before
+
+abbrev searching : tie.After-search-from-root-arg4 → tie.After-write-guide
+searching c = c .before .before .before .before .before .before
+
+abbrev begun : tie.After-search-from-root → tie.After-write-guide
+begun c = c .before .before .before .before .before .before .before
+
+abbrev found : tie.After-enum-told → tie.After-search-from-root
+found c = c .before .before .before .before .before .before .before .before .before .before
+
+abbrev copying : tie.After-copy-to-arg2 → tie.After-enum-told
+copying c = c .before .before
+
+abbrev told : tie.After-copy-to → tie.After-enum-told
+told c = c .before .before .before
+
+abbrev copied : tie.After-slice-known10 → tie.After-copy-to
+copied c = c .before .before
+
+abbrev nothing : tie.After-enum-told2 → tie.After-search-from-root
+nothing c = c .before .before .before .before .before .before .before .before .before .before
+
+-- what is left of `guide`
+abbrev written : tie.After-write-guide → List ℕ
+written c = c .write-guide .last .1 .1 .0
+
+-- what is left of `a`
+abbrev last : tie.After-search-from-root → List ℕ
+last c = c .search-from-root .last .1 .1 .1 .1 .1 .0
+
+module _ (c : tie.After-no-values) where
   abbrev n : ℕ
-  n = call .args .n
+  n = length (entry c .args .a .now)
 
-  long : (table : List ℕ) → length table ≡ 640 → length (take n table) ≡ n
-  long table e = length-take-le n table (omega (arith, call .pre .0 .0 .few, e))
+  guide-long : length (take n (c .no-values .result)) ≡ n
+  guide-long = length-take-le n (c .no-values .result) (omega (arith, entry c .pre .0 .1 .few, c .no-values .ensures))
 
-  a-long : length (take n (c .before .before .before .before .before .before .no-values .result)) ≡ n
-  a-long = long (c .before .before .before .before .before .before .no-values .result) (c .before .before .before .before .before .before .no-values .ensures)
+-- the guide stands in front of its table
+module _ (c : tie.After-write-guide) where
+  abbrev rest : List ℕ
+  rest = drop (n (table c)) (table c .no-values .result)
 
-  trail-long : length (take n (c .before .before .before .before .before .no-trail .result)) ≡ n
-  trail-long = long (c .before .before .before .before .before .no-trail .result) (c .before .before .before .before .before .no-trail .ensures)
+  size : length (written c) ≡ n (table c)
+  size = c .write-guide .kept .1 .1 .0 ∙ guide-long (table c)
 
-  weights-long : length (take (2 * n + 2) (c .before .before .before .before .no-weights .result)) ≡ 2 * n + 2
-  weights-long = length-take-le (2 * n + 2) (c .before .before .before .before .no-weights .result) (omega (arith, call .pre .0 .0 .few, c .before .before .before .before .no-weights .ensures))
-
-  marks-long : length (take (n + 1) (c .before .before .before .no-marks .result)) ≡ n + 1
-  marks-long = length-take-le (n + 1) (c .before .before .before .no-marks .result) (omega (arith, call .pre .0 .0 .few, c .before .before .before .no-marks .ensures))
-
-  taken-long : length (take n (c .before .before .no-values2 .result)) ≡ n
-  taken-long = long (c .before .before .no-values2 .result) (c .before .before .no-values2 .ensures)
-
-  guide-long : length (take n (c .no-values3 .result)) ≡ n
-  guide-long = long (c .no-values3 .result) (c .no-values3 .ensures)
+  front : take (n (table c)) (written c ++ rest) ≡ written c
+  front = take-at (written c) rest (n (table c)) size
 
 no-values-requires : tie.Need-no-values-requires
 no-values-requires c κs = search needs
 
-no-trail-requires : tie.Need-no-trail-requires
-no-trail-requires c κs = search needs
-
-no-weights-requires : tie.Need-no-weights-requires
-no-weights-requires c κs = search needs
-
-no-marks-requires : tie.Need-no-marks-requires
-no-marks-requires c κs = search needs
-
-no-values-requires-2 : tie.Need-no-values-requires-2
-no-values-requires-2 c κs = search needs
-
-no-assumed-requires : tie.Need-no-assumed-requires
-no-assumed-requires c κs = search needs
-
-no-values-requires-3 : tie.Need-no-values-requires-3
-no-values-requires-3 c κs = search needs
-
-mul-literals : tie.Need-mul-literals
-mul-literals c = search needs
-
-add-literals : tie.Need-add-literals
-add-literals c = search needs
-
-add-variables : tie.Need-add-variables
-add-variables c = search needs
-
-array-borrow-prefix-a : tie.Need-array-borrow-prefix-a
-array-borrow-prefix-a c = search needs
-
-slice-aggregate-search-in : tie.Need-slice-aggregate-search-in
-slice-aggregate-search-in c = sym (a-long (c .before))
-
-array-borrow-prefix-trail : tie.Need-array-borrow-prefix-trail
-array-borrow-prefix-trail c = search needs
-
-slice-aggregate-search-in-2 : tie.Need-slice-aggregate-search-in-2
-slice-aggregate-search-in-2 c = sym (trail-long (c .before .before))
-
-array-borrow-prefix-weights : tie.Need-array-borrow-prefix-weights
-array-borrow-prefix-weights c = search needs
-
-slice-aggregate-search-in-3 : tie.Need-slice-aggregate-search-in-3
-slice-aggregate-search-in-3 c = sym (weights-long (c .before .before .before .before))
-
-array-borrow-prefix-marks : tie.Need-array-borrow-prefix-marks
-array-borrow-prefix-marks c = search needs
-
-slice-aggregate-search-in-4 : tie.Need-slice-aggregate-search-in-4
-slice-aggregate-search-in-4 c = sym (marks-long (c .before .before .before .before .before))
-
-array-borrow-prefix-taken : tie.Need-array-borrow-prefix-taken
-array-borrow-prefix-taken c = search needs
-
-slice-aggregate-search-in-5 : tie.Need-slice-aggregate-search-in-5
-slice-aggregate-search-in-5 c = sym (taken-long (c .before .before .before .before .before .before))
-
-slice-aggregate-search-in-6 : tie.Need-slice-aggregate-search-in-6
-slice-aggregate-search-in-6 c = search needs
-
 array-borrow-prefix-guide : tie.Need-array-borrow-prefix-guide
 array-borrow-prefix-guide c = search needs
 
-slice-aggregate-search-in-7 : tie.Need-slice-aggregate-search-in-7
-slice-aggregate-search-in-7 c = sym (guide-long (c .before .before .before .before .before .before .before .before))
+slice-aggregate-write-guide : tie.Need-slice-aggregate-write-guide
+slice-aggregate-write-guide c = sym (guide-long (made c))
 
-search-in-requires : tie.Need-search-in-requires
-search-in-requires c κs =
-    let space = c .before .before .before .before .before .before .before .before .before in
-    let given = call space .pre in
-    let args = call space .args in (
-      (
-        trail-long space ∙ sym (a-long space),
-        record {
-          few = omega (arith, a-long space, given .0 .0 .few);
-          sound = ap (λ (k : ℕ). badRule k unread 0 (args .list .now)) (a-long space) ∙ given .0 .0 .sound;
-          beside = record { arranged = given .0 .1 .arranged; wide = omega (arith, a-long space, given .0 .1 .wide) };
-          witnessed = given .0 .2;
-          weighs = omega (arith, a-long space, weights-long space);
-          mark = omega (arith, a-long space, marks-long space);
-        },
-      ),
-      (
-        (taken-long space ∙ sym (a-long space), omega (arith, a-long space, given .0 .0 .few, space .before .no-assumed .ensures), guide-long space ∙ sym (a-long space)),
-        (omega (arith, a-long space, given .0 .0 .wide), subst (λ (k : ℕ). Model k (clauses (args .list .now)) (take k (args .choice .now))) (sym (a-long space)) (given .1)),
-      ),
-    )
+write-guide-requires : tie.Need-write-guide-requires
+write-guide-requires c κs =
+    let call = entry (made c) in
+    let given = call .pre .1 in
+    (omega (arith, guide-long (made c), given .0), λ i h. front-bytes (n (made c)) (clauses (call .args .list .now)) (call .args .choice .now) (given .1) i (omega (arith, guide-long (made c))))
+
+array-share-prefix-guide : tie.Need-array-share-prefix-guide
+array-share-prefix-guide c = omega (arith, length-append (written (guided c)) (rest (guided c)), size (guided c))
+
+slice-aggregate-search-from-root : tie.Need-slice-aggregate-search-from-root
+slice-aggregate-search-from-root c = sym (ap length (front (sharing c)) ∙ size (sharing c))
+
+search-from-root-requires : tie.Need-search-from-root-requires
+search-from-root-requires c κs =
+    let at = searching c in
+    let call = entry (table at) in
+    let guides = subst (λ (k : ℕ). Guides k (call .args .row .now) (written at)) (guide-long (table at)) (at .write-guide .ensures) in
+    (call .pre .0, subst (Guides (n (table at)) (call .args .row .now)) (sym (front at)) guides)
+
+enum-told : tie.Need-enum-told
+enum-told c = search needs
+
+copy-to-requires : tie.Need-copy-to-requires
+copy-to-requires c κs =
+    let at = found (copying c) in
+    omega (arith, entry (table (begun at)) .pre .1 .0, at .search-from-root .kept .1 .1 .1 .1 .1 .0)
+
+enum-told-2 : tie.Need-enum-told-2
+enum-told-2 c = search needs
 
 same-length : tie.Need-same-length
 same-length c = search needs
@@ -139,43 +120,68 @@ same-length c = search needs
 same-length-2 : tie.Need-same-length-2
 same-length-2 c = search needs
 
+same-length-3 : tie.Need-same-length-3
+same-length-3 c = search needs
+
+same-length-4 : tie.Need-same-length-4
+same-length-4 c = search needs
+
+same-length-5 : tie.Need-same-length-5
+same-length-5 c = search needs
+
 returns : tie.Need-returns
 returns c =
-    let searched = c .before .before .before .before .before .before .before .before .before .before .before .search-in in
-    let space = c .before .before .before .before .before .before .before .before .before .before .before .before .before .before .before .before .before .before .before .before .before in
-    let args = call space .args in (
-      subst (λ (k : ℕ). FoundWithin k (clauses (args .list .now)) (args .row .now) (args .d) (args .choice .now) (searched .last .1 .1 .1 .1 .1 .1 .1 .1 .1 .1 .1 .1 .1 .1 .0) (searched .result)) (a-long space) (searched .ensures .0),
-      searched .ensures .1,
-    )
+    let end = copied c in
+    let at = found (told end) in
+    let args = entry (table (begun at)) .args in
+    let said = at .search-from-root .ensures in
+    (within-found (n (table (begun at))) (clauses (args .list .now)) (args .row .now) (args .d) (args .choice .now) (last at) _ (at .search-from-root .result) (told end .enum-told .given .1) (said .0) (end .copy-to .ensures), said .1)
+
+same-length-6 : tie.Need-same-length-6
+same-length-6 c = search needs
+
+same-length-7 : tie.Need-same-length-7
+same-length-7 c = search needs
+
+same-length-8 : tie.Need-same-length-8
+same-length-8 c = search needs
+
+same-length-9 : tie.Need-same-length-9
+same-length-9 c = search needs
+
+same-length-10 : tie.Need-same-length-10
+same-length-10 c = search needs
+
+returns-2 : tie.Need-returns-2
+returns-2 c =
+    let at = nothing c in
+    let args = entry (table (begun at)) .args in
+    let said = at .search-from-root .ensures in
+    (within-nothing (n (table (begun at))) (clauses (args .list .now)) (args .row .now) (args .d) (args .choice .now) (last at) (at .search-from-root .result) (c .enum-told2 .given .1) (said .0), said .1)
 
 pub search-within-spec : {M : Type 1} → statement M
 search-within-spec =
     tie.close
     (tie.spec
     no-values-requires
-    no-trail-requires
-    no-weights-requires
-    no-marks-requires
-    no-values-requires-2
-    no-assumed-requires
-    no-values-requires-3
-    mul-literals
-    add-literals
-    add-variables
-    array-borrow-prefix-a
-    slice-aggregate-search-in
-    array-borrow-prefix-trail
-    slice-aggregate-search-in-2
-    array-borrow-prefix-weights
-    slice-aggregate-search-in-3
-    array-borrow-prefix-marks
-    slice-aggregate-search-in-4
-    array-borrow-prefix-taken
-    slice-aggregate-search-in-5
-    slice-aggregate-search-in-6
     array-borrow-prefix-guide
-    slice-aggregate-search-in-7
-    search-in-requires
+    slice-aggregate-write-guide
+    write-guide-requires
+    array-share-prefix-guide
+    slice-aggregate-search-from-root
+    search-from-root-requires
+    enum-told
+    copy-to-requires
+    enum-told-2
     same-length
     same-length-2
-    returns)
+    same-length-3
+    same-length-4
+    same-length-5
+    returns
+    same-length-6
+    same-length-7
+    same-length-8
+    same-length-9
+    same-length-10
+    returns-2)

@@ -10,20 +10,35 @@ use Rattle.core_scan.specs.Assuming as laws
 use Rattle.core_scan.proofs.assume.assume.Statement.{statement}
 use Rattle.core_scan.proofs.assume.assume.Tie as tie
 
--- The points of the program: the call, and after the variable is assigned.
+-- The points of the program: the call; with the value that is wished; after the variable is assigned; and after propagation.
 abbrev Assigned : Type 0
 Assigned = tie.After-assign-to
 
-abbrev call : Assigned → tie.Start
-call c = c .before .before .before .before .before .before .before .before .before .before .before
+abbrev entry : tie.After-wished-value → tie.Start
+entry c = c .before .before .before .before .before .before
 
-wished : (c : tie.After-wished-value) → c .wished-value .result ≡ wishedValue (value (c .before .before .before .before .before .before .before .before .args .row .now) (c .before .before .before .before .before .before .before .before .args .v .0))
+abbrev valued : tie.After-assign-to → tie.After-wished-value
+valued c = c .before .before .before
+
+abbrev lent : tie.After-propagate-units-arg2 → tie.After-assign-to
+lent c = c .before .before .before .before .before .before
+
+abbrev assigned-at : tie.After-propagate-units → tie.After-assign-to
+assigned-at c = c .before .before .before .before .before .before .before
+
+abbrev followed : tie.After-slice-known6 → tie.After-propagate-units
+followed c = c .before .before .before .before
+
+abbrev call : Assigned → tie.Start
+call c = entry (valued c)
+
+wished : (c : tie.After-wished-value) → c .wished-value .result ≡ wishedValue (value (entry c .args .row .now) (entry c .args .v .0))
 wished c = c .wished-value .ensures ∙ ap wishedValue (c .before .value-of .ensures)
 
 assigned : (c : Assigned)
     → AssignedTo (call c .args .row .now) (call c .args .v .0) (wishedValue (value (call c .args .row .now) (call c .args .v .0))) (call c .args .tally) (call c .args .a .now) (call c .args .trail .now)
     (c .assign-to .result) (c .assign-to .last .1 .1 .1 .1 .0) (c .assign-to .last .1 .1 .1 .1 .1 .0)
-assigned c = rw (← wished (c .before .before .before)) (c .assign-to .ensures)
+assigned c = rw (← wished (valued c)) (c .assign-to .ensures)
 
 value-of-requires : tie.Need-value-of-requires
 value-of-requires c κs = search needs
@@ -33,7 +48,7 @@ wished-value-requires c κs = search needs
 
 assign-to-requires : tie.Need-assign-to-requires
 assign-to-requires c κs =
-    let call = c .before .before .before .before .before .before .before .before .before .before in
+    let call = entry (c .before .before) in
     let h = call .pre .0 .0 in
     let v = call .pre .1 in
     let room = laws.assume-room h (call .pre .0 .1) (call .args .v .0) (v .0) (v .1) (v .2) in
@@ -44,7 +59,7 @@ assign-to-requires c κs =
 
 propagate-units-requires : tie.Need-propagate-units-requires
 propagate-units-requires c κs =
-    let assigned-at = c .before .before .before .before .before .before in
+    let assigned-at = lent c in
     let call = call assigned-at in
     let v = call .pre .1 in
     let m = laws.assume-moved (call .pre .0 .0) (call .pre .0 .1) (call .args .v .0) (v .0) (v .1) (v .2) (assigned assigned-at) in
@@ -58,8 +73,8 @@ same-length-2 c = search needs
 
 returns : tie.Need-returns
 returns c =
-    let followed = c .before .before .before .before in
-    let assigned-at = followed .before .before .before .before .before .before .before in
+    let followed = followed c in
+    let assigned-at = assigned-at followed in
     let call = call assigned-at in
     let v = call .pre .1 in
     laws.assumed-by (call .pre .0 .0) (call .pre .0 .1) (call .args .v .0) (v .0) (v .1) (v .2) (assigned assigned-at) _ _ (followed .propagate-units .result) (followed .propagate-units .ensures)

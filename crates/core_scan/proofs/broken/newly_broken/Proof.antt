@@ -1,11 +1,16 @@
 -- `core_scan::broken::newly_broken` meets its contract: nothing is broken, or all is looked through.
-use mathlib.Core.Path.{sym}
+use mathlib.Core.Path.{sym, ap}
 use borrow.Author.Needs.{needs}
+use Rattle.core_scan.specs.Lowest.{lowestOf}
 use Rattle.core_scan.proofs.broken.newly_broken.Statement.{statement}
 use Rattle.core_scan.proofs.broken.newly_broken.Tie as tie
 
+-- The points of the program: the entry; nothing more is broken.
+abbrev call : tie.Then1 → tie.Start
+call c = c .before .before .before .before
+
 returns : tie.Need-returns
-returns c = sym (c .before .before .before .before .pre (c .if1 .taken))
+returns c = ap lowestOf (sym (call c .pre (c .if1 .taken)))
 
 first-broken-requires : tie.Need-first-broken-requires
 first-broken-requires c κs = search needs

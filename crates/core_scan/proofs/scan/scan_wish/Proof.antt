@@ -18,18 +18,48 @@ use Rattle.core_scan.specs.Scanning.{present}
 use Rattle.core_scan.proofs.scan.scan_wish.Statement.{statement}
 use Rattle.core_scan.proofs.scan.scan_wish.Tie as tie
 
--- The points of the program: the call; after the wish is tested; and after it is assumed.
+-- The points of the program: the call; after the wish is tested; it can be assumed; after it is assumed; with the tally of a dead end, or of what is settled; and after the core is closed, or what is broken looked at.
 abbrev Tested : Type 0
 Tested = tie.After-is-assumable
 
 abbrev Assumed : Type 0
 Assumed = tie.After-assume
 
-abbrev call : Tested → tie.Start
-call c = c .before .before .before .before .before .before .before .before .before .before .before
+abbrev call : tie.After-is-assumable → tie.Start
+call c = c .before .before .before .before .before .before .before .before .before
+
+abbrev free : tie.After-assume → tie.Else1
+free c = c .before .before .before .before .before
+
+abbrev freed : tie.After-assume-arg2 → tie.Else1
+freed c = c .before .before .before .before
+
+abbrev dead : tie.After-t → tie.After-assume
+dead c = c .before .before .before .before .before .before
+
+abbrev settled : tie.After-t2 → tie.After-assume
+settled c = c .before .before .before .before .before .before
+
+abbrev dead-told : tie.After-close-at-arg4 → tie.After-t
+dead-told c = c .before .before .before .before .before
+
+abbrev settled-told : tie.After-assume-unless-broken-arg4 → tie.After-t2
+settled-told c = c .before .before .before .before .before
+
+abbrev ended : tie.After-close-at → tie.After-t
+ended c = c .before .before .before .before .before .before
+
+abbrev closed : tie.After-slice-known8 → tie.After-close-at
+closed c = c .before .before .before .before
+
+abbrev lived : tie.After-assume-unless-broken → tie.After-t2
+lived c = c .before .before .before .before .before .before
+
+abbrev looked : tie.After-slice-known11 → tie.After-assume-unless-broken
+looked c = c .before .before .before .before .before .before
 
 abbrev tested : Assumed → Tested
-tested c = c .before .before .before .before .before .before
+tested c = free c .before
 
 -- the test
 test : (c : Tested) (t : Bool) → c .is-assumable .result ≡ t → isAssumable (call c .args .row .now) (present (call c .args .progress) (call c .args .a .now) (call c .args .taken .now) (call c .args .assumed .now)) (call c .args .v .0) ≡ t
@@ -37,7 +67,7 @@ test c t e = sym (c .is-assumable .ensures) ∙ e
 
 -- what is assumed
 assumable : (c : Assumed) → isAssumable (call (tested c) .args .row .now) (present (call (tested c) .args .progress) (call (tested c) .args .a .now) (call (tested c) .args .taken .now) (call (tested c) .args .assumed .now)) (call (tested c) .args .v .0) ≡ true
-assumable c = test (tested c) true (not-false (tested c .is-assumable .result) (c .before .before .before .before .before .if1 .left))
+assumable c = test (tested c) true (not-false (tested c .is-assumable .result) (free c .if1 .left))
 
 abbrev table : Assumed → List ℕ
 table c = set (call (tested c) .args .assumed .now) (call (tested c) .args .progress .assumed) (call (tested c) .args .v .0)
@@ -47,10 +77,15 @@ room c =
     let call = call (tested c) in
     omega (arith, call .pre .0 .few, call .pre .0 .room, call .pre .1, length-set (call .args .assumed .now) (call .args .progress .assumed) (call .args .v .0))
 
-said : (c : Assumed) (r : Propagated) → c .assume .result ≡ r
-    → AssumedBy (length (call (tested c) .args .a .now)) (clauses (call (tested c) .args .list .now)) (call (tested c) .args .row .now) (call (tested c) .args .v .0) (call (tested c) .args .progress .tally)
-    (call (tested c) .args .a .now) (call (tested c) .args .trail .now) (c .assume .last .1 .1 .1 .1 .1 .1 .1 .0) (c .assume .last .1 .1 .1 .1 .1 .1 .1 .1 .0) r
-said c r e = rw (sym e) (c .assume .ensures)
+-- what it comes to, with the values and the trail after it
+module _ (c : Assumed) where
+  abbrev start : tie.Start
+  start = call (tested c)
+
+  said : (r : Propagated) → c .assume .result ≡ r
+      → AssumedBy (length (start .args .a .now)) (clauses (start .args .list .now)) (start .args .row .now) (start .args .v .0) (start .args .progress .tally)
+      (start .args .a .now) (start .args .trail .now) (c .assume .last .1 .1 .1 .1 .1 .0) (c .assume .last .1 .1 .1 .1 .1 .1 .0) r
+  said r e = rw (sym e) (c .assume .ensures)
 
 is-assumable-requires : tie.Need-is-assumable-requires
 is-assumable-requires c κs = search needs
@@ -80,28 +115,29 @@ add-count c = search needs
 
 assume-requires : tie.Need-assume-requires
 assume-requires c κs =
-    let tested = c .before .before .before .before .before in
+    let free = freed c in
+    let tested = free .before in
     let call = call tested in
     let h = call .pre .0 in (
       (h .following, h .quiet),
-      (omega (arith, h .few), call .pre .1, laws.assumable-free h (test tested true (not-false (tested .is-assumable .result) (c .before .before .before .before .if1 .left)))),
+      (omega (arith, h .few), call .pre .1, laws.assumable-free h (test tested true (not-false (tested .is-assumable .result) (free .if1 .left)))),
     )
 
 enum-known-t : tie.Need-enum-known-t
 enum-known-t c = search needs
 
 slice-reshare-prefix-close-at : tie.Need-slice-reshare-prefix-close-at
-slice-reshare-prefix-close-at c = omega (arith, room (c .before .before .before .before .before .before .before))
+slice-reshare-prefix-close-at c = omega (arith, room (dead (c .before)))
 
 slice-aggregate-close-at : tie.Need-slice-aggregate-close-at
-slice-aggregate-close-at c = sym (length-take-le _ _ (omega (arith, room (c .before .before .before .before .before .before .before .before))))
+slice-aggregate-close-at c = sym (length-take-le _ _ (omega (arith, room (dead (c .before .before)))))
 
 close-at-requires : tie.Need-close-at-requires
 close-at-requires c κs =
-    let assumed = c .before .before .before .before .before .before .before .before .before .before .before in
-    let call = call (tested assumed) in
+    let assumed = dead (dead-told c) in
+    let call = start assumed in
     let h = call .pre .0 in
-    let told = c .before .before .before .before .before .t .given in
+    let told = dead-told c .t .given in
     let w = said assumed (Dead (told .0 .0)) (told .1) in
     ((rw (h .wide) (laws.among-with h (call .pre .1)), laws.bound-small h (call .pre .1)), laws.undoable-later h (w .1))
 
@@ -110,10 +146,10 @@ enum-known-t-2 c = search needs
 
 assume-unless-broken-requires : tie.Need-assume-unless-broken-requires
 assume-unless-broken-requires c κs =
-    let assumed = c .before .before .before .before .before .before .before .before .before .before .before in
-    let call = call (tested assumed) in
+    let assumed = settled (settled-told c) in
+    let call = start assumed in
     let h = call .pre .0 in
-    let told = c .before .before .before .before .before .t2 .given in
+    let told = settled-told c .t2 .given in
     let w = said assumed (Settled (told .0 .0)) (told .1) in
     let long = w .3 .searching .state .size in (
       laws.still-none h (call .pre .1) (assumable assumed) w,
@@ -143,10 +179,10 @@ same-length-6 c = search needs
 
 returns-2 : tie.Need-returns-2
 returns-2 c =
-    let closed = c .before .before .before .before in
-    let assumed = closed .before .before .before .before .before .before .before .before .before .before .before .before in
-    let call = call (tested assumed) in
-    let told = closed .before .before .before .before .before .before .t .given in
+    let closed = closed c in
+    let assumed = dead (ended closed) in
+    let call = start assumed in
+    let told = ended closed .t .given in
     laws.scan-dead (call .pre .0) (call .pre .1) (assumable assumed) (said assumed (Dead (told .0 .0)) (told .1)) (closed .close-at .ensures)
 
 same-length-7 : tie.Need-same-length-7
@@ -160,15 +196,15 @@ same-length-9 c = search needs
 
 same-length-10 : tie.Need-same-length-10
 same-length-10 c =
-    let call = call (tested (c .before .before .before .before .before .before .before .before .before .before .before .before .before .before .before .before .before .before)) in
+    let call = start (settled (lived (looked c))) in
     c .before .assumed .given ∙ length-set (call .args .assumed .now) (call .args .progress .assumed) (call .args .v .0)
 
 returns-3 : tie.Need-returns-3
 returns-3 c =
-    let broken = c .before .before .before .before .before .before in
-    let assumed = broken .before .before .before .before .before .before .before .before .before .before .before .before in
-    let call = call (tested assumed) in
-    let told = broken .before .before .before .before .before .before .t2 .given in
+    let broken = looked c in
+    let assumed = settled (lived broken) in
+    let call = start assumed in
+    let told = lived broken .t2 .given in
     laws.scan-settled (call .pre .0) (call .pre .1) (assumable assumed) (said assumed (Settled (told .0 .0)) (told .1))
     (c .before .assumed .given ∙ length-set (call .args .assumed .now) (call .args .progress .assumed) (call .args .v .0)) (broken .assume-unless-broken .ensures)
 

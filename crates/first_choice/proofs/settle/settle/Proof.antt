@@ -13,16 +13,29 @@ use Rattle.propagation.specs.declared.propagated.Propagated.{Propagated}
 use Rattle.propagation.specs.declared.propagated.Propagated.the-variants.{Dead, Settled}
 use Rattle.propagation.specs.Looked.{pending, ComesTo}
 use Rattle.propagation.specs.Propagated.{PropagatedBy, propagated-by}
-use Rattle.try_and_fork.specs.AttemptLaws.{newest}
+use Rattle.search_state.specs.Newest.{newest}
 use Rattle.unit_queue.specs.Queue.{follow}
 use Rattle.unit_queue.specs.Theorems.{follow-alike}
 use Rattle.first_choice.proofs.settle.settle.Statement.{statement}
 use Rattle.first_choice.proofs.settle.settle.Tie as tie
 
+-- The points of the program: the call; with the newest variable's place; after propagation; and with a dead end, or without.
+abbrev entry : tie.After-newest-of → tie.Start
+entry c = c .before .before .before .before .before
+
+abbrev placed : tie.After-propagate-units → tie.After-newest-of
+placed c = c .before .before .before
+
+abbrev ended : tie.After-known-told → tie.After-propagate-units
+ended c = c .before .before .before .before .before .before .before
+
+abbrev alive : tie.After-known-told2 → tie.After-propagate-units
+alive c = c .before .before .before .before .before .before .before
+
 -- after propagation: what it says of the state that it left
 module _ (c : tie.After-propagate-units) where
   abbrev call : tie.Start
-  call = c .before .before .before .before .before .before .before .before .before .before
+  call = entry (placed c)
 
   abbrev n : ℕ
   n = length (call .args .a .now)
@@ -31,10 +44,10 @@ module _ (c : tie.After-propagate-units) where
   f = clauses (call .args .list .now)
 
   abbrev a : List ℕ
-  a = c .propagate-units .last .1 .1 .1 .1 .1 .1 .1 .1 .0
+  a = c .propagate-units .last .1 .1 .1 .1 .1 .1 .0
 
   abbrev trail : List ℕ
-  trail = c .propagate-units .last .1 .1 .1 .1 .1 .1 .1 .1 .1 .0
+  trail = c .propagate-units .last .1 .1 .1 .1 .1 .1 .1 .0
 
   -- following the queue from a place of the trail
   abbrev followed : ℕ → Option (List ℕ)
@@ -52,7 +65,7 @@ module _ (c : tie.After-propagate-units) where
       propagated-by n f (args .row .now) (args .d) (args .tally) (args .a .now) (args .trail .now) a trail (followed from)
       (follow-alike n f (looking .fit) (args .row .now) (args .d) (args .a .now) (looking .searching .state) (slice from (args .tally .settled) (args .trail .now)) (call .pre .0 .1))
       r
-      (subst (Comes from) e (subst (λ (i : ℕ). Comes i (c .propagate-units .result)) (c .before .before .before .newest-of .ensures) (c .propagate-units .ensures)))
+      (subst (Comes from) e (subst (λ (i : ℕ). Comes i (c .propagate-units .result)) (placed c .newest-of .ensures) (c .propagate-units .ensures)))
 
 newest-of-requires : tie.Need-newest-of-requires
 newest-of-requires c κs = search needs
@@ -75,7 +88,7 @@ same-length-2 c = search needs
 -- a dead end cannot be
 returns : tie.Need-returns
 returns c =
-    let propagated = c .before .before .before .before .before .before .before in
+    let propagated = ended c in
     let told = c .before .t .given in
     absurd (true≢false (sym (told-as propagated (Dead (told .0 .0)) (told .1) .0) ∙ call propagated .pre .1))
 
@@ -88,7 +101,7 @@ same-length-4 c = search needs
 returns-2 : tie.Need-returns-2
 returns-2 c =
     let told = c .before .t2 .given in
-    let w = told-as (c .before .before .before .before .before .before .before) (Settled (told .0 .0)) (told .1) in
+    let w = told-as (alive c) (Settled (told .0 .0)) (told .1) in
     (w .0, w .2 .searching)
 
 pub settle-spec : {M : Type 1} → statement M

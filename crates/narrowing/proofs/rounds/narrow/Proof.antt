@@ -1,170 +1,157 @@
--- `narrowing::rounds::narrow` meets its contract: each turn is one of the laws of `Narrowing`.
-use mathlib.Core.Path.{_≡_, refl, sym, subst, _∙_}
-use Prim.Native.Nat.{ℕ, _-_}
-use native.Mathlib.Omega.{arith}
+-- `narrowing::narrow` meets its contract: the first round, and where that kept wishes the others, by the laws of `Narrowing`.
+use mathlib.Core.Path.{_≡_, subst, _∙_}
+use mathlib.Core.List.{List}
+use Prim.Native.Nat.{ℕ}
 use lib.ListN.{length}
 use borrow.Author.Needs.{needs}
 use Rattle.formula.specs.Formula.{clauses}
+use Rattle.cores.specs.Narrow.{narrow as narrowOf}
+use Rattle.propagation.specs.Looked.{ComesTo}
 use Rattle.propagation.specs.Looking.{following-moved}
-use Rattle.propagation.specs.Searching.{settled-most}
 use Rattle.narrowing.specs.declared.rounds.Round.{Round}
 use Rattle.narrowing.specs.declared.rounds.Round.the-variants.{Dead, Narrowed, Kept}
-use Rattle.narrowing.specs.Rounds.{RoundBy, Narrowing, narrowing-start, narrowing-dead, narrowing-end, narrowing-next}
+use Rattle.narrowing.specs.Rounds.{RoundBy, Narrowing, narrowing-start, narrowing-dead, narrowing-end, narrowing-next, narrowing-on}
 use Rattle.narrowing.proofs.rounds.narrow.Statement.{statement}
 use Rattle.narrowing.proofs.rounds.narrow.Tie as tie
 
--- the two tables keep their lengths
-abbrev Inv-loop : tie.InvT-loop
-Inv-loop list ends numbers begins row d from a₀ trail₀ taken₀ assumed₀ present₀ head₀ a trail taken assumed present head =
-    Narrowing (length a₀) (clauses list) row d present₀ a₀ trail₀ head present a trail × (length taken ≡ length taken₀) × (length assumed ≡ length assumed₀)
+-- Points of the program: the call; after the first round; a dead end, or narrowed; with wishes kept; the state lent to the other rounds, and after them; and at the return.
+abbrev lent : tie.After-narrow-round-arg2 → tie.Start
+lent c = c .before .before .before .before .before .before
 
--- what is unassigned
-abbrev μ-loop : tie.MeasureT-loop
-μ-loop list ends numbers begins row d from a₀ trail₀ taken₀ assumed₀ present₀ head₀ a trail taken assumed present head =
-    length a₀ - present .settled
+abbrev call : tie.After-narrow-round → tie.Start
+call c = lent (c .before)
 
--- The points of the program: the call, the head of a turn, and after a round.
-abbrev Call : Type 0
-Call = tie.Start Inv-loop μ-loop
+abbrev ended : tie.After-known-told → tie.After-narrow-round
+ended c = c .before .before .before .before .before .before .before
 
-abbrev Turn : Type 0
-Turn = tie.At-loop Inv-loop μ-loop
+abbrev narrowed : tie.After-known-told2 → tie.After-narrow-round
+narrowed c = c .before .before .before .before .before .before .before
 
-abbrev Rounded : Type 0
-Rounded = tie.After-narrow-round Inv-loop μ-loop
+abbrev going : tie.After-known-told3 → tie.After-narrow-round
+going c = c .before .before .before .before .before .before .before
 
-abbrev call : Turn → Call
-call c = c .before .before .before .before .before .before .before .before .before
+abbrev on : tie.After-narrow-on-arg2 → tie.After-known-told3
+on c = c .before .before
 
-abbrev turn : Rounded → Turn
-turn c = c .before .before .before .before .before
+abbrev gone : tie.After-slice-known6 → tie.After-narrow-on
+gone c = c .before .before .before .before
 
--- all slices are as long as at the call
-a-long : (c : Turn) → length (c .loop .a) ≡ length (call c .args .a .now)
-a-long c = c .loop .inv .0 .moved .searching .state .size
+-- what the rounds leave in the lent slices
+module _ (c : tie.After-narrow-round) where
+  abbrev values : List ℕ
+  values = c .narrow-round .last .1 .1 .1 .1 .1 .1 .0
 
-trail-long : (c : Turn) → length (c .loop .trail) ≡ length (call c .args .trail .now)
-trail-long c = c .loop .inv .0 .moved .grown .long
+  values-kept : length values ≡ length (call c .args .a .now)
+  values-kept = c .narrow-round .kept .1 .1 .1 .1 .1 .1 .0
 
-a-still : (c : Rounded) → length (c .narrow-round .last .1 .1 .1 .1 .1 .1 .1 .1 .0) ≡ length (call (turn c) .args .a .now)
-a-still c = c .narrow-round .kept .1 .1 .1 .1 .1 .1 .1 .1 .0 ∙ a-long (turn c)
+  abbrev order : List ℕ
+  order = c .narrow-round .last .1 .1 .1 .1 .1 .1 .1 .0
 
-trail-still : (c : Rounded) → length (c .narrow-round .last .1 .1 .1 .1 .1 .1 .1 .1 .1 .0) ≡ length (call (turn c) .args .trail .now)
-trail-still c = c .narrow-round .kept .1 .1 .1 .1 .1 .1 .1 .1 .1 .0 ∙ trail-long (turn c)
+  order-kept : length order ≡ length (call c .args .trail .now)
+  order-kept = c .narrow-round .kept .1 .1 .1 .1 .1 .1 .1 .0
 
-taken-still : (c : Rounded) → length (c .narrow-round .last .1 .1 .1 .1 .1 .1 .1 .1 .1 .1 .0) ≡ length (call (turn c) .args .taken .now)
-taken-still c = c .narrow-round .kept .1 .1 .1 .1 .1 .1 .1 .1 .1 .1 .0 ∙ turn c .loop .inv .1
+module _ (c : tie.After-narrow-on) where
+  abbrev last-values : List ℕ
+  last-values = c .narrow-on .last .1 .1 .1 .1 .1 .1 .0
 
-assumed-still : (c : Rounded) → length (c .narrow-round .last .1 .1 .1 .1 .1 .1 .1 .1 .1 .1 .1 .0) ≡ length (call (turn c) .args .assumed .now)
-assumed-still c = c .narrow-round .kept .1 .1 .1 .1 .1 .1 .1 .1 .1 .1 .1 .0 ∙ turn c .loop .inv .2
+  last-values-kept : length last-values ≡ length (values (going (on (c .before))))
+  last-values-kept = c .narrow-on .kept .1 .1 .1 .1 .1 .1 .0
 
--- what the round came to
-said : (c : Rounded) (r : Round) → c .narrow-round .result ≡ r
-    → RoundBy (length (call (turn c) .args .a .now)) (clauses (call (turn c) .args .list .now)) (call (turn c) .args .row .now) (call (turn c) .args .d) (turn c .loop .present) (turn c .loop .a) (turn c .loop .trail)
-    (c .narrow-round .last .1 .1 .1 .1 .1 .1 .1 .1 .0) (c .narrow-round .last .1 .1 .1 .1 .1 .1 .1 .1 .1 .0) r
-said c r e =
-    let args = call (turn c) .args in
-    let now = turn c .loop in
-    subst (λ (n : ℕ). RoundBy n (clauses (args .list .now)) (args .row .now) (args .d) (now .present) (now .a) (now .trail) (c .narrow-round .last .1 .1 .1 .1 .1 .1 .1 .1 .0) (c .narrow-round .last .1 .1 .1 .1 .1 .1 .1 .1 .1 .0) r) (a-long (turn c))
-    (subst (λ (q : Round). RoundBy (length (now .a)) (clauses (args .list .now)) (args .row .now) (args .d) (now .present) (now .a) (now .trail) (c .narrow-round .last .1 .1 .1 .1 .1 .1 .1 .1 .0) (c .narrow-round .last .1 .1 .1 .1 .1 .1 .1 .1 .1 .0) q) e
-    (c .narrow-round .ensures))
+  abbrev last-order : List ℕ
+  last-order = c .narrow-on .last .1 .1 .1 .1 .1 .1 .1 .0
 
-loop-holds : tie.Need-loop-holds Inv-loop μ-loop
-loop-holds c =
-    let call = c .before .before .before .before .before .before .before .before in
-    let pre = call .pre .0 in
-    (narrowing-start (clauses (call .args .list .now)) (call .args .d) (pre .0 .looking .searching) (pre .1) (pre .2), refl, refl)
+  last-order-kept : length last-order ≡ length (order (going (on (c .before))))
+  last-order-kept = c .narrow-on .kept .1 .1 .1 .1 .1 .1 .1 .0
 
-narrow-round-requires : tie.Need-narrow-round-requires Inv-loop μ-loop
-narrow-round-requires c κs =
-    let turn = c .before .before .before .before in
-    let call = call turn in
-    let long = a-long turn in
-    let p = turn .loop .inv in (
-      (following-moved (call .pre .0 .0) (p .0 .moved), p .0 .begun, p .0 .covers),
-      (p .1 ∙ call .pre .1 .0 ∙ sym long, omega (arith, call .pre .1 .1, p .2, long)),
-    )
+-- the state as it was lent
+start : (s : tie.Start) → Narrowing (length (s .args .a .now)) (clauses (s .args .list .now)) (s .args .row .now) (s .args .d) (s .args .tally) (s .args .a .now) (s .args .trail .now) (s .args .from) (s .args .tally) (s .args .a .now) (s .args .trail .now)
+start s = narrowing-start (clauses (s .args .list .now)) (s .args .d) (s .pre .0 .looking .searching) (s .pre .1) (s .pre .2)
 
-enum-known-t : tie.Need-enum-known-t Inv-loop μ-loop
-enum-known-t c = search needs
+-- what the first round came to
+module _ (c : tie.After-narrow-round) where
+  abbrev Says : Round → Type 0
+  Says = RoundBy (length (call c .args .a .now)) (clauses (call c .args .list .now)) (call c .args .row .now) (call c .args .d) (call c .args .tally) (call c .args .a .now) (call c .args .trail .now) (values c) (order c)
 
-same-length : tie.Need-same-length Inv-loop μ-loop
-same-length c = a-still (c .before .before .before .before .before .before .before .before .before .before .before)
-
-same-length-2 : tie.Need-same-length-2 Inv-loop μ-loop
-same-length-2 c = trail-still (c .before .before .before .before .before .before .before .before .before .before .before)
-
-same-length-3 : tie.Need-same-length-3 Inv-loop μ-loop
-same-length-3 c = taken-still (c .before .before .before .before .before .before .before .before .before .before .before)
-
-same-length-4 : tie.Need-same-length-4 Inv-loop μ-loop
-same-length-4 c = assumed-still (c .before .before .before .before .before .before .before .before .before .before .before)
-
-returns : tie.Need-returns Inv-loop μ-loop
-returns c =
-    let here = c .before .before .before .before .before .before .before .before .before .before .before in
-    narrowing-dead (turn here .loop .inv .0) (said here (Dead (c .before .t .given .0 .0)) (c .before .t .given .1))
-
-enum-known-t-2 : tie.Need-enum-known-t-2 Inv-loop μ-loop
-enum-known-t-2 c = search needs
-
-same-length-5 : tie.Need-same-length-5 Inv-loop μ-loop
-same-length-5 c = a-still (c .before .before .before .before .before .before .before .before .before .before .before)
-
-same-length-6 : tie.Need-same-length-6 Inv-loop μ-loop
-same-length-6 c = trail-still (c .before .before .before .before .before .before .before .before .before .before .before)
-
-same-length-7 : tie.Need-same-length-7 Inv-loop μ-loop
-same-length-7 c = taken-still (c .before .before .before .before .before .before .before .before .before .before .before)
-
-same-length-8 : tie.Need-same-length-8 Inv-loop μ-loop
-same-length-8 c = assumed-still (c .before .before .before .before .before .before .before .before .before .before .before)
-
-returns-2 : tie.Need-returns-2 Inv-loop μ-loop
-returns-2 c =
-    let here = c .before .before .before .before .before .before .before .before .before .before .before in
-    narrowing-end (turn here .loop .inv .0) (said here (Narrowed (c .before .t2 .given .0 .0)) (c .before .t2 .given .1))
-
-enum-known-place : tie.Need-enum-known-place Inv-loop μ-loop
-enum-known-place c = search needs
+  said : (r : Round) → c .narrow-round .result ≡ r → Says r
+  said r e = subst Says e (c .narrow-round .ensures)
 
 -- wishes were kept
-kept : (c : tie.After-known-told3 Inv-loop μ-loop)
-    → RoundBy (length (call (turn (c .before .before .before .before .before .before .before .before .before .before .before)) .args .a .now)) (clauses (call (turn (c .before .before .before .before .before .before .before .before .before .before .before)) .args .list .now)) (call (turn (c .before .before .before .before .before .before .before .before .before .before .before)) .args .row .now) (call (turn (c .before .before .before .before .before .before .before .before .before .before .before)) .args .d)
-    (turn (c .before .before .before .before .before .before .before .before .before .before .before) .loop .present) (turn (c .before .before .before .before .before .before .before .before .before .before .before) .loop .a) (turn (c .before .before .before .before .before .before .before .before .before .before .before) .loop .trail)
-    (c .before .before .before .before .before .before .before .before .before .before .before .narrow-round .last .1 .1 .1 .1 .1 .1 .1 .1 .0) (c .before .before .before .before .before .before .before .before .before .before .before .narrow-round .last .1 .1 .1 .1 .1 .1 .1 .1 .1 .0) (Kept (c .before .place .given .0 .0) (c .before .place .given .0 .1 .0))
-kept c = said (c .before .before .before .before .before .before .before .before .before .before .before) (Kept (c .before .place .given .0 .0) (c .before .place .given .0 .1 .0)) (c .before .place .given .1)
+module _ (c : tie.After-known-told3) where
+  abbrev s : tie.Start
+  s = call (going c)
 
-loop-less : tie.Need-loop-less Inv-loop μ-loop
-loop-less c =
-    let w = kept c in
-    omega (arith, w .4, settled-most (w .1 .searching))
+  kept : Narrowing (length (s .args .a .now)) (clauses (s .args .list .now)) (s .args .row .now) (s .args .d) (s .args .tally) (s .args .a .now) (s .args .trail .now) (c .before .place .given .0 .0) (c .before .place .given .0 .1 .0) (values (going c)) (order (going c))
+  kept = narrowing-next (start s) (said (going c) (Kept (c .before .place .given .0 .0) (c .before .place .given .0 .1 .0)) (c .before .place .given .1))
 
-loop-again : tie.Need-loop-again Inv-loop μ-loop
-loop-again c =
-    let here = c .before .before .before .before .before .before .before .before .before .before .before in
-    (narrowing-next (turn here .loop .inv .0) (kept c), taken-still here, assumed-still here)
+narrow-round-requires : tie.Need-narrow-round-requires
+narrow-round-requires c κs = search needs
+
+enum-known-t : tie.Need-enum-known-t
+enum-known-t c = search needs
+
+enum-known-t-2 : tie.Need-enum-known-t-2
+enum-known-t-2 c = search needs
+
+enum-known-place : tie.Need-enum-known-place
+enum-known-place c = search needs
+
+narrow-on-requires : tie.Need-narrow-on-requires
+narrow-on-requires c κs =
+    let p = kept (on c) in
+    (following-moved (s (on c) .pre .0) (p .moved), p .begun, p .covers)
+
+same-length : tie.Need-same-length
+same-length c = values-kept (ended c)
+
+same-length-2 : tie.Need-same-length-2
+same-length-2 c = order-kept (ended c)
+
+returns : tie.Need-returns
+returns c =
+    let here = ended c in
+    narrowing-dead (start (call here)) (said here (Dead (c .before .t .given .0 .0)) (c .before .t .given .1))
+
+same-length-3 : tie.Need-same-length-3
+same-length-3 c = values-kept (narrowed c)
+
+same-length-4 : tie.Need-same-length-4
+same-length-4 c = order-kept (narrowed c)
+
+returns-2 : tie.Need-returns-2
+returns-2 c =
+    let here = narrowed c in
+    narrowing-end (start (call here)) (said here (Narrowed (c .before .t2 .given .0 .0)) (c .before .t2 .given .1))
+
+same-length-5 : tie.Need-same-length-5
+same-length-5 c = let told = gone c in last-values-kept told ∙ values-kept (going (on (told .before)))
+
+same-length-6 : tie.Need-same-length-6
+same-length-6 c = let told = gone c in last-order-kept told ∙ order-kept (going (on (told .before)))
+
+returns-3 : tie.Need-returns-3
+returns-3 c =
+    let told = gone c in
+    let went = on (told .before) in
+    let args = s went .args in
+    narrowing-on (kept went) (last-values told) (last-order told) (told .narrow-on .result)
+    (subst (λ (n : ℕ). ComesTo n (args .row .now) (narrowOf (clauses (args .list .now)) (args .row .now) (args .d) (values (going went))) (went .before .place .given .0 .1 .0) (values (going went)) (order (going went)) (last-values told) (last-order told) (told .narrow-on .result))
+    (values-kept (going went)) (told .narrow-on .ensures))
 
 pub narrow-spec : {M : Type 1} → statement M
 narrow-spec =
     tie.close
     (tie.spec
-    Inv-loop
-    μ-loop
-    loop-holds
     narrow-round-requires
     enum-known-t
+    enum-known-t-2
+    enum-known-place
+    narrow-on-requires
     same-length
     same-length-2
+    returns
     same-length-3
     same-length-4
-    returns
-    enum-known-t-2
+    returns-2
     same-length-5
     same-length-6
-    same-length-7
-    same-length-8
-    returns-2
-    enum-known-place
-    loop-less
-    loop-again)
+    returns-3)

@@ -1,7 +1,7 @@
 -- `propagation::look::look_at` meets its contract: by what the clause asks for (`Looking`).
 use mathlib.Core.Path.{_≡_, sym, ap, _∙_}
 use mathlib.Core.List.{List, []}
-use Prim.Native.Nat.{_-_}
+use Prim.Native.Nat.{ℕ, _-_}
 use native.Mathlib.Omega.{arith}
 use lib.IntN.{ℤ}
 use lib.ListN.{getD}
@@ -9,6 +9,7 @@ use borrow.Author.Needs.{needs}
 use Rattle.literal.specs.Laws.{as-read}
 use Rattle.literal.specs.Literal.{variable, wanted}
 use Rattle.formula.specs.Formula.{clauses}
+use Rattle.clause_standing.specs.Clause.{clauseAt}
 use Rattle.propagation.specs.Assigned.{AssignedTo}
 use Rattle.propagation.specs.Looking as laws
 use Rattle.propagation.specs.Unit.{asks}
@@ -16,24 +17,7 @@ use Rattle.propagation.specs.declared.unit.Unit.the-variants.{Literal}
 use Rattle.propagation.proofs.look.look_at.Statement.{statement}
 use Rattle.propagation.proofs.look.look_at.Tie as tie
 
-sub-at : tie.Need-sub-at
-sub-at c = search needs
-
-mul-from : tie.Need-mul-from
-mul-from c = search needs
-
-shared-slice-read-from : tie.Need-shared-slice-read-from
-shared-slice-read-from c = search needs
-
-cast-from : tie.Need-cast-from
-cast-from c =
-    let call = c .before .before .before .before .before .before in
-    record { fits = omega (arith, c .shared-slice-known3 .given (call .args .number .0 - 1) .fits) }
-
-unit-at-requires : tie.Need-unit-at-requires
-unit-at-requires c κs = search needs
-
--- The points of the program: after the clause is read; with its literal; and after its variable is assigned.
+-- The points of the program: the call; with where the clause begins; after it is read; with its literal, its variable and the value that it wants; and after the variable is assigned.
 abbrev Read : Type 0
 Read = tie.After-unit-at
 
@@ -43,21 +27,42 @@ Found = tie.After-known-told
 abbrev Assigned : Type 0
 Assigned = tie.After-assign-to
 
-abbrev call : Read → tie.Start
-call c = c .before .before .before .before .before .before .before .before
+abbrev begun : tie.After-unit-at → tie.After-begin-of
+begun c = c .before .before
 
-abbrev read : Found → Read
+abbrev call : tie.After-unit-at → tie.Start
+call c = c .before .before .before .before .before .before .before
+
+abbrev read : tie.After-known-told → tie.After-unit-at
 read c = c .before .before .before
 
-abbrev found : Assigned → Found
-found c = c .before .before .before .before .before
+abbrev wanting : tie.After-assign-to → tie.After-wanted-by
+wanting c = c .before .before .before
+
+abbrev found : tie.After-wanted-by → tie.After-known-told
+found c = c .before .before
+
+abbrev assigned-over : tie.Then1 → tie.After-assign-to
+assigned-over c = c .before .before .before .before .before .before
+
+abbrev assigned-held : tie.Else1 → tie.After-assign-to
+assigned-held c = c .before .before .before .before .before .before
+
+begin-of-requires : tie.Need-begin-of-requires
+begin-of-requires c κs = search needs
+
+unit-at-requires : tie.Need-unit-at-requires
+unit-at-requires c κs = search needs
 
 -- what the clause asks for
 abbrev clause : Read → List ℤ
 clause c = getD (clauses (call c .args .list .now)) (call c .args .number .0 - 1) []
 
 said : (c : Read) → c .unit-at .result ≡ asks (call c .args .a .now) (clause c)
-said c = c .unit-at .ensures ∙ ap (asks (call c .args .a .now)) (call c .pre .0 .located .clause (call c .args .number .0) (call c .pre .1 .0) (call c .pre .1 .1))
+said c =
+    c .unit-at .ensures
+    ∙ ap (λ (k : ℕ). asks (call c .args .a .now) (clauseAt k (call c .args .list .now))) (begun c .begin-of .ensures)
+    ∙ ap (asks (call c .args .a .now)) (call c .pre .0 .located .clause (call c .args .number .0) (call c .pre .1 .0) (call c .pre .1 .1))
 
 -- its literal
 abbrev x : Found → ℤ
@@ -69,13 +74,25 @@ unit c = sym (said (read c)) ∙ c .before .x .given .1
 named : (c : tie.After-variable-of) → c .variable-of .result .0 ≡ variable (x (c .before))
 named c = c .variable-of .ensures ∙ ap variable (as-read (x (c .before)) (c .before .known-told .given .0 .1))
 
-wants : (c : tie.After-wanted-by) → c .wanted-by .result ≡ wanted (x (c .before .before))
-wants c = c .wanted-by .ensures ∙ ap wanted (as-read (x (c .before .before)) (c .before .before .known-told .given .0 .1))
+wants : (c : tie.After-wanted-by) → c .wanted-by .result ≡ wanted (x (found c))
+wants c = c .wanted-by .ensures ∙ ap wanted (as-read (x (found c)) (found c .known-told .given .0 .1))
 
-assigned : (c : Assigned)
-    → AssignedTo (call (read (found c)) .args .row .now) (variable (x (found c))) (wanted (x (found c))) (call (read (found c)) .args .tally) (call (read (found c)) .args .a .now) (call (read (found c)) .args .trail .now)
-    (c .assign-to .result) (c .assign-to .last .1 .1 .1 .1 .0) (c .assign-to .last .1 .1 .1 .1 .1 .0)
-assigned c = rw (sym (named (c .before .before .before .before)), sym (wants (c .before .before .before))) (c .assign-to .ensures)
+-- an assigned variable: the call, and the values and the trail after it
+module _ (c : Assigned) where
+  abbrev made : Found
+  made = found (wanting c)
+
+  abbrev start : tie.Start
+  start = call (read made)
+
+  abbrev values : List ℕ
+  values = c .assign-to .last .1 .1 .1 .1 .0
+
+  abbrev order : List ℕ
+  order = c .assign-to .last .1 .1 .1 .1 .1 .0
+
+  assigned : AssignedTo (start .args .row .now) (variable (x made)) (wanted (x made)) (start .args .tally) (start .args .a .now) (start .args .trail .now) (c .assign-to .result) values order
+  assigned = rw (sym (named (wanting c .before)), sym (wants (wanting c))) (c .assign-to .ensures)
 
 enum-told : tie.Need-enum-told
 enum-told c = search needs
@@ -94,12 +111,13 @@ wanted-by-requires c κs = search needs
 
 assign-to-requires : tie.Need-assign-to-requires
 assign-to-requires c κs =
-    let found = c .before .before .before .before in
+    let wanted = c .before .before in
+    let found = found wanted in
     let call = call (read found) in
     let h = call .pre .0 in
     let w = laws.inside h (call .args .d) (call .args .number .0) (call .pre .1 .0) (call .pre .1 .1) (x found) (unit found) in
     let r = laws.room h (call .args .d) (call .args .number .0) (call .pre .1 .0) (call .pre .1 .1) (x found) (unit found) in
-    let e = named (c .before .before .before) in (
+    let e = named (wanted .before) in (
       (omega (arith, e, w), omega (arith, e, w), omega (arith, e, w, h .few)),
       (omega (arith, r, h .searching .long), omega (arith, r, h .few), omega (arith, h .searching .few, r, h .few)),
     )
@@ -112,9 +130,9 @@ same-length-2 c = search needs
 
 returns : tie.Need-returns
 returns c =
-    let assigned-at = c .before .before .before .before .before .before in
-    let call = call (read (found assigned-at)) in
-    laws.look-over (call .pre .0) (call .args .d) (call .args .number .0) (call .pre .1 .0) (call .pre .1 .1) (x (found assigned-at)) (unit (found assigned-at)) (assigned assigned-at) (c .if1 .taken)
+    let done = assigned-over c in
+    let call = start done in
+    laws.look-over (call .pre .0) (call .args .d) (call .args .number .0) (call .pre .1 .0) (call .pre .1 .1) (x (made done)) (unit (made done)) (assigned done) (c .if1 .taken)
 
 same-length-3 : tie.Need-same-length-3
 same-length-3 c = search needs
@@ -142,18 +160,15 @@ same-length-6 c = search needs
 
 returns-4 : tie.Need-returns-4
 returns-4 c =
-    let assigned-at = c .before .before .before .before .before .before in
-    let call = call (read (found assigned-at)) in
-    laws.look-held (call .pre .0) (call .args .d) (call .args .number .0) (call .pre .1 .0) (call .pre .1 .1) (x (found assigned-at)) (unit (found assigned-at)) (assigned assigned-at) (c .if1 .left)
+    let done = assigned-held c in
+    let call = start done in
+    laws.look-held (call .pre .0) (call .args .d) (call .args .number .0) (call .pre .1 .0) (call .pre .1 .1) (x (made done)) (unit (made done)) (assigned done) (c .if1 .left)
 
 pub look-at-spec : {M : Type 1} → statement M
 look-at-spec =
     tie.close
     (tie.spec
-    sub-at
-    mul-from
-    shared-slice-read-from
-    cast-from
+    begin-of-requires
     unit-at-requires
     enum-told
     enum-told-2

@@ -1,12 +1,13 @@
 -- `propagation::look::look_at_all` meets its contract: each turn is one of the laws of `Passing`.
 use mathlib.Core.Path.{_≡_, subst, _∙_}
-use mathlib.Core.List.{[]}
+use mathlib.Core.List.{List, []}
+use mathlib.Core.Option.{Option}
 use Prim.Native.Nat.{ℕ, _-_}
 use native.Mathlib.Omega.{arith}
 use lib.ListN.{length, getD}
 use borrow.Author.Needs.{needs}
 use Rattle.formula.specs.Formula.{clauses}
-use Rattle.unit_queue.specs.Queue.{look}
+use Rattle.unit_queue.specs.Queue.{Pending, look}
 use Rattle.propagation.specs.Looked.{pending, LookedBy}
 use Rattle.propagation.specs.Looking.{looking-moved}
 use Rattle.propagation.specs.Loops.{Passing, passing-start, passing-dead, passing-next, passing-end}
@@ -16,12 +17,12 @@ use Rattle.propagation.proofs.look.look_at_all.Statement.{statement}
 use Rattle.propagation.proofs.look.look_at_all.Tie as tie
 
 abbrev Inv-loop : tie.InvT-loop
-Inv-loop list begins numbers row d a₀ trail₀ present₀ i₀ a trail present i = Passing (length a₀) (clauses list) row d numbers present₀ a₀ trail₀ i present a trail
+Inv-loop list arrangement numbers row d a₀ trail₀ present₀ i₀ a trail present i = Passing (length a₀) (clauses list) row d numbers present₀ a₀ trail₀ i present a trail
 
 abbrev μ-loop : tie.MeasureT-loop
-μ-loop list begins numbers row d a₀ trail₀ present₀ i₀ a trail present i = length numbers - i
+μ-loop list arrangement numbers row d a₀ trail₀ present₀ i₀ a trail present i = length numbers - i
 
--- The points of the program: the call, the head of a turn, and after a clause is looked at.
+-- The points of the program: the call, the head of a turn, its test passed, after a clause is looked at, and after a dead end or none.
 abbrev Call : Type 0
 Call = tie.Start Inv-loop μ-loop
 
@@ -31,11 +32,23 @@ Turn = tie.At-loop Inv-loop μ-loop
 abbrev Looked : Type 0
 Looked = tie.After-look-at Inv-loop μ-loop
 
-abbrev call : Turn → Call
+abbrev begun : tie.After-slice-known2 Inv-loop μ-loop → tie.Start Inv-loop μ-loop
+begun c = c .before .before .before .before .before
+
+abbrev call : tie.At-loop Inv-loop μ-loop → tie.Start Inv-loop μ-loop
 call c = c .before .before .before .before .before .before
 
-abbrev turn : Looked → Turn
+abbrev turn : tie.After-look-at Inv-loop μ-loop → tie.At-loop Inv-loop μ-loop
 turn c = c .before .before .before .before .before
+
+abbrev tested : tie.After-look-at Inv-loop μ-loop → tie.In-loop Inv-loop μ-loop
+tested c = c .before .before .before .before
+
+abbrev ended : tie.After-known-told Inv-loop μ-loop → tie.After-look-at Inv-loop μ-loop
+ended c = c .before .before .before .before .before .before .before
+
+abbrev settled : tie.After-known-told2 Inv-loop μ-loop → tie.After-look-at Inv-loop μ-loop
+settled c = c .before .before .before .before .before .before .before
 
 -- both slices are as long as at the call
 a-long : (c : Turn) → length (c .loop .a) ≡ length (call c .args .a .now)
@@ -44,22 +57,29 @@ a-long c = c .loop .inv .moved .searching .state .size
 trail-long : (c : Turn) → length (c .loop .trail) ≡ length (call c .args .trail .now)
 trail-long c = c .loop .inv .moved .grown .long
 
--- what looking at the clause came to
-said : (c : Looked) (r : Propagated) → c .look-at .result ≡ r
-    → LookedBy (length (call (turn c) .args .a .now)) (call (turn c) .args .row .now)
-    (λ (head : ℕ). look (call (turn c) .args .row .now) (call (turn c) .args .d) (pending head (turn c .loop .present) (turn c .loop .a) (turn c .loop .trail)) (getD (clauses (call (turn c) .args .list .now)) (getD (call (turn c) .args .numbers .now) (turn c .loop .i) 0 - 1) []))
-    (turn c .loop .present) (turn c .loop .a) (turn c .loop .trail) (c .look-at .last .1 .1 .1 .1 .1 .1 .0) (c .look-at .last .1 .1 .1 .1 .1 .1 .1 .0) r
-said c r e =
-    subst (λ (n : ℕ). LookedBy n (call (turn c) .args .row .now)
-    (λ (head : ℕ). look (call (turn c) .args .row .now) (call (turn c) .args .d) (pending head (turn c .loop .present) (turn c .loop .a) (turn c .loop .trail)) (getD (clauses (call (turn c) .args .list .now)) (getD (call (turn c) .args .numbers .now) (turn c .loop .i) 0 - 1) []))
-    (turn c .loop .present) (turn c .loop .a) (turn c .loop .trail) (c .look-at .last .1 .1 .1 .1 .1 .1 .0) (c .look-at .last .1 .1 .1 .1 .1 .1 .1 .0) r) (a-long (turn c))
-    (subst (λ (q : Propagated). LookedBy (length (turn c .loop .a)) (call (turn c) .args .row .now)
-    (λ (head : ℕ). look (call (turn c) .args .row .now) (call (turn c) .args .d) (pending head (turn c .loop .present) (turn c .loop .a) (turn c .loop .trail)) (getD (clauses (call (turn c) .args .list .now)) (getD (call (turn c) .args .numbers .now) (turn c .loop .i) 0 - 1) []))
-    (turn c .loop .present) (turn c .loop .a) (turn c .loop .trail) (c .look-at .last .1 .1 .1 .1 .1 .1 .0) (c .look-at .last .1 .1 .1 .1 .1 .1 .1 .0) q) e (c .look-at .ensures))
+-- a clause is looked at: the values and the trail after that, and what it came to
+module _ (c : Looked) where
+  abbrev from : Turn
+  from = turn c
+
+  abbrev values : List ℕ
+  values = c .look-at .last .1 .1 .1 .1 .1 .1 .0
+
+  abbrev order : List ℕ
+  order = c .look-at .last .1 .1 .1 .1 .1 .1 .1 .0
+
+  abbrev outcome : ℕ → Option Pending
+  outcome head =
+      look (call from .args .row .now) (call from .args .d) (pending head (from .loop .present) (from .loop .a) (from .loop .trail)) (getD (clauses (call from .args .list .now)) (getD (call from .args .numbers .now) (from .loop .i) 0 - 1) [])
+
+  said : (r : Propagated) → c .look-at .result ≡ r → LookedBy (length (call from .args .a .now)) (call from .args .row .now) outcome (from .loop .present) (from .loop .a) (from .loop .trail) values order r
+  said r e =
+      subst (λ (n : ℕ). LookedBy n (call from .args .row .now) outcome (from .loop .present) (from .loop .a) (from .loop .trail) values order r) (a-long from)
+      (subst (λ (q : Propagated). LookedBy (length (from .loop .a)) (call from .args .row .now) outcome (from .loop .present) (from .loop .a) (from .loop .trail) values order q) e (c .look-at .ensures))
 
 loop-holds : tie.Need-loop-holds Inv-loop μ-loop
 loop-holds c =
-    let call = c .before .before .before .before .before in
+    let call = begun c in
     passing-start (clauses (call .args .list .now)) (call .args .d) (call .args .numbers .now) (call .pre .0 .searching)
 
 mul-t14 : tie.Need-mul-t14 Inv-loop μ-loop
@@ -84,19 +104,19 @@ enum-known-t c = search needs
 
 same-length : tie.Need-same-length Inv-loop μ-loop
 same-length c =
-    let looked = c .before .before .before .before .before .before .before in
+    let looked = ended c in
     looked .look-at .kept .1 .1 .1 .1 .1 .1 .0 ∙ a-long (turn looked)
 
 same-length-2 : tie.Need-same-length-2 Inv-loop μ-loop
 same-length-2 c =
-    let looked = c .before .before .before .before .before .before .before in
+    let looked = ended c in
     looked .look-at .kept .1 .1 .1 .1 .1 .1 .1 .0 ∙ trail-long (turn looked)
 
 returns : tie.Need-returns Inv-loop μ-loop
 returns c =
-    let looked = c .before .before .before .before .before .before .before in
+    let looked = ended c in
     let turn = turn looked in
-    passing-dead (turn .loop .inv) (looked .before .before .before .before .loop-test .taken) (said looked (Dead (c .before .t .given .0 .0)) (c .before .t .given .1))
+    passing-dead (turn .loop .inv) (tested looked .loop-test .taken) (said looked (Dead (c .before .t .given .0 .0)) (c .before .t .given .1))
 
 enum-known-t-2 : tie.Need-enum-known-t-2 Inv-loop μ-loop
 enum-known-t-2 c = search needs
@@ -109,9 +129,9 @@ loop-less c = search needs
 
 loop-again : tie.Need-loop-again Inv-loop μ-loop
 loop-again c =
-    let looked = c .before .before .before .before .before .before .before in
+    let looked = settled c in
     let turn = turn looked in
-    passing-next (turn .loop .inv) (looked .before .before .before .before .loop-test .taken) (said looked (Settled (c .before .t2 .given .0 .0)) (c .before .t2 .given .1))
+    passing-next (turn .loop .inv) (tested looked .loop-test .taken) (said looked (Settled (c .before .t2 .given .0 .0)) (c .before .t2 .given .1))
 
 same-length-3 : tie.Need-same-length-3 Inv-loop μ-loop
 same-length-3 c = a-long (c .before)

@@ -7,9 +7,22 @@ use Rattle.propagation.specs.Propagated.{over-limit, in-limit}
 use Rattle.propagation.proofs.propagate.propagate_units.Statement.{statement}
 use Rattle.propagation.proofs.propagate.propagate_units.Tie as tie
 
+-- Points of the program: the call; above the limit; within it; the queue followed.
+abbrev above : tie.Then1 → tie.Start
+above c = c .before .before .before .before .before .before
+
+abbrev within : tie.Else1 → tie.Start
+within c = c .before .before .before .before .before .before
+
+abbrev limited : tie.After-follow-queue → tie.Else1
+limited c = c .before .before .before
+
+abbrev followed : tie.After-slice-known4 → tie.After-follow-queue
+followed c = c .before .before .before .before
+
 returns : tie.Need-returns
 returns c =
-    let call = c .before .before .before .before .before .before .before .before in
+    let call = above c in
     let args = call .args in
     over-limit (call .pre .0 .looking .searching) (args .d) (drain (clauses (args .list .now)) (args .row .now) (args .d) (pending (args .from) (args .tally) (args .a .now) (args .trail .now))) (c .if1 .taken)
 
@@ -24,9 +37,9 @@ same-length-2 c = search needs
 
 returns-2 : tie.Need-returns-2
 returns-2 c =
-    let followed = c .before .before .before .before in
-    let limited = followed .before .before .before in
-    let call = limited .before .before .before .before .before .before .before .before in
+    let followed = followed c in
+    let limited = limited followed in
+    let call = within limited in
     let args = call .args in
     rw (in-limit (call .pre .0 .looking .searching) (args .d) (drain (clauses (args .list .now)) (args .row .now) (args .d) (pending (args .from) (args .tally) (args .a .now) (args .trail .now))) (limited .if1 .left)) (followed .follow-queue .ensures)
 

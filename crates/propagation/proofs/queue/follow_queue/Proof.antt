@@ -1,15 +1,17 @@
 -- `propagation::queue::follow_queue` meets its contract: each turn is one of the laws of `Draining`.
-use mathlib.Core.Path.{_≡_, sym, _∙_}
+use mathlib.Core.Path.{_≡_, sym, subst, _∙_}
 use mathlib.Core.List.{List}
-use Prim.Native.Nat.{ℕ, _+_, _-_, _*_, _<_}
+use mathlib.Core.Option.{Option}
+use Prim.Native.Nat.{ℕ, _+_, _-_, _*_, _≤_, _<_}
 use native.Mathlib.Omega.{arith}
 use lib.ListN.{length, getD}
 use borrow.Author.Needs.{needs}
 use Rattle.literal.specs.Literal.{value}
 use Rattle.formula.specs.Formula.{clauses}
-use Rattle.unit_queue.specs.Queue.{lookAt, falseIn}
+use Rattle.occurrences.specs.Layout.{HasPart, partAt}
+use Rattle.occurrences.specs.Reading.{has-part, part-holding}
+use Rattle.unit_queue.specs.Queue.{Pending, lookAt, falseIn}
 use Rattle.propagation.specs.Looked.{pending, LookedBy}
-use Rattle.occurrences.specs.Table.{partOf}
 use Rattle.propagation.specs.Looking.{looking-moved}
 use Rattle.propagation.specs.Loops.{Draining, draining-start, draining-dead, draining-next, draining-end, part-numbers}
 use Rattle.propagation.specs.Searching.{Assigned, settled-most}
@@ -19,15 +21,12 @@ use Rattle.propagation.proofs.queue.follow_queue.Statement.{statement}
 use Rattle.propagation.proofs.queue.follow_queue.Tie as tie
 
 abbrev Inv-loop : tie.InvT-loop
-Inv-loop list ends numbers begins row d from a₀ trail₀ present₀ head₀ a trail present head = Draining (length a₀) (clauses list) row d head₀ present₀ a₀ trail₀ head present a trail
+Inv-loop list arrangement row d from a₀ trail₀ present₀ head₀ a trail present head = Draining (length a₀) (clauses list) row d head₀ present₀ a₀ trail₀ head present a trail
 
 abbrev μ-loop : tie.MeasureT-loop
-μ-loop list ends numbers begins row d from a₀ trail₀ present₀ head₀ a trail present head = length a₀ - head
+μ-loop list arrangement row d from a₀ trail₀ present₀ head₀ a trail present head = length a₀ - head
 
--- The points of the program: the call; the head of a turn; with the clauses of the false literal; and after they are looked at.
-abbrev Call : Type 0
-Call = tie.Start Inv-loop μ-loop
-
+-- The points of the program: the call; the head of a turn; with a variable in the queue; with the clauses of its false literal; after they are looked at; and after a dead end or none.
 abbrev Turn : Type 0
 Turn = tie.At-loop Inv-loop μ-loop
 
@@ -37,14 +36,26 @@ Parted = tie.After-false-part Inv-loop μ-loop
 abbrev Looked : Type 0
 Looked = tie.After-look-at-all Inv-loop μ-loop
 
-abbrev call : Turn → Call
-call c = c .before .before .before .before .before .before .before
+abbrev begun : tie.After-slice-known2 Inv-loop μ-loop → tie.Start Inv-loop μ-loop
+begun c = c .before .before .before .before
 
-abbrev turn : Parted → Turn
-turn c = c .before .before .before .before .before
+abbrev call : tie.At-loop Inv-loop μ-loop → tie.Start Inv-loop μ-loop
+call c = c .before .before .before .before .before
 
-abbrev parted : Looked → Parted
+abbrev turn : tie.Then1 Inv-loop μ-loop → tie.At-loop Inv-loop μ-loop
+turn c = c .before .before
+
+abbrev waiting : tie.After-false-part Inv-loop μ-loop → tie.Then1 Inv-loop μ-loop
+waiting c = c .before .before .before
+
+abbrev parted : tie.After-look-at-all Inv-loop μ-loop → tie.After-false-part Inv-loop μ-loop
 parted c = c .before .before .before
+
+abbrev ended : tie.After-known-told Inv-loop μ-loop → tie.After-look-at-all Inv-loop μ-loop
+ended c = c .before .before .before .before .before .before .before
+
+abbrev settled : tie.After-known-told2 Inv-loop μ-loop → tie.After-look-at-all Inv-loop μ-loop
+settled c = c .before .before .before .before .before .before .before
 
 -- both slices are as long as at the call
 a-long : (c : Turn) → length (c .loop .a) ≡ length (call c .args .a .now)
@@ -63,65 +74,90 @@ first c h = c .loop .inv .moved .searching .traced (c .loop .head) h
 inside : (c : Turn) → c .loop .head < c .loop .present .settled → c .loop .head < length (c .loop .trail)
 inside c h = let s = c .loop .inv .moved .searching in omega (arith, h, settled-most s, s .long)
 
--- the clauses that hold its false literal
-module _ (c : Parted) where
-  abbrev now : Turn
-  now = turn c
+-- its false literal has a part
+module _ (c : tie.Then1 Inv-loop μ-loop) where
+  abbrev this : Turn
+  this = turn c
 
-  taken : now .loop .head < now .loop .present .settled
-  taken = c .before .before .before .if1 .taken
+  taken : this .loop .head < this .loop .present .settled
+  taken = c .if1 .taken
 
   abbrev other : ℕ
-  other = 1 - value (now .loop .a) (v now)
+  other = 1 - value (this .loop .a) (v this)
 
   other-bit : other < 2
   other-bit = omega arith
 
-  slot-inside : 2 * v now + other < length (call now .args .ends .now)
-  slot-inside = omega (arith, first now taken .upTo, call now .pre .0 .beside .wide)
+  low : v this ≤ length (call this .args .a .now)
+  low = first this taken .upTo
+
+  there : HasPart (call this .args .arrangement .now) (2 * v this + other)
+  there = has-part (call this .pre .0 .beside) (2 * v this + other) (omega (arith, first this taken .above)) (omega (arith, low))
+
+-- the clauses that hold it
+module _ (c : Parted) where
+  abbrev now : Turn
+  now = turn (waiting c)
 
   abbrev numbers : List ℕ
-  numbers = partOf (call now .args .ends .now) (call now .args .numbers .now) (2 * v now + other)
+  numbers = partAt (call now .args .arrangement .now) (2 * v now + other (waiting c))
 
   false-clauses : numbers ≡ falseIn (clauses (call now .args .list .now)) (now .loop .a) (v now)
-  false-clauses = call now .pre .0 .beside .arranged .literals (v now) other (first now taken .above) other-bit slot-inside
+  false-clauses = part-holding (call now .pre .0 .beside) (v now) (other (waiting c)) (first now (taken (waiting c)) .above) (other-bit (waiting c)) (low (waiting c))
 
--- what looking at them came to
-said : (c : Looked) (r : Propagated) → c .look-at-all .result ≡ r
-    → LookedBy (length (call (turn (parted c)) .args .a .now)) (call (turn (parted c)) .args .row .now)
-    (λ (head : ℕ). lookAt (clauses (call (turn (parted c)) .args .list .now)) (call (turn (parted c)) .args .row .now) (call (turn (parted c)) .args .d) (pending head (turn (parted c) .loop .present) (turn (parted c) .loop .a) (turn (parted c) .loop .trail)) (falseIn (clauses (call (turn (parted c)) .args .list .now)) (turn (parted c) .loop .a) (v (turn (parted c)))))
-    (turn (parted c) .loop .present) (turn (parted c) .loop .a) (turn (parted c) .loop .trail) (c .look-at-all .last .1 .1 .1 .1 .1 .1 .0) (c .look-at-all .last .1 .1 .1 .1 .1 .1 .1 .0) r
-said c r e =
-    rw (sym (a-long (turn (parted c))), sym (false-clauses (parted c)), sym (parted c .false-part .ensures), sym e) (c .look-at-all .ensures)
+-- they are looked at: the values and the trail after that, and what it came to
+module _ (c : Looked) where
+  abbrev from : Turn
+  from = now (parted c)
+
+  more : from .loop .head < from .loop .present .settled
+  more = taken (waiting (parted c))
+
+  abbrev values : List ℕ
+  values = c .look-at-all .last .1 .1 .1 .1 .1 .1 .0
+
+  abbrev order : List ℕ
+  order = c .look-at-all .last .1 .1 .1 .1 .1 .1 .1 .0
+
+  abbrev outcome : List ℕ → ℕ → Option Pending
+  outcome ks head = lookAt (clauses (call from .args .list .now)) (call from .args .row .now) (call from .args .d) (pending head (from .loop .present) (from .loop .a) (from .loop .trail)) ks
+
+  said : (r : Propagated) → c .look-at-all .result ≡ r
+      → LookedBy (length (call from .args .a .now)) (call from .args .row .now) (outcome (falseIn (clauses (call from .args .list .now)) (from .loop .a) (v from))) (from .loop .present) (from .loop .a) (from .loop .trail) values order r
+  said r e =
+      subst (λ (ks : List ℕ). LookedBy (length (call from .args .a .now)) (call from .args .row .now) (outcome ks) (from .loop .present) (from .loop .a) (from .loop .trail) values order r)
+      (parted c .false-part .ensures ∙ false-clauses (parted c))
+      (rw (sym (a-long from), sym e) (c .look-at-all .ensures))
 
 loop-holds : tie.Need-loop-holds Inv-loop μ-loop
 loop-holds c =
-    let call = c .before .before .before .before .before .before in
+    let call = begun c in
     draining-start (clauses (call .args .list .now)) (call .args .d) (call .args .from) (call .pre .0 .looking .searching) (call .pre .1)
 
-mul-t18 : tie.Need-mul-t18 Inv-loop μ-loop
-mul-t18 c = search needs
+mul-t16 : tie.Need-mul-t16 Inv-loop μ-loop
+mul-t16 c = search needs
 
-slice-read-t20 : tie.Need-slice-read-t20 Inv-loop μ-loop
-slice-read-t20 c = inside (c .before .before .before) (c .before .if1 .taken)
+slice-read-t18 : tie.Need-slice-read-t18 Inv-loop μ-loop
+slice-read-t18 c = inside (turn (c .before)) (c .before .if1 .taken)
 
-cast-t21 : tie.Need-cast-t21 Inv-loop μ-loop
-cast-t21 c = record { fits = omega (arith, c .slice-known3 .given (c .before .before .before .loop .head) .fits) }
+cast-t19 : tie.Need-cast-t19 Inv-loop μ-loop
+cast-t19 c = record { fits = omega (arith, c .slice-known3 .given (turn (c .before) .loop .head) .fits) }
 
 false-part-requires : tie.Need-false-part-requires Inv-loop μ-loop
 false-part-requires c κs =
-    let turn = c .before .before .before .before in
-    let w = first turn (c .before .before .if1 .taken) in
-    let call = call turn in
-    ((w .above, omega (arith, w .upTo, a-long turn), w .bit), ((omega (arith, a-long turn, call .pre .0 .looking .few), omega (arith, a-long turn, call .pre .0 .beside .wide)), call .pre .0 .beside .arranged .parts))
+    let waits = c .before .before in
+    let turn = turn waits in
+    let w = first turn (taken waits) in
+    ((w .above, omega (arith, w .upTo, a-long turn), w .bit), (omega (arith, a-long turn, call turn .pre .0 .looking .few), there waits))
 
 look-at-all-requires : tie.Need-look-at-all-requires Inv-loop μ-loop
 look-at-all-requires c κs =
     let parted = c .before .before in
-    let turn = turn parted in
+    let waits = waiting parted in
+    let turn = turn waits in
     let call = call turn in (
       looking-moved (call .pre .0 .looking) (turn .loop .inv .moved),
-      rw (parted .false-part .ensures) (part-numbers (call .pre .0 .beside .arranged) (v turn) (other parted) (first turn (taken parted) .above) (other-bit parted) (slot-inside parted)),
+      rw (parted .false-part .ensures) (part-numbers (call .pre .0 .beside) (v turn) (other waits) (first turn (taken waits) .above) (other-bit waits) (low waits)),
     )
 
 enum-known-t : tie.Need-enum-known-t Inv-loop μ-loop
@@ -129,37 +165,37 @@ enum-known-t c = search needs
 
 same-length : tie.Need-same-length Inv-loop μ-loop
 same-length c =
-    let looked = c .before .before .before .before .before .before .before in
-    looked .look-at-all .kept .1 .1 .1 .1 .1 .1 .0 ∙ a-long (turn (parted looked))
+    let looked = ended c in
+    looked .look-at-all .kept .1 .1 .1 .1 .1 .1 .0 ∙ a-long (from looked)
 
 same-length-2 : tie.Need-same-length-2 Inv-loop μ-loop
 same-length-2 c =
-    let looked = c .before .before .before .before .before .before .before in
-    looked .look-at-all .kept .1 .1 .1 .1 .1 .1 .1 .0 ∙ trail-long (turn (parted looked))
+    let looked = ended c in
+    looked .look-at-all .kept .1 .1 .1 .1 .1 .1 .1 .0 ∙ trail-long (from looked)
 
 returns : tie.Need-returns Inv-loop μ-loop
 returns c =
-    let looked = c .before .before .before .before .before .before .before in
-    draining-dead (turn (parted looked) .loop .inv) (taken (parted looked)) (said looked (Dead (c .before .t .given .0 .0)) (c .before .t .given .1))
+    let looked = ended c in
+    draining-dead (from looked .loop .inv) (more looked) (said looked (Dead (c .before .t .given .0 .0)) (c .before .t .given .1))
 
 enum-known-t-2 : tie.Need-enum-known-t-2 Inv-loop μ-loop
 enum-known-t-2 c = search needs
 
 add-head : tie.Need-add-head Inv-loop μ-loop
 add-head c =
-    let looked = c .before .before .before .before .before .before .before in
-    let turn = turn (parted looked) in
-    record { fits = omega (arith, taken (parted looked), settled-most (turn .loop .inv .moved .searching), call turn .pre .0 .looking .few) }
+    let looked = settled c in
+    let turn = from looked in
+    record { fits = omega (arith, more looked, settled-most (turn .loop .inv .moved .searching), call turn .pre .0 .looking .few) }
 
 loop-less : tie.Need-loop-less Inv-loop μ-loop
 loop-less c =
-    let looked = c .before .before .before .before .before .before .before in
-    omega (arith, taken (parted looked), settled-most (turn (parted looked) .loop .inv .moved .searching))
+    let looked = settled c in
+    omega (arith, more looked, settled-most (from looked .loop .inv .moved .searching))
 
 loop-again : tie.Need-loop-again Inv-loop μ-loop
 loop-again c =
-    let looked = c .before .before .before .before .before .before .before in
-    draining-next (turn (parted looked) .loop .inv) (taken (parted looked)) (said looked (Settled (c .before .t2 .given .0 .0)) (c .before .t2 .given .1))
+    let looked = settled c in
+    draining-next (from looked .loop .inv) (more looked) (said looked (Settled (c .before .t2 .given .0 .0)) (c .before .t2 .given .1))
 
 same-length-3 : tie.Need-same-length-3 Inv-loop μ-loop
 same-length-3 c = a-long (c .before .before)
@@ -177,9 +213,9 @@ follow-queue-spec =
     Inv-loop
     μ-loop
     loop-holds
-    mul-t18
-    slice-read-t20
-    cast-t21
+    mul-t16
+    slice-read-t18
+    cast-t19
     false-part-requires
     look-at-all-requires
     enum-known-t

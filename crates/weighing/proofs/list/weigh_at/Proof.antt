@@ -9,7 +9,10 @@ use lib.ListN.{length, getD, take, drop}
 use Rattle.formula.specs.Formula.{clauses, clauseLength, satisfied}
 use Rattle.formula.specs.Laws.{end-inside}
 use Rattle.clause_standing.specs.Clause.{clauseAt, clause-at}
+use Rattle.clause_standing.specs.declared.ReadClause.{ReadClause}
+use Rattle.clause_standing.specs.declared.ReadClause.the-variants.{Satisfied, Open}
 use Rattle.clause_standing.specs.Standing.{IsRead, HoldsAt, StandsOpen}
+use Rattle.occurrences.specs.Layout.{beginsOf}
 use Rattle.occurrences.specs.Table.{begins-inside, begins-clause}
 use Rattle.opposed.specs.Opposed.{sizeOf}
 use Rattle.walk.specs.Branching.{isOpposed}
@@ -43,7 +46,10 @@ module _ (s : tie.Start) where
   clause = getD (clauses list) k []
 
   abbrev begin : ℕ
-  begin = getD (s .args .begins .now) k 0
+  begin = getD (beginsOf (s .args .arrangement .now)) k 0
+
+  begin-inside : begin < length list
+  begin-inside = begins-inside (s .pre .0 .0) k less
 
   abbrev same : clauseAt begin list ≡ clause
   same = begins-clause (s .pre .0 .0) k less
@@ -53,26 +59,26 @@ module _ (s : tie.Start) where
     no-dead-end : false ≡ s .args .spent && isOpposed row a clause
     no-dead-end = sym (ap (λ (b : Bool). s .args .spent && b) (satisfied-unopposed row a clause met) ∙ and-false (s .args .spent))
 
-    unchanged : Weighed row a (sizeOf (s .args .fewest)) clause (s .args .weights .now) (s .args .marks .now) (s .args .weights .now) (s .args .marks .now)
-    unchanged = weighed-satisfied row a clause met (sizeOf (s .args .fewest)) (s .args .weights .now) (s .args .marks .now)
+    unchanged : Weighed row a (sizeOf (s .args .fewest)) clause (s .args .weights .now) (s .args .weights .now)
+    unchanged = weighed-satisfied row a clause met (sizeOf (s .args .fewest)) (s .args .weights .now)
 
   -- read as open, it is the part of the list up to its end
   module _ (end count : ℕ) (h : StandsOpen a list begin end count) where
     ends-inside : end ≤ length list
-    ends-inside = end-inside list begin end (omega (arith, begins-inside (s .pre .0 .0) k less)) (h .ends)
+    ends-inside = end-inside list begin end (omega (arith, begin-inside)) (h .ends)
 
     part : take (end - begin) (drop begin list) ≡ clause
     part = clause-at list begin end (h .ends) ∙ same
 
--- Points of the program: its witness tested; the clause read; a literal of it found that holds, or its end and its count of unassigned literals; whether it makes a dead end.
+-- Points of the program: its witness tested; with the place where it begins; the clause read; a literal of it found that holds, or its end and its count of unassigned literals; whether it makes a dead end; the clause weighed.
 abbrev start : tie.After-is-witnessed → tie.Start
-start c = c .before .before .before .before .before .before .before .before
+start c = c .before .before .before .before .before .before .before
 
-abbrev tested : tie.After-read-clause → tie.After-is-witnessed
-tested c = c .before .before .before .before
+abbrev placed : tie.After-begin-of → tie.Start
+placed c = start (c .before .before)
 
 abbrev call : tie.After-read-clause → tie.Start
-call c = start (tested c)
+call c = placed (c .before)
 
 abbrev met : tie.After-known-told → tie.After-read-clause
 met c = c .before .before .before
@@ -83,15 +89,44 @@ opened c = c .before .before .before
 abbrev asked : tie.After-exhausts → tie.After-known-told2
 asked c = c .before .before
 
-held : (c : tie.After-known-told) → HoldsAt (a (call (met c))) (list (call (met c))) (begin (call (met c))) (c .before .at .given .0 .0)
-held c =
-    let s = call (met c) in
-    subst (IsRead (a s) (list s) (begin s)) (c .before .at .given .1) (met c .read-clause .ensures)
+abbrev alive : tie.After-weigh-clause-arg → tie.After-exhausts
+alive c = c .before .before
 
-stands : (c : tie.After-known-told2) → StandsOpen (a (call (opened c))) (list (call (opened c))) (begin (call (opened c))) (c .before .end .given .0 .0) (c .before .end .given .0 .1 .0)
-stands c =
-    let s = call (opened c) in
-    subst (IsRead (a s) (list s) (begin s)) (c .before .end .given .1) (opened c .read-clause .ensures)
+abbrev weighed : tie.After-slice-known3 → tie.After-weigh-clause
+weighed c = c .before .before
+
+-- what was read is told of the place where the clause begins
+read-as : (c : tie.After-read-clause) (r : ReadClause) → c .read-clause .result ≡ r → IsRead (a (call c)) (list (call c)) (begin (call c)) r
+read-as c r e =
+    let s = call c in
+    subst (IsRead (a s) (list s) (begin s)) e (subst (λ (i : ℕ). IsRead (a s) (list s) i (c .read-clause .result)) (c .before .begin-of .ensures) (c .read-clause .ensures))
+
+module _ (c : tie.After-known-told) where
+  abbrev at : ℕ
+  at = c .before .at .given .0 .0
+
+  held : HoldsAt (a (call (met c))) (list (call (met c))) (begin (call (met c))) at
+  held = read-as (met c) (Satisfied at) (c .before .at .given .1)
+
+module _ (c : tie.After-known-told2) where
+  abbrev end : ℕ
+  end = c .before .end .given .0 .0
+
+  abbrev count : ℕ
+  count = c .before .end .given .0 .1 .0
+
+  stands : StandsOpen (a (call (opened c))) (list (call (opened c))) (begin (call (opened c))) end count
+  stands = read-as (opened c) (Open end count) (c .before .end .given .1)
+
+  -- the part of the list that is read is the clause
+  abbrev from : ℕ
+  from = opened c .before .begin-of .result
+
+  from-begin : from ≡ begin (call (opened c))
+  from-begin = opened c .before .begin-of .ensures
+
+  read-part : take (end - from) (drop from (list (call (opened c)))) ≡ clause (call (opened c))
+  read-part = ap (λ (i : ℕ). take (end - i) (drop i (list (call (opened c))))) from-begin ∙ part (call (opened c)) end count stands
 
 is-witnessed-requires : tie.Need-is-witnessed-requires
 is-witnessed-requires c κs = search needs
@@ -105,17 +140,8 @@ returns c =
     let satisfies = s .pre .0 .1 .satisfies (k s) (less s) (a s) (sym (c .before .is-witnessed .ensures) ∙ c .if1 .taken) in
     (s .pre .0 .1, (no-dead-end s satisfies, λ e. unchanged s satisfies))
 
-sub-k : tie.Need-sub-k
-sub-k c = search needs
-
-mul-from : tie.Need-mul-from
-mul-from c = search needs
-
-shared-slice-read-from : tie.Need-shared-slice-read-from
-shared-slice-read-from c = search needs
-
-cast-from : tie.Need-cast-from
-cast-from c = record { fits = omega (arith, c .shared-slice-known4 .given (k (c .before .before .before .before .before .before .before .before .before .before .before)) .fits) }
+begin-of-requires : tie.Need-begin-of-requires
+begin-of-requires c κs = let s = start (c .before) in (s .pre .0 .2, omega (arith, s .pre .0 .3, s .pre .0 .0 .many))
 
 read-clause-requires : tie.Need-read-clause-requires
 read-clause-requires c κs = search needs
@@ -126,8 +152,11 @@ enum-known-at c = search needs
 cast-witnesses : tie.Need-cast-witnesses
 cast-witnesses c =
     let s = call (met c) in
-    let far = end-inside (list s) (begin s) (begin s + clauseLength (drop (begin s) (list s))) (omega (arith, begins-inside (s .pre .0 .0) (k s) (less s))) refl in
+    let far = end-inside (list s) (begin s) (begin s + clauseLength (drop (begin s) (list s))) (omega (arith, begin-inside s)) refl in
     record { fits = omega (arith, held c .before, far, s .pre .0 .0 .short) }
+
+sub-witnesses : tie.Need-sub-witnesses
+sub-witnesses c = search needs
 
 mul-witnesses : tie.Need-mul-witnesses
 mul-witnesses c = search needs
@@ -139,18 +168,16 @@ enum-known-end : tie.Need-enum-known-end
 enum-known-end c = search needs
 
 mul-clause : tie.Need-mul-clause
-mul-clause c =
-    let s = call (opened c) in
-    record { fits = omega (arith, opened c .before .shared-slice-known4 .given (k s) .fits) }
+mul-clause c = let s = call (opened c) in record { fits = omega (arith, from-begin c, begin-inside s, s .pre .0 .0 .short) }
 
 sub-clause : tie.Need-sub-clause
-sub-clause c = omega (arith, stands c .ends)
+sub-clause c = omega (arith, from-begin c, stands c .ends)
 
 part-clause-start : tie.Need-part-clause-start
-part-clause-start c = omega (arith, stands c .ends)
+part-clause-start c = omega (arith, from-begin c, stands c .ends)
 
 part-clause-end : tie.Need-part-clause-end
-part-clause-end c = ends-inside (call (opened c)) (c .before .end .given .0 .0) (c .before .end .given .0 .1 .0) (stands c)
+part-clause-end c = ends-inside (call (opened c)) (end c) (count c) (stands c)
 
 exhausts-requires : tie.Need-exhausts-requires
 exhausts-requires c κs = search needs
@@ -159,7 +186,7 @@ exhausts-requires c κs = search needs
 told : (c : tie.After-exhausts) → c .exhausts .result ≡ call (opened (asked c)) .args .spent && isOpposed (row (call (opened (asked c)))) (a (call (opened (asked c)))) (clause (call (opened (asked c))))
 told c =
     let s = call (opened (asked c)) in
-    c .exhausts .ensures ∙ ap (λ (e : List ℤ). s .args .spent && isOpposed (row s) (a s) e) (part s (asked c .before .end .given .0 .0) (asked c .before .end .given .0 .1 .0) (stands (asked c)))
+    c .exhausts .ensures ∙ ap (λ (e : List ℤ). s .args .spent && isOpposed (row s) (a s) e) (read-part (asked c))
 
 same-length-2 : tie.Need-same-length-2
 same-length-2 c = search needs
@@ -171,12 +198,11 @@ returns-2 c =
 
 weigh-clause-requires : tie.Need-weigh-clause-requires
 weigh-clause-requires c κs =
-    let now = asked (c .before .before .before) in
+    let now = asked (alive c) in
     let s = call (opened now) in
-    let end = now .before .end .given .0 .0 in
-    let read = clause-at (list s) (begin s) end (stands now .ends) in (
+    let read = read-part now ∙ sym (same s) in (
       (ap (satisfied (a s)) read ∙ stands now .none, ap (unassignedIn (a s)) read ∙ stands now .counted),
-      subst (λ (e : List ℤ). Weighable e (s .args .weights .now) (s .args .marks .now)) (sym (part s end (now .before .end .given .0 .1 .0) (stands now))) (s .pre .1),
+      subst (λ (e : List ℤ). Weighable (length (a s)) e (s .args .weights .now)) (sym (read-part now)) (s .pre .1),
     )
 
 same-length-3 : tie.Need-same-length-3
@@ -184,9 +210,10 @@ same-length-3 c = search needs
 
 returns-3 : tie.Need-returns-3
 returns-3 c =
-    let s = call (met c) in
-    let satisfies = ap (satisfied (a s)) (sym (same s)) ∙ held-satisfies (list s) (begin s) (c .before .at .given .0 .0) (held c .after) (held c .before) (begins-inside (s .pre .0 .0) (k s) (less s)) (a s) (held c .held) in
-    (new-witness (s .pre .0 .0) (s .pre .0 .1) (k s) (c .before .at .given .0 .0) (less s) (held c .after) (held c .before), (no-dead-end s satisfies, λ e. unchanged s satisfies))
+    let found = c .before in
+    let s = call (met found) in
+    let satisfies = ap (satisfied (a s)) (sym (same s)) ∙ held-satisfies (list s) (begin s) (at found) (held found .after) (held found .before) (begin-inside s) (a s) (held found .held) in
+    (new-witness (s .pre .0 .0) (s .pre .0 .1) (k s) (at found) (less s) (held found .after) (held found .before), (no-dead-end s satisfies, λ e. unchanged s satisfies))
 
 same-length-4 : tie.Need-same-length-4
 same-length-4 c = search needs
@@ -194,19 +221,15 @@ same-length-4 c = search needs
 same-length-5 : tie.Need-same-length-5
 same-length-5 c = search needs
 
-same-length-6 : tie.Need-same-length-6
-same-length-6 c = search needs
-
 returns-4 : tie.Need-returns-4
 returns-4 c =
-    let dead = c .before .before .before .before .before .before .before .before in
+    let dead = alive (weighed c .before) in
     let now = asked dead in
-    let s = call (opened now) in
-    let whole = part s (now .before .end .given .0 .0) (now .before .end .given .0 .1 .0) (stands now) in (
+    let s = call (opened now) in (
       s .pre .0 .1,
       (
-        sym (c .before .before .before .before .before .before .before .if2 .left) ∙ told dead,
-        λ e. subst (λ (g : List ℤ). Weighed (row s) (a s) (sizeOf (s .args .fewest)) g (s .args .weights .now) (s .args .marks .now) (c .before .before .before .before .weigh-clause .last .1 .1 .1 .1 .1 .0) (c .before .before .before .before .weigh-clause .last .1 .1 .1 .1 .1 .1 .0)) whole (c .before .before .before .before .weigh-clause .ensures),
+        sym (weighed c .before .before .if2 .left) ∙ told dead,
+        λ e. subst (λ (g : List ℤ). Weighed (row s) (a s) (sizeOf (s .args .fewest)) g (s .args .weights .now) (weighed c .weigh-clause .last .1 .1 .1 .1 .1 .0)) (read-part now) (weighed c .weigh-clause .ensures),
       ),
     )
 
@@ -217,13 +240,11 @@ weigh-at-spec =
     is-witnessed-requires
     same-length
     returns
-    sub-k
-    mul-from
-    shared-slice-read-from
-    cast-from
+    begin-of-requires
     read-clause-requires
     enum-known-at
     cast-witnesses
+    sub-witnesses
     mul-witnesses
     slice-write-witnesses
     enum-known-end
@@ -239,5 +260,4 @@ weigh-at-spec =
     returns-3
     same-length-4
     same-length-5
-    same-length-6
     returns-4)

@@ -1,2 +1,0 @@
-pub mod Branch
-pub mod Laws

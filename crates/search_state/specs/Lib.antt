@@ -1,0 +1,10 @@
+pub mod Copying
+pub mod ForkLaws
+pub mod Newest
+pub mod Ready
+pub mod ReadyLaws
+pub mod Result
+pub mod Root
+pub mod RootLaws
+pub mod Tried
+pub mod Undoing
