@@ -2,7 +2,7 @@
 // refuse, one after another in their order.
 use admission_steps::Admission;
 ghost use mathlib.Core.Path.{_≡_};
-ghost use Rattle.causes.specs.Lent.{plainProblem, wishesAlone, wishedProblem, exportedProblem, chosenProblem};
+ghost use Rattle.refusal_causes.specs.Lent.{plainProblem, wishesAlone, wishedProblem, exportedProblem, chosenProblem};
 ghost use Rattle.admission_steps.specs.Admission.{admission};
 
 // n and the rules.
@@ -28,7 +28,7 @@ pub fn admit_wishes(n: usize, rules: &[i32], row: &[u8], d: usize) -> Admission
     let ranged = admission_steps::admit_range(n, d);
     let listed = admission_steps::then_rules(ranged, n, rules);
     let wished = admission_steps::then_row(listed, row);
-    let fitting = admission_steps::and_then(wished, causes::check_length(n, row.len()));
+    let fitting = admission_steps::and_then(wished, refusal_causes::check_length(n, row.len()));
     admission_steps::then_size(fitting, n)
 }
 
@@ -37,7 +37,7 @@ pub fn admit_export(n: usize, rules: &[i32], row: &[u8], d: usize) -> Admission
     ensures { λ r. ⌜ r ≡ admission (exportedProblem n (now (rules .entry)) (now (row .entry)) d) ⌝ }
 {
     let wished = admit_wishes(n, rules, row, d);
-    admission_steps::and_then(wished, causes::check_entries(rules))
+    admission_steps::and_then(wished, refusal_causes::check_entries(rules))
 }
 
 // n, the rules, the row and a given choice.
@@ -47,8 +47,11 @@ pub fn admit_choice(n: usize, rules: &[i32], row: &[u8], choice: &[u8]) -> Admis
     let ranged = admission_steps::admit_range(n, 0);
     let listed = admission_steps::then_rules(ranged, n, rules);
     let wished = admission_steps::then_row(listed, row);
-    let chosen = admission_steps::and_then(wished, causes::scan_choice(choice));
-    let row_fits = admission_steps::and_then(chosen, causes::check_length(n, row.len()));
-    let both_fit = admission_steps::and_then(row_fits, causes::check_length(n, choice.len()));
+    let chosen = admission_steps::and_then(wished, refusal_causes::scan_choice(choice));
+    let row_fits = admission_steps::and_then(chosen, refusal_causes::check_length(n, row.len()));
+    let both_fit = admission_steps::and_then(
+        row_fits,
+        refusal_causes::check_length(n, choice.len()),
+    );
     admission_steps::then_size(both_fit, n)
 }

@@ -9,7 +9,7 @@ use Rattle.formula.specs.Formula as formula
 use Rattle.wish.specs.Wish.{wishCount, totalWeight}
 use Rattle.refusal.specs.declared.Refusal.{Refusal}
 use Rattle.limits.specs.Limits.{maxVariables}
-use Rattle.causes.specs.Lent.{Lent, Wishes, unadmitted, refusalOf}
+use Rattle.refusal_causes.specs.Lent.{Lent, Wishes, unadmitted, refusalOf}
 use Rattle.admission_steps.specs.declared.Counts.{Counts}
 use Rattle.admission_steps.specs.declared.Admission as A
 use Rattle.admission_steps.specs.declared.Admission.{Admission}

@@ -7,8 +7,8 @@ use Rattle.refusal.specs.declared.Refusal.{Refusal}
 use Rattle.refusal.specs.declared.Verdict.{Verdict}
 use Rattle.refusal.specs.Laws.{first-last, cause-none}
 use Rattle.refusal.specs.Reply.{refused, first, cause, given, tooShort}
-use Rattle.causes.specs.Laws.{in-range}
-use Rattle.causes.specs.Lent.{Lent, withRoom, outOfRange, causes, unadmitted}
+use Rattle.refusal_causes.specs.Laws.{in-range}
+use Rattle.refusal_causes.specs.Lent.{Lent, withRoom, outOfRange, causes, unadmitted}
 use Rattle.admission_steps.specs.declared.Counts.{Counts}
 use Rattle.admission_steps.specs.declared.Admission.the-variants.{Refused, Admitted}
 use Rattle.admission_steps.specs.declared.Admission.{Admission}

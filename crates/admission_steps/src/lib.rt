@@ -2,15 +2,15 @@
 // that nothing is scanned or counted twice. The first step looks at the range of the numbers. Each
 // other is handed what came before it: what is refused stays refused, and what is admitted may be
 // refused for one more cause.
-use causes::RowScan;
 use refusal::Refusal;
 use refusal::Verdict;
+use refusal_causes::RowScan;
 use rule_list::RuleScan;
 ghost use mathlib.Core.Path.{_≡_};
 ghost use Rattle.refusal.specs.Reply.{refused, causeAt, cause, tooShort};
 ghost use Rattle.rule_list.specs.Sound.{unread, badRule};
-ghost use Rattle.causes.specs.Lent.{outOfRange, oversized};
-ghost use Rattle.causes.specs.Sound.{badWish};
+ghost use Rattle.refusal_causes.specs.Lent.{outOfRange, oversized};
+ghost use Rattle.refusal_causes.specs.Sound.{badWish};
 ghost use Rattle.admission_steps.specs.declared.Counts.{Counts};
 ghost use Rattle.admission_steps.specs.Admission.{answer, noCounts, withRuleCounts, withWishCounts, andThen, Ranged};
 
@@ -38,7 +38,10 @@ pub fn admit_range(n: usize, d: usize) -> Admission
         wishes: 0,
         weight: 0,
     };
-    and_then(Admission::Admitted(counts), causes::check_range(n, d))
+    and_then(
+        Admission::Admitted(counts),
+        refusal_causes::check_range(n, d),
+    )
 }
 
 // 13: the rules, which are counted.
@@ -79,7 +82,7 @@ pub fn then_row(a: Admission, row: &[u8]) -> Admission
 {
     match a {
         Admission::Refused(r) => Admission::Refused(r),
-        Admission::Admitted(counts) => match causes::scan_row(row) {
+        Admission::Admitted(counts) => match refusal_causes::scan_row(row) {
             RowScan::Unsound(place) => Admission::Refused(Refusal { number: 13, place }),
             RowScan::Sound { wishes, weight } => Admission::Admitted(Counts {
                 clauses: counts.clauses,
@@ -99,7 +102,7 @@ pub fn then_size(a: Admission, n: usize) -> Admission
         Admission::Refused(r) => Admission::Refused(r),
         Admission::Admitted(counts) => and_then(
             a,
-            causes::check_size(n, counts.clauses, counts.literals),
+            refusal_causes::check_size(n, counts.clauses, counts.literals),
         ),
     }
 }

@@ -12,17 +12,17 @@ use Rattle.refusal.specs.declared.Refusal.{Refusal}
 use Rattle.refusal.specs.Laws.{room-enough}
 use Rattle.refusal.specs.Reply.{Reply, unless, tooShort}
 use Rattle.limits.specs.Limits.{maxLimit}
-use Rattle.causes.specs.Admitted.{Admitted, admitted-room}
-use Rattle.causes.specs.Lent.{wishedProblem}
+use Rattle.refusal_causes.specs.Admitted.{Admitted, admitted-room}
+use Rattle.refusal_causes.specs.Lent.{wishedProblem}
 use Rattle.walk.specs.Walk.{walk}
 use Rattle.totalizer.specs.Totalizer.{rewrittenVariables}
-use Rattle.searches.specs.Searches.{found, brokenBy}
+use Rattle.search_meaning.specs.Searches.{found, brokenBy}
 use Rattle.agreement.specs.Causes.{short-fine, fine-passes, answered-past, admitted}
 use Rattle.agreement.specs.Claim.{Admissible, Agree, both-find, both-none, Unrefused, Agreement}
 use Rattle.agreement.specs.Completing.{all-completions}
 use Rattle.agreement.specs.Decided.{Reached, Decided, yes, no, search-decides}
 use Rattle.agreement.specs.First.{second-decides, nearest-is-first}
-use Rattle.second_route.specs.Routes.{firstRoute, secondRoute, nearestRoute, Answered, Passes}
+use Rattle.agreement_second_route.specs.Routes.{firstRoute, secondRoute, nearestRoute, Answered, Passes}
 use Rattle.agreement.specs.Second.{found-answered, found-passes, second-passes, enough, second-enough}
 
 -- two replies that say of one statement whether it holds agree

@@ -10,12 +10,12 @@ use lib.ListN.{length}
 use Rattle.refusal.specs.declared.Refusal.{Refusal}
 use Rattle.refusal.specs.Reply.{Reply, cause, tooShort, answering, unless}
 use Rattle.limits.specs.Limits.{maxLimit}
-use Rattle.causes.specs.Admitted as lent
-use Rattle.causes.specs.Admitted.{Admitted, at-limit, refused-lent, lent-number}
-use Rattle.causes.specs.Lent.{wishedProblem, unadmitted, refusalOf}
+use Rattle.refusal_causes.specs.Admitted as lent
+use Rattle.refusal_causes.specs.Admitted.{Admitted, at-limit, refused-lent, lent-number}
+use Rattle.refusal_causes.specs.Lent.{wishedProblem, unadmitted, refusalOf}
 use Rattle.totalizer.specs.Totalizer.{rewrittenVariables, rewritten}
-use Rattle.encoding.specs.Rewrite.{lentToRewrite}
-use Rattle.second_route.specs.Routes.{Answered, Passes}
+use Rattle.totalizer_encoding.specs.Rewrite.{lentToRewrite}
+use Rattle.agreement_second_route.specs.Routes.{Answered, Passes}
 use Rattle.agreement.specs.Claim.{Admissible}
 
 -- no cause, or one with 15

@@ -15,9 +15,9 @@ use Rattle.choices.specs.Choices.{Choice, Model}
 use Rattle.refusal.specs.Reply.{Reply}
 use Rattle.limits.specs.Limits.{maxLimit}
 use Rattle.totalizer.specs.Totalizer.{leaves, tree, rewrittenVariables, rewritten, AllCount}
-use Rattle.searches.specs.Searches.{found}
-use Rattle.encoding.specs.Rewrite.{rewriteReply}
-use Rattle.second_route.specs.Routes.{firstRoute, Buffers, secondRoute, nearestRoute, Answered, Passes}
+use Rattle.search_meaning.specs.Searches.{found}
+use Rattle.totalizer_encoding.specs.Rewrite.{rewriteReply}
+use Rattle.agreement_second_route.specs.Routes.{firstRoute, Buffers, secondRoute, nearestRoute, Answered, Passes}
 
 -- "admitted are an n, a rule list and a wish row that rewriting, with a d from 0 to 64, does not refuse except with 15"
 pub record Admissible (n : ℕ) (rules : List ℤ) (row : List ℕ) : Type 0 where

@@ -12,8 +12,8 @@ use Rattle.choices.specs.Choices.{Choice, Model}
 use Rattle.totalizer.specs.Choice.{choice-take}
 use Rattle.totalizer.specs.Totalizer.{leaves, tree, rewrittenVariables, completion, AllCount}
 use Rattle.totalizer.specs.Theorems as totalizer
-use Rattle.causes.specs.Admitted.{Admitted}
-use Rattle.causes.specs.Lent.{wishedProblem}
+use Rattle.refusal_causes.specs.Admitted.{Admitted}
+use Rattle.refusal_causes.specs.Lent.{wishedProblem}
 use Rattle.agreement.specs.Claim.{Completing, Completions}
 
 module _ (n : ℕ) (rules : List ℤ) (row : List ℕ) (d : ℕ) (ok : Admitted (wishedProblem n rules row d)) where

@@ -14,10 +14,10 @@ use Rattle.walk.specs.Walk.{Answer, walk, plainWalk}
 use Rattle.totalizer.specs.Completion.{completion-choice}
 use Rattle.totalizer.specs.Totalizer.{rewrittenVariables, rewritten, completion}
 use Rattle.totalizer.specs.Theorems.{found-within, within-found}
-use Rattle.causes.specs.Admitted.{Admitted}
-use Rattle.causes.specs.Lent.{wishedProblem}
-use Rattle.searches.specs.Meaning.{search-found, search-none, plain-nothing}
-use Rattle.searches.specs.Searches.{found, brokenBy}
+use Rattle.refusal_causes.specs.Admitted.{Admitted}
+use Rattle.refusal_causes.specs.Lent.{wishedProblem}
+use Rattle.search_meaning.specs.Meaning.{search-found, search-none, plain-nothing}
+use Rattle.search_meaning.specs.Searches.{found, brokenBy}
 use Rattle.agreement.specs.Second.{outcome, sound}
 
 -- some choice meets the rules with at most d broken wishes

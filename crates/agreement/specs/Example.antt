@@ -7,10 +7,10 @@ use native.Mathlib.Omega.{arith}
 use lib.IntN.{ℤ, pos}
 use lib.ListN.{replicate}
 use Rattle.decimal.specs.Decimal.{decimal, digits}
-use Rattle.dimacs.specs.Class.{classOf}
-use Rattle.searches.specs.Searches.{found}
+use Rattle.rule_file.specs.Class.{classOf}
+use Rattle.search_meaning.specs.Searches.{found}
 use Rattle.agreement.specs.Claim.{Admissible}
-use Rattle.second_route.specs.Routes.{firstRoute, Buffers, secondRoute, nearestRoute}
+use Rattle.agreement_second_route.specs.Routes.{firstRoute, Buffers, secondRoute, nearestRoute}
 
 abbrev rules : List ℤ
 rules = pos 1 ∷ pos 2 ∷ pos 0 ∷ []

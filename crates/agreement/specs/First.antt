@@ -13,13 +13,13 @@ use Rattle.refusal.specs.Reply.{Reply}
 use Rattle.limits.specs.Limits.{maxLimit}
 use Rattle.wish.specs.Wish.{totalWeight}
 use Rattle.distance.specs.Laws.{disagreement-most}
-use Rattle.causes.specs.Laws.{sound-weight}
-use Rattle.causes.specs.Admitted.{Admitted}
-use Rattle.causes.specs.Lent.{wishedProblem}
-use Rattle.searches.specs.Searches.{found}
+use Rattle.refusal_causes.specs.Laws.{sound-weight}
+use Rattle.refusal_causes.specs.Admitted.{Admitted}
+use Rattle.refusal_causes.specs.Lent.{wishedProblem}
+use Rattle.search_meaning.specs.Searches.{found}
 use Rattle.agreement.specs.Claim.{Finds, FindsNone, First, CountsUp}
 use Rattle.agreement.specs.Decided.{Reached, Decided, yes, no, plain-decides}
-use Rattle.second_route.specs.Routes.{Buffers, secondRoute, Answered}
+use Rattle.agreement_second_route.specs.Routes.{Buffers, secondRoute, Answered}
 use Rattle.agreement.specs.Second.{second-outcome, enough, second-enough}
 
 -- the answers of found are apart

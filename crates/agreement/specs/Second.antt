@@ -12,22 +12,22 @@ use Rattle.formula.specs.Formula.{clauses}
 use Rattle.refusal.specs.declared.Refusal.{Refusal}
 use Rattle.refusal.specs.Laws.{room-enough}
 use Rattle.refusal.specs.Reply.{Reply, answering, unless, filled, tooShort}
-use Rattle.causes.specs.Admitted.{Admitted, admitted-room, plain-admitted}
-use Rattle.causes.specs.Lent.{plainProblem, wishedProblem, refusalOf}
+use Rattle.refusal_causes.specs.Admitted.{Admitted, admitted-room, plain-admitted}
+use Rattle.refusal_causes.specs.Lent.{plainProblem, wishedProblem, refusalOf}
 use Rattle.limits.specs.Limits.{maxVariables}
 use Rattle.rule_list.specs.Sound.{SoundList}
 use Rattle.walk.specs.Walk.{plainWalk}
 use Rattle.totalizer.specs.Totalizer.{rewrittenVariables, rewritten}
 use Rattle.totalizer.specs.Theorems.{rewritten-variables, rewritten-sound}
-use Rattle.dimacs.specs.Format.{Reading}
-use Rattle.dimacs.specs.RoundTrip.{read-written}
-use Rattle.dimacs.specs.Written.{written}
-use Rattle.searches.specs.Searches.{found, brokenBy}
-use Rattle.encoding.specs.Rewrite.{lentToRewrite, rewriteOutput}
-use Rattle.rule_writer.specs.Write.{lentToWrite, writeOutput}
-use Rattle.rule_reader.specs.Read.{replying, leaving}
+use Rattle.rule_file.specs.Format.{Reading}
+use Rattle.rule_file.specs.RoundTrip.{read-written}
+use Rattle.rule_file.specs.Written.{written}
+use Rattle.search_meaning.specs.Searches.{found, brokenBy}
+use Rattle.totalizer_encoding.specs.Rewrite.{lentToRewrite, rewriteOutput}
+use Rattle.rule_file_writer.specs.Write.{lentToWrite, writeOutput}
+use Rattle.rule_file_reader.specs.Read.{replying, leaving}
 use Rattle.agreement.specs.Causes.{short-fine, fine-passes, answered-past}
-use Rattle.second_route.specs.Routes.{onAnswer, Buffers, fromSearch, fromReader, fromWriter, secondRoute, Answered, Passes}
+use Rattle.agreement_second_route.specs.Routes.{onAnswer, Buffers, fromSearch, fromReader, fromWriter, secondRoute, Answered, Passes}
 
 on-unless : (o : Option Refusal) (v x y z : ℕ) (next : ℕ → ℕ → ℕ → ℕ → Reply) → onAnswer (unless o (answering v x y z)) next ≡ unless o (next v x y z)
 on-unless none v x y z next = refl

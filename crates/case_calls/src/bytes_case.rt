@@ -7,7 +7,7 @@ use crate::call::WRITE_OPB;
 use crate::call::WRITE_RULES;
 use crate::search_case;
 use crate::show;
-use answers::Answer;
+use c_answers::Answer;
 use case_text::held;
 use case_text::words;
 
@@ -34,9 +34,9 @@ fn file(call: usize, n: usize, rules: &[i32], row: &[u8], d: usize, out: &mut [u
 
 fn called(call: usize, n: usize, rules: &[i32], row: &[u8], d: usize, out: &mut [u8]) -> Answer {
     match call {
-        READ_WISHES => file_answers::of_read_wishes(wish_reader::read_wishes(row, out)),
-        WRITE_RULES => file_answers::of_written(rule_writer::write_rules(n, rules, out)),
-        WRITE_OPB => file_answers::of_written(opb_writer::write_opb(n, rules, row, d, out)),
-        _ => file_answers::of_written(wish_writer::write_wishes(n, row, d, out)),
+        READ_WISHES => c_file_answers::of_read_wishes(wish_file_reader::read_wishes(row, out)),
+        WRITE_RULES => c_file_answers::of_written(rule_file_writer::write_rules(n, rules, out)),
+        WRITE_OPB => c_file_answers::of_written(opb_writer::write_opb(n, rules, row, d, out)),
+        _ => c_file_answers::of_written(wish_file_writer::write_wishes(n, row, d, out)),
     }
 }

@@ -1,7 +1,7 @@
 // The calls that write a list of numbers: the reader of the rule file, and rewriting.
 use crate::call::READ_RULES;
 use crate::show;
-use answers::Answer;
+use c_answers::Answer;
 use case_text::held;
 
 pub fn answer(call: usize, n: usize, rules: &[i32], row: &[u8], d: usize, out: &mut [i32]) {
@@ -16,7 +16,7 @@ pub fn answer(call: usize, n: usize, rules: &[i32], row: &[u8], d: usize, out: &
 
 fn called(call: usize, n: usize, rules: &[i32], row: &[u8], d: usize, out: &mut [i32]) -> Answer {
     if call == READ_RULES {
-        return file_answers::of_read_rules(rule_reader::read_rules(row, out));
+        return c_file_answers::of_read_rules(rule_file_reader::read_rules(row, out));
     }
-    search_answers::of_rewritten(encoding::rewrite(n, rules, row, d, out))
+    c_search_answers::of_rewritten(totalizer_encoding::rewrite(n, rules, row, d, out))
 }

@@ -6,7 +6,7 @@ use lib.IntN.{ℤ}
 use Rattle.formula.specs.Formula.{clauses, models}
 use Rattle.distance.specs.Distance.{disagreement}
 use Rattle.refusal.specs.Reply.{Reply, refusing, answering, unless}
-use Rattle.causes.specs.Lent.{Lent, chosenProblem, refusalOf}
+use Rattle.refusal_causes.specs.Lent.{Lent, chosenProblem, refusalOf}
 use Rattle.checking.specs.declared.Checked.{Checked}
 use Rattle.checking.specs.declared.Checked.the-variants.{Refused, Met, Unmet}
 

@@ -10,7 +10,7 @@ use Rattle.distance.specs.Distance.{disagreement}
 use Rattle.refusal.specs.declared.Refusal.{Refusal}
 use Rattle.refusal.specs.Laws.{first-or-none}
 use Rattle.refusal.specs.Reply.{refusing, answering, unless}
-use Rattle.causes.specs.Lent.{unadmitted}
+use Rattle.refusal_causes.specs.Lent.{unadmitted}
 use Rattle.checking.specs.Check.{lentToCheck, judged, checkReply}
 
 -- the call has no output, so 15 never applies

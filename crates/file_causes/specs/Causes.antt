@@ -16,9 +16,9 @@ use Rattle.refusal.specs.Passing.{Passes, last, more, no-cause, some-cause, by-
 use Rattle.refusal.specs.Reply.{refusal, placeIf}
 use Rattle.limits.specs.Limits.{maxLiterals}
 use Rattle.rule_list.specs.Sound.{Scan, unread, unclosed}
-use Rattle.dimacs.specs.Format as rule
-use Rattle.dimacs.specs.Format.{Header}
-use Rattle.dimacs.specs.Tokens.{Token, tokensFrom}
+use Rattle.rule_file.specs.Format as rule
+use Rattle.rule_file.specs.Format.{Header}
+use Rattle.rule_file.specs.Tokens.{Token, tokensFrom}
 use Rattle.wish_file.specs.Format as wish
 use Rattle.wish_file.specs.Layout.{lineSize, lineNumbers}
 

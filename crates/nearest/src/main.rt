@@ -2,21 +2,21 @@
 // the least number of broken wishes and the first choice, or the line of a refusal. What is printed is
 // `nearestPrinted` in nearest_text/specs/Printed.antt, and what is said of a refusal on standard error
 // `diagnostic` in diagnostics/specs/Diagnostic.antt.
-use input_file::FilesRead;
 use libc::STDERR_FILENO;
 use libc::STDOUT_FILENO;
-use options::Asked;
+use program_input::FilesRead;
+use program_options::Asked;
 ghost use mathlib.Core.Path.{_≡_};
 ghost use Prim.Native.Nat.{_≤_};
 ghost use lib.ListN.{length};
-ghost use Rattle.solution_text.specs.Lines.{longest};
+ghost use Rattle.program_solution_text.specs.Lines.{longest};
 
 fn main() {
-    match options::first_asked() {
-        Asked::Help => options::print_help(
+    match program_options::first_asked() {
+        Asked::Help => program_options::print_help(
             b"usage: nearest [RULES WISH]\n\nPrints the least number of wishes that a permitted choice breaks, and the first such choice:\n`o` and the number, `s OPTIMUM FOUND`, and on `v` lines each setting's number, with a minus\nwhere it is off; or `s UNSATISFIABLE` where no choice meets the rules.\n\nRULES is a rule file and WISH a wish file, of at most 65536 bytes each; without them,\nrules.cnf and wish.txt of the current folder.\n",
         ),
-        Asked::Version => options::print_version(b"nearest"),
+        Asked::Version => program_options::print_version(b"nearest"),
         Asked::Nothing => run_files(),
     }
 }
@@ -55,9 +55,9 @@ fn run_named() {
 fn run(rules_path: &[u8], wish_path: &[u8])
     requires { ⌜ (length (now «rules_path») ≤ 4096) × (length (now «wish_path») ≤ 4096) ⌝ }
 {
-    let mut rules = input_file::space();
-    let mut wishes = input_file::space();
-    let FilesRead::Bytes(k, w) = input_file::read_files(
+    let mut rules = program_input::space();
+    let mut wishes = program_input::space();
+    let FilesRead::Bytes(k, w) = program_input::read_files(
         rules_path,
         wish_path,
         &mut rules,
@@ -73,12 +73,12 @@ fn tell(rules_path: &[u8], wish_path: &[u8], rules: &[u8], wishes: &[u8])
     requires { ⌜ (length (now «rules_path») ≤ 4096) × (length (now «wish_path») ≤ 4096) ⌝ }
 {
     show(rules, wishes);
-    explain::explain_refusal(rules_path, wish_path, rules, wishes, false);
+    program_explain::explain_refusal(rules_path, wish_path, rules, wishes, false);
 }
 
 fn show(rules: &[u8], wishes: &[u8]) {
     let mut out = text();
-    let n = nearest_text::print_nearest(rules, wishes, &mut out);
+    let n = program_nearest_text::print_nearest(rules, wishes, &mut out);
     if !io::write_all(STDOUT_FILENO, &out[..n]) {
         os::fail(b"standard output");
     }

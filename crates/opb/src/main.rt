@@ -2,22 +2,22 @@
 // as an OPB file, or the line of a refusal. What is printed is `opbPrinted` in
 // opb_text/specs/Printed.antt, and what is said of a refusal on standard error `diagnostic` in
 // diagnostics/specs/Diagnostic.antt.
-use input_file::FilesRead;
 use libc::STDOUT_FILENO;
-use options::Asked;
+use program_input::FilesRead;
+use program_options::Asked;
 ghost use mathlib.Core.Path.{_≡_};
 ghost use Prim.Native.Nat.{_≤_};
 ghost use lib.ListN.{length};
 ghost use Rattle.opb_format.specs.Sizes.{longest};
 
 fn main() {
-    match options::first_asked() {
-        Asked::Help => options::print_help(
+    match program_options::first_asked() {
+        Asked::Help => program_options::print_help(
             b"usage: opb\n\nPrints the rules, the wishes and their limit as an OPB file, for pseudo-Boolean solvers.\n\nThe files are rules.cnf and wish.txt of the current folder, of at most 65536 bytes each.\n",
         ),
-        Asked::Version => options::print_version(b"opb"),
+        Asked::Version => program_options::print_version(b"opb"),
         Asked::Nothing => {
-            options::warn_of_arguments(
+            program_options::warn_of_arguments(
                 b"opb: it takes no file names, and reads rules.cnf and wish.txt of the current folder\n",
             );
             run(b"rules.cnf", b"wish.txt");
@@ -28,9 +28,9 @@ fn main() {
 fn run(rules_path: &[u8], wish_path: &[u8])
     requires { ⌜ (length (now «rules_path») ≤ 4096) × (length (now «wish_path») ≤ 4096) ⌝ }
 {
-    let mut rules = input_file::space();
-    let mut wishes = input_file::space();
-    let FilesRead::Bytes(k, w) = input_file::read_files(
+    let mut rules = program_input::space();
+    let mut wishes = program_input::space();
+    let FilesRead::Bytes(k, w) = program_input::read_files(
         rules_path,
         wish_path,
         &mut rules,
@@ -46,12 +46,12 @@ fn tell(rules_path: &[u8], wish_path: &[u8], rules: &[u8], wishes: &[u8])
     requires { ⌜ (length (now «rules_path») ≤ 4096) × (length (now «wish_path») ≤ 4096) ⌝ }
 {
     show(rules, wishes);
-    explain::explain_refusal(rules_path, wish_path, rules, wishes, true);
+    program_explain::explain_refusal(rules_path, wish_path, rules, wishes, true);
 }
 
 fn show(rules: &[u8], wishes: &[u8]) {
     let mut out = text();
-    let n = opb_text::print_opb(rules, wishes, &mut out);
+    let n = program_opb_text::print_opb(rules, wishes, &mut out);
     if !io::write_all(STDOUT_FILENO, &out[..n]) {
         os::fail(b"standard output");
     }

@@ -10,7 +10,7 @@ use borrow.Author.Tests.{lt-ltb, le-ltb}
 use Rattle.literal.specs.Literal.{variable, wanted}
 use Rattle.decimal.specs.Decimal.{decimal}
 use Rattle.text.specs.Text.{numeral}
-use Rattle.pseudo_boolean.specs.Export.{coefficient, term}
+use Rattle.opb_pseudo_boolean.specs.Export.{coefficient, term}
 use Rattle.opb_format.specs.Opb.{signed, termText, boundText, constraintWord, headerText}
 
 -- the sign of a literal's coefficient

@@ -5,8 +5,8 @@ use lib.IntN.{ℤ, pos, negsuc}
 use lib.ListN.{length}
 use Rattle.decimal.specs.Decimal.{decimal}
 use Rattle.text.specs.Text.{numeral}
-use Rattle.pseudo_boolean.specs.Export.{exported}
-use Rattle.pseudo_boolean.specs.PseudoBoolean.{Term, Constraint}
+use Rattle.opb_pseudo_boolean.specs.Export.{exported}
+use Rattle.opb_pseudo_boolean.specs.PseudoBoolean.{Term, Constraint}
 
 -- a coefficient, with a plus or a minus
 abbrev pub signed : ℤ → List ℕ

@@ -18,12 +18,12 @@ use Rattle.decimal.specs.Decimal.{decimal}
 use Rattle.decimal.specs.Laws.{count-one, count-more, count-most}
 use Rattle.text.specs.Text.{numeral}
 use Rattle.limits.specs.Limits.{maxWishVariables, maxWishes, maxLimit}
-use Rattle.causes.specs.Admitted.{Admitted}
-use Rattle.causes.specs.Laws.{sound-weight}
-use Rattle.causes.specs.Lent.{wishedProblem}
-use Rattle.pseudo_boolean.specs.Export.{term, negatives, ruleConstraint, wishTerms, wishConstraint, wishConstraints, exported}
-use Rattle.pseudo_boolean.specs.PseudoBoolean.{Constraint}
-use Rattle.pseudo_boolean.specs.Variables.{Over, sound-over}
+use Rattle.refusal_causes.specs.Admitted.{Admitted}
+use Rattle.refusal_causes.specs.Laws.{sound-weight}
+use Rattle.refusal_causes.specs.Lent.{wishedProblem}
+use Rattle.opb_pseudo_boolean.specs.Export.{term, negatives, ruleConstraint, wishTerms, wishConstraint, wishConstraints, exported}
+use Rattle.opb_pseudo_boolean.specs.PseudoBoolean.{Constraint}
+use Rattle.opb_pseudo_boolean.specs.Variables.{Over, sound-over}
 use Rattle.opb_format.specs.Laws.{term-size, difference-less, difference-more, bound-size, header-size}
 use Rattle.opb_format.specs.Opb.{termText, termsText, boundText, lineText, linesText, headerText, opbOf}
 

@@ -3,7 +3,7 @@ ghost use mathlib.Core.Path.{_≡_};
 ghost use Prim.Native.Nat.{_+_, _<_, _≤_};
 ghost use lib.ListN.{length};
 ghost use Rattle.writing.specs.Wrote.{Wrote};
-ghost use Rattle.pseudo_boolean.specs.Export.{term};
+ghost use Rattle.opb_pseudo_boolean.specs.Export.{term};
 ghost use Rattle.opb_format.specs.Laws.{signOf};
 ghost use Rattle.opb_format.specs.Opb.{termText};
 

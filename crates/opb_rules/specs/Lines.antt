@@ -10,7 +10,7 @@ use lib.Seq.{drop-cons}
 use Rattle.literal.specs.Literal.{wanted}
 use Rattle.formula.specs.Formula.{clauses, clauseLength}
 use Rattle.formula.specs.Laws.{clauses-step, clause-long, end-inside}
-use Rattle.pseudo_boolean.specs.Export.{term, negatives, ruleConstraint}
+use Rattle.opb_pseudo_boolean.specs.Export.{term, negatives, ruleConstraint}
 use Rattle.opb_format.specs.Opb.{termText, termsText, boundText, lineText, linesText}
 
 -- the negative literals of a clause from index i on: one more, or as many as behind it

@@ -4,7 +4,7 @@ ghost use mathlib.Core.Path.{_≡_};
 ghost use Prim.Native.Nat.{_+_, _*_, _≤_};
 ghost use lib.ListN.{length};
 ghost use Rattle.formula.specs.Formula.{clauses};
-ghost use Rattle.pseudo_boolean.specs.Export.{term, negatives, ruleConstraint};
+ghost use Rattle.opb_pseudo_boolean.specs.Export.{term, negatives, ruleConstraint};
 ghost use Rattle.opb_format.specs.Opb.{termsText, lineText, linesText};
 
 // How many literals of a clause are negative.

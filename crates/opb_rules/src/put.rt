@@ -5,7 +5,7 @@ ghost use Prim.Native.Nat.{_+_, _≤_};
 ghost use lib.ListN.{length};
 ghost use Rattle.formula.specs.Formula.{clauses};
 ghost use Rattle.writing.specs.Wrote.{Wrote};
-ghost use Rattle.pseudo_boolean.specs.Export.{term, ruleConstraint};
+ghost use Rattle.opb_pseudo_boolean.specs.Export.{term, ruleConstraint};
 ghost use Rattle.opb_format.specs.Opb.{termsText, lineText, linesText};
 
 // Puts the terms of a clause.

@@ -12,7 +12,7 @@ use lib.Seq.{drop-cons}
 use borrow.Author.Tests.{lt-ltb}
 use Rattle.wish.specs.Laws.{on-weight, weight-most}
 use Rattle.wish.specs.Wish.{isWish, weight, maxWeight, keeping, onWeight, wishCount, wishedOn}
-use Rattle.pseudo_boolean.specs.Export.{term, wishTerms, wishConstraint, wishConstraints}
+use Rattle.opb_pseudo_boolean.specs.Export.{term, wishTerms, wishConstraint, wishConstraints}
 use Rattle.opb_format.specs.Opb.{termText, termsText, boundText, lineText, linesText}
 
 -- a byte adds at most a wish's weight to what the wishes for on weigh

@@ -6,7 +6,7 @@ ghost use Prim.Native.Nat.{_*_, _≤_};
 ghost use lib.ListN.{length};
 ghost use Rattle.limits.specs.Limits.{maxVariables};
 ghost use Rattle.wish.specs.Wish.{wishCount, wishedOn};
-ghost use Rattle.pseudo_boolean.specs.Export.{wishTerms, wishConstraints};
+ghost use Rattle.opb_pseudo_boolean.specs.Export.{wishTerms, wishConstraints};
 ghost use Rattle.opb_format.specs.Opb.{termsText, linesText};
 
 // What the wishes for on weigh.

@@ -8,7 +8,7 @@ ghost use lib.ListN.{length};
 ghost use Rattle.limits.specs.Limits.{maxVariables};
 ghost use Rattle.writing.specs.Wrote.{Wrote};
 ghost use Rattle.wish.specs.Wish.{wishCount};
-ghost use Rattle.pseudo_boolean.specs.Export.{wishTerms, wishConstraints};
+ghost use Rattle.opb_pseudo_boolean.specs.Export.{wishTerms, wishConstraints};
 ghost use Rattle.opb_format.specs.Opb.{termsText, linesText};
 
 // Puts the term of a byte of the row: nothing where the variable is free.

@@ -9,8 +9,8 @@ use lib.IntN.{ℤ}
 use lib.ListN.{length, length-append, length-map}
 use Rattle.formula.specs.Formula.{clauses}
 use Rattle.wish.specs.Wish.{wishCount}
-use Rattle.pseudo_boolean.specs.Export.{ruleConstraint, wishConstraint, wishConstraints, exported}
-use Rattle.pseudo_boolean.specs.PseudoBoolean.{Constraint}
+use Rattle.opb_pseudo_boolean.specs.Export.{ruleConstraint, wishConstraint, wishConstraints, exported}
+use Rattle.opb_pseudo_boolean.specs.PseudoBoolean.{Constraint}
 use Rattle.opb_format.specs.Opb.{lineText, linesText, headerText, opbOf}
 use Rattle.opb_rules.specs.Lines.{ruleLines}
 

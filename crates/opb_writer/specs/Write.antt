@@ -4,7 +4,7 @@ use Prim.Native.Nat.{ℕ}
 use lib.IntN.{ℤ}
 use lib.ListN.{length}
 use Rattle.refusal.specs.Reply.{Reply, answering, unless, filled}
-use Rattle.causes.specs.Lent.{Lent, withRoom, exportedProblem, refusalOf}
+use Rattle.refusal_causes.specs.Lent.{Lent, withRoom, exportedProblem, refusalOf}
 use Rattle.opb_format.specs.Opb.{opbOf}
 
 -- what is lent to the call: n, the rules, each with an entry, the wish row, the limit d, and room for so many bytes

@@ -1,9 +1,9 @@
 // The export to OPB.
-use answers::Answer;
+use c_answers::Answer;
 ghost use mathlib.Core.Path.{_≡_};
 ghost use lib.ListN.{length};
 ghost use Rattle.opb_writer.specs.Write.{writeReply, writeOutput};
-ghost use Rattle.answers.specs.Answers.{answerOf};
+ghost use Rattle.c_answers.specs.Answers.{answerOf};
 
 // The value is the length of the file.
 #[no_mangle]
@@ -17,5 +17,5 @@ pub extern "C" fn powhanire_write_opb(
     ensures answer { λ r. ⌜ r ≡ answerOf (writeReply n (now (rules .entry)) (now (row .entry)) d (length (now (file .entry)))) ⌝ }
     ensures output { λ r. ⌜ now (file .exit) ≡ writeOutput n (now (rules .entry)) (now (row .entry)) d (now (file .entry)) ⌝ }
 {
-    file_answers::of_written(opb_writer::write_opb(n, rules, row, d, file))
+    c_file_answers::of_written(opb_writer::write_opb(n, rules, row, d, file))
 }

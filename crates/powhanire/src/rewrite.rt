@@ -1,9 +1,9 @@
 // The call that rewrites into plain rules.
-use answers::Answer;
+use c_answers::Answer;
 ghost use mathlib.Core.Path.{_≡_};
 ghost use lib.ListN.{length};
-ghost use Rattle.encoding.specs.Rewrite.{rewriteReply, rewriteOutput};
-ghost use Rattle.answers.specs.Answers.{answerOf};
+ghost use Rattle.totalizer_encoding.specs.Rewrite.{rewriteReply, rewriteOutput};
+ghost use Rattle.c_answers.specs.Answers.{answerOf};
 
 // The values are the variables and the length of the rewritten list.
 #[no_mangle]
@@ -17,5 +17,5 @@ pub extern "C" fn powhanire_rewrite(
     ensures answer { λ r. ⌜ r ≡ answerOf (rewriteReply n (now (rules .entry)) (now (row .entry)) d (length (now (rewritten .entry)))) ⌝ }
     ensures output { λ r. ⌜ now (rewritten .exit) ≡ rewriteOutput n (now (rules .entry)) (now (row .entry)) d (now (rewritten .entry)) ⌝ }
 {
-    search_answers::of_rewritten(encoding::rewrite(n, rules, row, d, rewritten))
+    c_search_answers::of_rewritten(totalizer_encoding::rewrite(n, rules, row, d, rewritten))
 }

@@ -1,11 +1,11 @@
 // The three searches. Verdict 1 where a choice was found, and 0 where there is none.
-use answers::Answer;
+use c_answers::Answer;
 ghost use mathlib.Core.Path.{_≡_};
 ghost use lib.ListN.{length};
-ghost use Rattle.searches.specs.Answers.{SearchMeans, PlainMeans, NearestMeans};
-ghost use Rattle.searches.specs.Searches.{searchReply, searchChoice, plainReply, plainChoice, nearestReply, nearestChoice};
-ghost use Rattle.answers.specs.Answers.{answerOf};
-ghost use Rattle.answer_meaning.specs.Meaning.{NumbersMean};
+ghost use Rattle.search_meaning.specs.Answers.{SearchMeans, PlainMeans, NearestMeans};
+ghost use Rattle.search_meaning.specs.Searches.{searchReply, searchChoice, plainReply, plainChoice, nearestReply, nearestChoice};
+ghost use Rattle.c_answers.specs.Answers.{answerOf};
+ghost use Rattle.c_answer_meaning.specs.Meaning.{NumbersMean};
 
 // A choice within the limit d; the value is the number of broken wishes.
 #[no_mangle]
@@ -20,7 +20,7 @@ pub extern "C" fn powhanire_search(
     ensures output { λ r. ⌜ now (choice .exit) ≡ searchChoice n (now (rules .entry)) (now (row .entry)) d (now (choice .entry)) ⌝ }
     ensures meaning { λ r. ⌜ NumbersMean (SearchMeans n (now (rules .entry)) (now (row .entry)) d (now (choice .exit))) r ⌝ }
 {
-    search_answers::of_searched(wish_search::search(n, rules, row, d, choice))
+    c_search_answers::of_searched(search_wish::search(n, rules, row, d, choice))
 }
 
 // A choice that meets all rules.
@@ -30,7 +30,7 @@ pub extern "C" fn powhanire_plain(n: usize, rules: &[i32], choice: &mut [u8]) ->
     ensures output { λ r. ⌜ now (choice .exit) ≡ plainChoice n (now (rules .entry)) (now (choice .entry)) ⌝ }
     ensures meaning { λ r. ⌜ NumbersMean (PlainMeans n (now (rules .entry)) (now (choice .exit))) r ⌝ }
 {
-    search_answers::of_searched(plain_search::search(n, rules, choice))
+    c_search_answers::of_searched(search_plain::search(n, rules, choice))
 }
 
 // The first nearest choice; the value is the least number of broken wishes.
@@ -45,5 +45,5 @@ pub extern "C" fn powhanire_nearest(
     ensures output { λ r. ⌜ now (choice .exit) ≡ nearestChoice n (now (rules .entry)) (now (row .entry)) (now (choice .entry)) ⌝ }
     ensures meaning { λ r. ⌜ NumbersMean (NearestMeans n (now (rules .entry)) (now (row .entry)) (now (choice .exit))) r ⌝ }
 {
-    search_answers::of_searched(nearest_search::search(n, rules, row, choice))
+    c_search_answers::of_searched(search_nearest::search(n, rules, row, choice))
 }

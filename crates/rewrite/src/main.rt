@@ -1,22 +1,22 @@
 // Reads `rules.cnf` and `wish.txt` of the current folder, and prints the rule file of the rewritten
 // rules, or the line of a refusal. What is printed is `printed` in rewrite_text/specs/Printed.antt, and what
 // is said of a refusal on standard error `diagnostic` in diagnostics/specs/Diagnostic.antt.
-use input_file::FilesRead;
 use libc::STDOUT_FILENO;
-use options::Asked;
+use program_input::FilesRead;
+use program_options::Asked;
 ghost use mathlib.Core.Path.{_≡_};
 ghost use Prim.Native.Nat.{_≤_};
 ghost use lib.ListN.{length};
-ghost use Rattle.rewrite_text.specs.Printed.{longest};
+ghost use Rattle.program_rewrite_text.specs.Printed.{longest};
 
 fn main() {
-    match options::first_asked() {
-        Asked::Help => options::print_help(
+    match program_options::first_asked() {
+        Asked::Help => program_options::print_help(
             b"usage: rewrite\n\nPrints a rule file of plain rules: a choice can be completed to meet them exactly when it\nmeets the given rules and breaks no more wishes than the limit of the wish file.\n\nThe files are rules.cnf and wish.txt of the current folder, of at most 65536 bytes each.\n",
         ),
-        Asked::Version => options::print_version(b"rewrite"),
+        Asked::Version => program_options::print_version(b"rewrite"),
         Asked::Nothing => {
-            options::warn_of_arguments(
+            program_options::warn_of_arguments(
                 b"rewrite: it takes no file names, and reads rules.cnf and wish.txt of the current folder\n",
             );
             run(b"rules.cnf", b"wish.txt");
@@ -27,9 +27,9 @@ fn main() {
 fn run(rules_path: &[u8], wish_path: &[u8])
     requires { ⌜ (length (now «rules_path») ≤ 4096) × (length (now «wish_path») ≤ 4096) ⌝ }
 {
-    let mut rules = input_file::space();
-    let mut wishes = input_file::space();
-    let FilesRead::Bytes(k, w) = input_file::read_files(
+    let mut rules = program_input::space();
+    let mut wishes = program_input::space();
+    let FilesRead::Bytes(k, w) = program_input::read_files(
         rules_path,
         wish_path,
         &mut rules,
@@ -45,12 +45,12 @@ fn tell(rules_path: &[u8], wish_path: &[u8], rules: &[u8], wishes: &[u8])
     requires { ⌜ (length (now «rules_path») ≤ 4096) × (length (now «wish_path») ≤ 4096) ⌝ }
 {
     show(rules, wishes);
-    explain::explain_refusal(rules_path, wish_path, rules, wishes, false);
+    program_explain::explain_refusal(rules_path, wish_path, rules, wishes, false);
 }
 
 fn show(rules: &[u8], wishes: &[u8]) {
     let mut out = text();
-    let n = rewrite_text::print_rewritten(rules, wishes, &mut out);
+    let n = program_rewrite_text::print_rewritten(rules, wishes, &mut out);
     if !io::write_all(STDOUT_FILENO, &out[..n]) {
         os::fail(b"standard output");
     }

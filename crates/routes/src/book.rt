@@ -3,8 +3,8 @@ use crate::report;
 use crate::single;
 use crate::survey;
 use crate::words;
-use rule_reader::ReadRules;
-use wish_reader::ReadWishes;
+use rule_file_reader::ReadRules;
+use wish_file_reader::ReadWishes;
 
 pub fn run(rule_file: &[u8], wish_file: &[u8], limits: usize) {
     let mut rules = case_text::numbers();
@@ -14,7 +14,7 @@ pub fn run(rule_file: &[u8], wish_file: &[u8], limits: usize) {
 }
 
 fn read(rule_file: &[u8], wish_file: &[u8], limits: usize, rules: &mut [i32], row: &mut [u8]) {
-    match rule_reader::read_rules(rule_file, rules) {
+    match rule_file_reader::read_rules(rule_file, rules) {
         ReadRules::Refused(r) => {
             report::refused(r.number, r.place);
         }
@@ -38,7 +38,7 @@ fn ruled(n: usize, rules: &[i32], end: usize, wish_file: &[u8], limits: usize, r
         words::write(words::NO_ROOM);
         return;
     }
-    match wish_reader::read_wishes(wish_file, row) {
+    match wish_file_reader::read_wishes(wish_file, row) {
         ReadWishes::Refused(r) => {
             report::refused(r.number, r.place);
         }

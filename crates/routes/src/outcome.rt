@@ -1,7 +1,7 @@
 // What a search answered, with what the checking call says of the choice.
 use checking::Checked;
 use refusal::Refusal;
-use searches::Searched;
+use search_meaning::Searched;
 
 pub enum Outcome {
     // The choice meets all rules, and breaks as many wishes as was said and no more than the limit.

@@ -6,7 +6,7 @@ use crate::unset;
 // The wish search.
 pub fn first(n: usize, rules: &[i32], row: &[u8], d: usize) -> Outcome {
     let mut choice = unset::choice();
-    let answer = wish_search::search(n, rules, row, d, &mut choice);
+    let answer = search_wish::search(n, rules, row, d, &mut choice);
     outcome::wished(n, rules, row, d, answer, &choice)
 }
 
@@ -16,7 +16,7 @@ pub fn second(n: usize, rules: &[i32], row: &[u8], d: usize) -> Outcome {
     let mut file = case_text::file();
     let mut list = case_text::numbers();
     let mut choice = unset::choice();
-    let answer = second_route::second_route(
+    let answer = agreement_second_route::second_route(
         n,
         rules,
         row,

@@ -5,7 +5,7 @@ use crate::report;
 use crate::route;
 use crate::unset;
 use crate::words;
-use searches::Searched;
+use search_meaning::Searched;
 
 // The greatest limit, and the greatest number of wishes.
 const GREATEST: usize = 64;
@@ -18,7 +18,7 @@ pub fn nearest(n: usize, rules: &[i32], row: &[u8]) {
 }
 
 fn nearest_into(n: usize, rules: &[i32], row: &[u8], choice: &mut [u8]) {
-    let answer = nearest_search::search(n, rules, row, choice);
+    let answer = search_nearest::search(n, rules, row, choice);
     words::write(words::NEAREST);
     match answer {
         Searched::Refused(r) => {
@@ -58,7 +58,7 @@ pub fn wished(n: usize, rules: &[i32], row: &[u8], d: usize) {
 // Plain search on the given rules, whatever wishes its choice breaks.
 pub fn plain(n: usize, rules: &[i32], row: &[u8]) {
     let mut choice = unset::choice();
-    let answer = plain_search::search(n, rules, &mut choice);
+    let answer = search_plain::search(n, rules, &mut choice);
     words::write(words::PLAIN);
     report::outcome(outcome::plain(n, rules, row, GREATEST, answer, &choice));
 }

@@ -11,17 +11,17 @@ use lib.Seq.{slice, slice-empty}
 use Rattle.walk.specs.Promises.{Branches}
 use Rattle.walk.specs.State.{unassigned, assign}
 use Rattle.walk.specs.Walk.{Outcome, fork}
-use Rattle.tally.specs.declared.Tally.{Tally}
-use Rattle.propagation.specs.Assigned.{AssignedTo, assigned-searching, assigned-grown, assigned-fewer}
-use Rattle.propagation.specs.Looked.{pending}
-use Rattle.propagation.specs.Searching.{Searching, not-all, searching-kept}
-use Rattle.propagation.specs.Trail.{undone, slice-stored, Grown}
-use Rattle.unit_queue.specs.Theorems.{Covers, fork-covers}
+use Rattle.walk_tally.specs.declared.Tally.{Tally}
+use Rattle.walk_propagation.specs.Assigned.{AssignedTo, assigned-searching, assigned-grown, assigned-fewer}
+use Rattle.walk_propagation.specs.Looked.{pending}
+use Rattle.walk_propagation.specs.Searching.{Searching, not-all, searching-kept}
+use Rattle.walk_propagation.specs.Trail.{undone, slice-stored, Grown}
+use Rattle.walk_unit_queue.specs.Theorems.{Covers, fork-covers}
 use Rattle.search_state.specs.declared.result.Tried.{Tried}
 use Rattle.search_state.specs.declared.result.Tried.the-variants.{Found, Nothing}
 use Rattle.search_state.specs.Result.{clip, withForks}
 use Rattle.search_state.specs.Newest.{newest, before}
-use Rattle.unit_queue.specs.Due.{NoneDue}
+use Rattle.walk_unit_queue.specs.Due.{NoneDue}
 use Rattle.search_state.specs.Tried.{TriedBy}
 
 -- one more fork, counted as far as 64 bits go

@@ -2,8 +2,8 @@
 use mathlib.Core.List.{List}
 use Prim.Native.Nat.{ℕ, _-_}
 use lib.Seq.{slice}
-use Rattle.tally.specs.declared.Tally.{Tally}
-use Rattle.propagation.specs.Trail.{undone}
+use Rattle.walk_tally.specs.declared.Tally.{Tally}
+use Rattle.walk_propagation.specs.Trail.{undone}
 
 -- where the newest variable stands on the trail: a state is tried after a fork assigned one, or at the root
 abbrev pub newest : Tally → ℕ

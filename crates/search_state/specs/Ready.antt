@@ -5,8 +5,8 @@ use lib.IntN.{ℤ}
 use lib.ListN.{length, take}
 use Rattle.limits.specs.Limits.{maxVariables}
 use Rattle.rule_list.specs.Sound.{SoundList}
-use Rattle.occurrences.specs.Table.{Beside}
-use Rattle.witnesses.specs.Witnesses.{Witnesses}
+use Rattle.walk_occurrences.specs.Table.{Beside}
+use Rattle.walk_witnesses.specs.Witnesses.{Witnesses}
 
 -- what it asks for: so many variables, a sound list, and room for the choice
 pub record Startable (n : ℕ) (rules : List ℤ) (room : ℕ) : Type 0 where

@@ -7,17 +7,17 @@ use lib.IntN.{ℤ}
 use lib.ListN.{length, getD, take}
 use Rattle.limits.specs.Limits.{maxVariables}
 use Rattle.rule_list.specs.Sound.{SoundList}
-use Rattle.occurrences.specs.Layout.{beginsOf}
-use Rattle.occurrences.specs.Table.{Beside}
-use Rattle.causes.specs.Admitted.{Admitted}
-use Rattle.causes.specs.Lent.{Lent}
-use Rattle.searches.specs.Fits.{sound-fits}
-use Rattle.tally.specs.declared.Tally.{Tally}
+use Rattle.walk_occurrences.specs.Layout.{beginsOf}
+use Rattle.walk_occurrences.specs.Table.{Beside}
+use Rattle.refusal_causes.specs.Admitted.{Admitted}
+use Rattle.refusal_causes.specs.Lent.{Lent}
+use Rattle.search_meaning.specs.Fits.{sound-fits}
+use Rattle.walk_tally.specs.declared.Tally.{Tally}
 use Rattle.walk.specs.Promises.{Branches}
-use Rattle.propagation.specs.Looking.{Following}
-use Rattle.propagation.specs.Searching.{Searching}
-use Rattle.witnesses.specs.Laws.{count-inside, count-witnesses}
-use Rattle.witnesses.specs.Witnesses.{Witnesses}
+use Rattle.walk_propagation.specs.Looking.{Following}
+use Rattle.walk_propagation.specs.Searching.{Searching}
+use Rattle.walk_witnesses.specs.Laws.{count-inside, count-witnesses}
+use Rattle.walk_witnesses.specs.Witnesses.{Witnesses}
 use Rattle.search_state.specs.Ready.{Startable, Prepared, Ready}
 
 -- any call that is admitted with room for it may search

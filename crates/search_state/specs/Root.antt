@@ -3,9 +3,9 @@ use mathlib.Core.List.{List}
 use Prim.Native.Nat.{ℕ}
 use lib.IntN.{ℤ}
 use lib.ListN.{replicate}
-use Rattle.tally.specs.declared.Tally.{Tally}
-use Rattle.propagation.specs.declared.propagated.Propagated.{Propagated}
-use Rattle.propagation.specs.Propagated.{PropagatedBy}
+use Rattle.walk_tally.specs.declared.Tally.{Tally}
+use Rattle.walk_propagation.specs.declared.propagated.Propagated.{Propagated}
+use Rattle.walk_propagation.specs.Propagated.{PropagatedBy}
 
 abbrev pub root : Tally
 root = record { settled = 0; broken = 0 }

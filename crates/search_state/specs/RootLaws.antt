@@ -13,16 +13,16 @@ use Rattle.walk.specs.Correctness.{start-state, start-unassigned}
 use Rattle.walk.specs.State.{fits}
 use Rattle.walk.specs.Walk.{Outcome, isDeadEnd}
 use Rattle.rule_list.specs.Sound.{SoundList}
-use Rattle.searches.specs.Fits.{sound-fits}
-use Rattle.tally.specs.declared.Tally.{Tally}
-use Rattle.unit_queue.specs.Due.{NoneDue}
-use Rattle.unit_queue.specs.Queue.{settle}
-use Rattle.unit_queue.specs.Theorems.{settle-alike, settled-none-due}
-use Rattle.propagation.specs.declared.propagated.Propagated.{Propagated}
-use Rattle.propagation.specs.declared.propagated.Propagated.the-variants.{Settled}
-use Rattle.propagation.specs.Looked.{ComesTo}
-use Rattle.propagation.specs.Propagated.{propagated-by}
-use Rattle.propagation.specs.Searching.{Searching}
+use Rattle.search_meaning.specs.Fits.{sound-fits}
+use Rattle.walk_tally.specs.declared.Tally.{Tally}
+use Rattle.walk_unit_queue.specs.Due.{NoneDue}
+use Rattle.walk_unit_queue.specs.Queue.{settle}
+use Rattle.walk_unit_queue.specs.Theorems.{settle-alike, settled-none-due}
+use Rattle.walk_propagation.specs.declared.propagated.Propagated.{Propagated}
+use Rattle.walk_propagation.specs.declared.propagated.Propagated.the-variants.{Settled}
+use Rattle.walk_propagation.specs.Looked.{ComesTo}
+use Rattle.walk_propagation.specs.Propagated.{propagated-by}
+use Rattle.walk_propagation.specs.Searching.{Searching}
 use Rattle.search_state.specs.declared.result.Tried.{Tried}
 use Rattle.search_state.specs.declared.result.Tried.the-variants.{Found, Nothing}
 use Rattle.search_state.specs.Root.{root, SettledRoot}

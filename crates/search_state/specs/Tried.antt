@@ -8,7 +8,7 @@ use Rattle.walk.specs.Walk.{Outcome}
 use Rattle.search_state.specs.declared.result.Tried.{Tried}
 use Rattle.search_state.specs.declared.result.Tried.the-variants.{Found, Nothing}
 use Rattle.search_state.specs.Result.{clip}
-use Rattle.propagation.specs.Trail.{undone}
+use Rattle.walk_propagation.specs.Trail.{undone}
 
 -- Where that comes to o. If that is nothing, the assignment is the state `back` again, and the first k places of the trail are as they were.
 abbrev pub TriedBy : Outcome → ℕ → List ℕ → List ℕ → List ℕ → List ℕ → Tried → Type 0

@@ -6,10 +6,10 @@ use native.Mathlib.Omega.{arith}
 use lib.ListN.{take, drop}
 use lib.Seq.{slice, take-take}
 use Rattle.walk.specs.Walk.{Outcome, deadEnd}
-use Rattle.tally.specs.declared.Tally.{Tally}
-use Rattle.propagation.specs.Looked.{Moved}
-use Rattle.propagation.specs.Searching.{settled-most}
-use Rattle.propagation.specs.Trail.{undone, grown-undone}
+use Rattle.walk_tally.specs.declared.Tally.{Tally}
+use Rattle.walk_propagation.specs.Looked.{Moved}
+use Rattle.walk_propagation.specs.Searching.{settled-most}
+use Rattle.walk_propagation.specs.Trail.{undone, grown-undone}
 use Rattle.search_state.specs.declared.result.Tried.{Tried}
 use Rattle.search_state.specs.declared.result.Tried.the-variants.{Found, Nothing}
 use Rattle.search_state.specs.Result.{clip}

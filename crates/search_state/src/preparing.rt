@@ -5,7 +5,7 @@ ghost use Prim.Native.Nat.{_≤_};
 ghost use lib.ListN.{length};
 ghost use Rattle.limits.specs.Limits.{maxVariables, maxClauses};
 ghost use Rattle.rule_list.specs.Sound.{SoundList};
-ghost use Rattle.occurrences.specs.Layout.{arrangementRoom};
+ghost use Rattle.walk_occurrences.specs.Layout.{arrangementRoom};
 ghost use Rattle.search_state.specs.Ready.{Prepared};
 
 // Arranges the clauses, and notes a witness for each: at first what stands where the clause begins. Gives how
@@ -14,7 +14,7 @@ pub fn prepare(n: usize, list: &[i32], arrangement: &mut [u16], witnesses: &mut 
     requires { ⌜ SoundList n (now list) × (n ≤ maxVariables) × (length (now arrangement) ≡ arrangementRoom) × (length (now witnesses) ≡ maxClauses) ⌝ }
     ensures { λ r. ⌜ Prepared n (now (list .entry)) (now (arrangement .exit)) (now (witnesses .exit)) r ⌝ }
 {
-    occurrences::arrange(n, list, &mut *arrangement);
-    copy_numbers(occurrences::begins_of(&*arrangement), witnesses);
-    occurrences::clause_count(&*arrangement)
+    walk_occurrences::arrange(n, list, &mut *arrangement);
+    copy_numbers(walk_occurrences::begins_of(&*arrangement), witnesses);
+    walk_occurrences::clause_count(&*arrangement)
 }

@@ -1,8 +1,8 @@
 // What trying a state comes to, the forks that it took, and the answer that a search gives for it.
-use searches::Searched;
+use search_meaning::Searched;
 ghost use mathlib.Core.Path.{_≡_};
 ghost use Prim.Native.Nat.{_+_, min};
-ghost use Rattle.searches.specs.Answers.{searchedOf};
+ghost use Rattle.search_meaning.specs.Answers.{searchedOf};
 ghost use Rattle.search_state.specs.Result.{withForks, brokenIn};
 
 // An answer, with the number of broken wishes, or nothing; and the forks that were made, as far as 64

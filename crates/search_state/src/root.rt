@@ -1,13 +1,13 @@
 // The root of a search: every variable unassigned, and unit propagation from there.
 use crate::copying::unassign_all;
-use propagation::Propagated;
-use tally::Tally;
+use walk_propagation::Propagated;
+use walk_tally::Tally;
 ghost use mathlib.Core.Path.{_≡_};
 ghost use Prim.Native.Nat.{_≤_};
 ghost use lib.ListN.{length};
 ghost use Rattle.formula.specs.Formula.{clauses};
 ghost use Rattle.limits.specs.Limits.{maxVariables};
-ghost use Rattle.occurrences.specs.Table.{Beside};
+ghost use Rattle.walk_occurrences.specs.Table.{Beside};
 ghost use Rattle.rule_list.specs.Sound.{SoundList};
 ghost use Rattle.search_state.specs.Root.{SettledRoot};
 
@@ -28,5 +28,5 @@ pub fn settle_root(
         settled: 0,
         broken: 0,
     };
-    propagation::propagate_all(list, arrangement, row, d, root, a, trail)
+    walk_propagation::propagate_all(list, arrangement, row, d, root, a, trail)
 }

@@ -1,7 +1,7 @@
 // The tables that a walk or a search works in, for the most variables, clauses and elements that there can be.
 ghost use mathlib.Core.Path.{_≡_};
 ghost use lib.ListN.{length};
-ghost use Rattle.occurrences.specs.Layout.{arrangementRoom};
+ghost use Rattle.walk_occurrences.specs.Layout.{arrangementRoom};
 
 // The arrangement of the clauses.
 pub fn no_arrangement() -> [u16; 50282]

@@ -23,7 +23,7 @@ pub fn unwind(tried: Tried, from: usize, to: usize, trail: &[u16], a: &mut [u8])
     ensures state { λ r. ⌜ now (a .exit) ≡ unwound tried (slice from to (now (trail .entry))) (now (a .entry)) ⌝ }
 {
     if let Tried::Nothing(_) = tried {
-        propagation::undo(from, to, trail, a);
+        walk_propagation::undo(from, to, trail, a);
     }
     tried
 }

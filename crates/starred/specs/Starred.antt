@@ -5,11 +5,11 @@ use Prim.Native.Nat.{ℕ}
 use lib.IntN.{ℤ, pos}
 use lib.ListN.{take}
 use Rattle.refusal.specs.Reply.{Reply, refusal, refusing, answering}
-use Rattle.searches.specs.Searches.{searchReply, nearestReply}
-use Rattle.dimacs.specs.Class.{classOf}
+use Rattle.search_meaning.specs.Searches.{searchReply, nearestReply}
+use Rattle.rule_file.specs.Class.{classOf}
 use Rattle.wish_file.specs.Examples as example
-use Rattle.rule_reader.specs.Read as rule
-use Rattle.wish_reader.specs.Read as wish
+use Rattle.rule_file_reader.specs.Read as rule
+use Rattle.wish_file_reader.specs.Read as wish
 
 -- what the definitions give, and what the documents state
 pub record Case : Type 0 where

@@ -11,7 +11,7 @@ use lib.Seq.{getD-take}
 use borrow.Author.Tests.{ltb-true, lt-ltb}
 use Rattle.literal.specs.Literal.{variable, value, wanted, holds}
 use Rattle.formula.specs.Formula.{all}
-use Rattle.soundness.specs.Laws.{and-left, and-right, and-both}
+use Rattle.rule_list_soundness.specs.Laws.{and-left, and-right, and-both}
 use Rattle.choices.specs.Choices.{Choice}
 
 -- a choice by one test of its bytes

@@ -10,7 +10,7 @@ use lib.ListN.{take, drop, length-append, length-take, length-drop, take-append-
 use lib.Seq.{take-all, take-at, drop-at}
 use Rattle.literal.specs.Literal.{variable, holds}
 use Rattle.formula.specs.Formula.{all}
-use Rattle.soundness.specs.Laws.{and-both, all-append}
+use Rattle.rule_list_soundness.specs.Laws.{and-both, all-append}
 use Rattle.choices.specs.Choices.{Choice}
 use Rattle.totalizer.specs.Choice.{binary, choice-of, holds-take}
 use Rattle.totalizer.specs.Totalizer.{Tree, leaf, node, tree, size, added, leaves, rewrittenVariables, count, unary, counters, completion, Over}

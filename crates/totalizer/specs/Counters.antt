@@ -12,7 +12,7 @@ use lib.Seq.{take-append-seam, drop-append-seam, take-add, drop-drop, getD-take,
 use borrow.Author.Tests.{ltb-true, ltb-false, le-ltb, eqb-true, eqb-false, not-true}
 use Rattle.literal.specs.Literal.{value, holds}
 use Rattle.formula.specs.Formula.{satisfied, models}
-use Rattle.soundness.specs.Laws.{and-left, and-right, and-both, all-append}
+use Rattle.rule_list_soundness.specs.Laws.{and-left, and-right, and-both, all-append}
 use Rattle.choices.specs.Choices.{Choice, choice-value}
 use Rattle.totalizer.specs.Totalizer.{Tree, leaf, node, tree, size, added, output, totalizer, limit, atMost, count, unary, counters, Over, Counts, AllCount}
 use Rattle.totalizer.specs.Meaning.{count-most, right-counts, signed, totalizer-right, right-totalizer}

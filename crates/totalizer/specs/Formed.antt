@@ -11,8 +11,8 @@ use lib.ListN.{length}
 use borrow.Author.Tests.{ne-eqb, ltb-true, le-ltb}
 use Rattle.literal.specs.Literal.{variable}
 use Rattle.rule_list.specs.Sound.{mayJoin}
-use Rattle.soundness.specs.Flat.{joining, wellFormed}
-use Rattle.soundness.specs.Laws.{and-both, all-append, joins, mayJoin-new}
+use Rattle.rule_list_soundness.specs.Flat.{joining, wellFormed}
+use Rattle.rule_list_soundness.specs.Laws.{and-both, all-append, joins, mayJoin-new}
 use Rattle.totalizer.specs.Totalizer.{Tree, leaf, node, tree, size, added, output, lower, upper, up, down, below, adder, totalizer, limit, atMost, Over}
 use Rattle.totalizer.specs.Meaning.{below-all, not-first, not-last, output-variable, parts}
 use Rattle.totalizer.specs.Trees.{leavesOf, tree-leaves, tree-size}

@@ -10,7 +10,7 @@ use lib.IntN.{ℤ, pos, negsuc, negℤ}
 use borrow.Author.Tests.{ltb-true, ltb-false, lt-ltb, le-ltb, eqb-true, eqb-false, eq-eqb, ne-eqb, not-true}
 use Rattle.literal.specs.Literal.{variable}
 use Rattle.formula.specs.Formula.{any, all}
-use Rattle.soundness.specs.Laws.{and-left, and-right, and-both, all-append}
+use Rattle.rule_list_soundness.specs.Laws.{and-left, and-right, and-both, all-append}
 use Rattle.totalizer.specs.Totalizer.{Tree, leaf, node, size, added, output, lower, upper, up, down, below, adder, totalizer, on, count, Over, Counts, AllCount}
 
 -- An assignment h says of every literal whether it holds. Here opposite literals of the variables 1 to n have opposite truth.

@@ -10,9 +10,9 @@ use Rattle.literal.specs.Literal.{variable, holds}
 use Rattle.formula.specs.Formula.{clauses, satisfied, models}
 use Rattle.distance.specs.Distance.{disagreement}
 use Rattle.rule_list.specs.Sound.{SoundList}
-use Rattle.soundness.specs.Flat.{wellFormed}
-use Rattle.soundness.specs.Laws.{and-left, and-right, and-both, all-append, models-by-values}
-use Rattle.soundness.specs.Soundness.{sound, clauses-behind}
+use Rattle.rule_list_soundness.specs.Flat.{wellFormed}
+use Rattle.rule_list_soundness.specs.Laws.{and-left, and-right, and-both, all-append, models-by-values}
+use Rattle.rule_list_soundness.specs.Soundness.{sound, clauses-behind}
 use Rattle.choices.specs.Choices.{Choice}
 use Rattle.totalizer.specs.Totalizer.{leaves, atMost, rewrittenVariables, rewritten, completion}
 use Rattle.totalizer.specs.Trees.{held, Within}

@@ -10,7 +10,7 @@ use lib.IntN.{ℤ, negℤ}
 use lib.ListN.{length, take, drop, length-append, length-take, length-drop, take-append-drop}
 use borrow.Author.Tests.{eqb-true, eqb-false, eq-eqb, ne-eqb, ltb-true, ltb-false}
 use Rattle.formula.specs.Formula.{literals}
-use Rattle.soundness.specs.Laws.{literals-append}
+use Rattle.rule_list_soundness.specs.Laws.{literals-append}
 use Rattle.totalizer.specs.Trees.{halving-size, tree-size}
 use Rattle.totalizer.specs.Totalizer.{Tree, leaf, node, halving, tree, size, added, output, lower, upper, up, down, below, adder, totalizer, limit, atMost}
 

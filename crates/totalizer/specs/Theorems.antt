@@ -13,12 +13,12 @@ use Rattle.formula.specs.Formula.{any, all, clauses, literals, models}
 use Rattle.distance.specs.Distance.{disagreement}
 use Rattle.limits.specs.Limits.{maxVariables, maxClauses, maxLiterals, maxWishVariables, maxWishClauses, maxWishLiterals}
 use Rattle.rule_list.specs.Sound.{SoundList, unread, badRule}
-use Rattle.causes.specs.Sound.{badWish}
+use Rattle.refusal_causes.specs.Sound.{badWish}
 use Rattle.wish.specs.Wish.{totalWeight}
-use Rattle.causes.specs.Laws.{sound-weight}
-use Rattle.soundness.specs.Flat.{joining, wellFormed}
-use Rattle.soundness.specs.Laws.{and-both, all-append, literals-append, wellFormed-more}
-use Rattle.soundness.specs.Soundness.{sound, flat-sound, behind}
+use Rattle.refusal_causes.specs.Laws.{sound-weight}
+use Rattle.rule_list_soundness.specs.Flat.{joining, wellFormed}
+use Rattle.rule_list_soundness.specs.Laws.{and-both, all-append, literals-append, wellFormed-more}
+use Rattle.rule_list_soundness.specs.Soundness.{sound, flat-sound, behind}
 use Rattle.choices.specs.Choices.{Choice}
 use Rattle.totalizer.specs.Totalizer.{Tree, on, leaves, tree, added, totalizer, atMost, rewrittenVariables, rewritten, completion, Over, AllCount}
 use Rattle.totalizer.specs.Meaning.{on-opposite, totalizer-right, right-totalizer}

@@ -8,7 +8,7 @@ use lib.IntN.{ℤ, pos, negsuc, negℤ}
 use lib.ListN.{length, take, drop, replicate}
 use Rattle.literal.specs.Literal.{variable, holds}
 use Rattle.wish.specs.Wish.{weight, breaking}
-use Rattle.soundness.specs.Flat.{flat}
+use Rattle.rule_list_soundness.specs.Flat.{flat}
 
 -- "Leaves are the wishes by rising setting; a leaf is the entry that breaks its wish", here from variable v on. A wish has as many leaves as it weighs.
 abbrev pub leavesFrom : ℕ → List ℕ → List ℤ

@@ -16,8 +16,8 @@ use Rattle.refusal.specs.declared.Refusal.{Refusal}
 use Rattle.refusal.specs.Laws.{first-last, cause-none, no-first, neither}
 use Rattle.refusal.specs.Reply.{refusal, first, cause}
 use Rattle.limits.specs.Limits.{maxWishVariables, maxWishes, maxLimit}
-use Rattle.causes.specs.Laws.{sound-weight}
-use Rattle.causes.specs.Sound.{badWish}
+use Rattle.refusal_causes.specs.Laws.{sound-weight}
+use Rattle.refusal_causes.specs.Sound.{badWish}
 use Rattle.wish_file.specs.Format.{headerColumns, wishColumns, fields, wishOf, wishLines, written, fileSize, outside, misfit, badLine, wishAt, badLines, wishesIn, refuses, gives, readLines, readHeader, reading}
 use Rattle.wish_file.specs.Layout.{line, lineSize, lineNumbers}
 use Rattle.wish_file.specs.LayoutLaws.{Fit, Begins, line-length, line-read, line-written}

@@ -13,7 +13,7 @@ use borrow.Author.Tests.{le-leb}
 use Rattle.wish.specs.Wish.{weight, isRowByte, freeByte, isWish, wishCount, totalWeight}
 use Rattle.limits.specs.Limits.{maxWishes}
 use Rattle.wish.specs.Laws.{free-byte, free-no-wish, no-wish-free, for-byte, for-wish, for-wished, wished-for, wished-bit}
-use Rattle.causes.specs.Sound.{badWish}
+use Rattle.refusal_causes.specs.Sound.{badWish}
 use Rattle.wish_file.specs.Wishes.{Wish, wishList, marked, rowOf, Rising, wishAs, byteOf}
 
 -- every number of a list may stand in a row
@@ -21,7 +21,7 @@ abbrev pub Bytes : List ℕ → Type 0
 Bytes [] = Unit {0}
 Bytes (w ∷ row) = (isRowByte w ≡ true) × Bytes row
 
--- a row is sound where they may, and its wishes weigh little (`weight-from` of crate causes)
+-- a row is sound where they may, and its wishes weigh little (`weight-from` of crate refusal_causes)
 pub sound-bytes : (row : List ℕ) (m i : ℕ) → badWish m i row ≡ none → Bytes row
 sound-bytes [] m i e = tt
 sound-bytes (w ∷ row) m i e = go (isRowByte w) refl (leb (m + weight w) maxWishes) e (sound-bytes row (m + weight w) (suc i))

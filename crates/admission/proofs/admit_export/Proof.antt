@@ -1,6 +1,6 @@
 -- `admission::admit_export` meets its contract: one cause more than `admit_wishes` looks at.
 use Rattle.refusal.specs.Reply.{given}
-use Rattle.causes.specs.Lent.{wishedProblem, exportedProblem, emptyCause}
+use Rattle.refusal_causes.specs.Lent.{wishedProblem, exportedProblem, emptyCause}
 use Rattle.admission_steps.specs.Laws.{then-cause, in-order, all-told}
 use borrow.Author.Needs.{needs}
 use Rattle.admission.proofs.admit_export.Statement.{statement}

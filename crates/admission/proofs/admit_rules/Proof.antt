@@ -1,6 +1,6 @@
 -- `admission::admit_rules` meets its contract: its steps come to the causes, in their order.
 use Rattle.refusal.specs.Reply.{given}
-use Rattle.causes.specs.Lent.{plainProblem, rulesCause}
+use Rattle.refusal_causes.specs.Lent.{plainProblem, rulesCause}
 use Rattle.admission_steps.specs.declared.Counts.{Counts}
 use Rattle.admission_steps.specs.Admission.{noCounts, withRuleCounts}
 use Rattle.admission_steps.specs.Laws.{begun, ranged, then, all-told}

@@ -4,8 +4,8 @@ use mathlib.Core.List.{List}
 use mathlib.Core.Option.{Option}
 use Prim.Native.Nat.{ℕ}
 use Rattle.refusal.specs.Reply.{refusal, causeAt}
-use Rattle.causes.specs.Scans.{row-unsound, row-sound}
-use Rattle.causes.specs.Sound.{badWish}
+use Rattle.refusal_causes.specs.Scans.{row-unsound, row-sound}
+use Rattle.refusal_causes.specs.Sound.{badWish}
 use Rattle.admission_steps.specs.declared.Admission.the-variants.{Refused, Admitted}
 use Rattle.admission_steps.specs.declared.Admission.{Admission}
 use Rattle.admission_steps.specs.declared.Counts.{Counts}

@@ -3,7 +3,7 @@ use mathlib.Core.Path.{ap, _∙_}
 use mathlib.Core.Option.{Option}
 use Rattle.refusal.specs.declared.Refusal.{Refusal}
 use Rattle.refusal.specs.Reply.{cause}
-use Rattle.causes.specs.Lent.{oversized}
+use Rattle.refusal_causes.specs.Lent.{oversized}
 use Rattle.admission_steps.specs.declared.Counts.{Counts}
 use Rattle.admission_steps.specs.Admission.{answer}
 use Rattle.admission_steps.specs.Laws.{stays, goes-on}

@@ -1,8 +1,8 @@
 -- `checking::check` meets its contract: refused for what was lent, or answered.
 use mathlib.Core.Path.{sym, _∙_}
-use Rattle.causes.specs.Admitted.{admitted}
-use Rattle.causes.specs.Laws.{sound-weight}
-use Rattle.causes.specs.Lent.{Lent, unadmitted}
+use Rattle.refusal_causes.specs.Admitted.{admitted}
+use Rattle.refusal_causes.specs.Laws.{sound-weight}
+use Rattle.refusal_causes.specs.Lent.{Lent, unadmitted}
 use Rattle.admission_steps.specs.Admission.{countsOf}
 use Rattle.admission_steps.specs.Laws.{refused-by, admitted-by}
 use Rattle.checking.specs.Check.{lentToCheck}

@@ -1,6 +1,6 @@
 -- `opb::run` meets its contract: what was read of each file is lent.
 use Rattle.io.specs.Counts.{Counts}
-use Rattle.input_file.specs.Filled.{both-filled}
+use Rattle.program_input.specs.Filled.{both-filled}
 use borrow.Author.Needs.{needs}
 use Rattle.opb.proofs.run.Statement.{statement}
 use Rattle.opb.proofs.run.Tie as tie

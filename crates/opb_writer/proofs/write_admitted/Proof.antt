@@ -12,11 +12,11 @@ use Rattle.wish.specs.Wish.{wishCount}
 use Rattle.refusal.specs.Laws.{enough-room}
 use Rattle.refusal.specs.Reply.{refused, tooShort}
 use Rattle.writing.specs.Wrote.{Wrote, wrote-as, wrote-more, wrote-whole}
-use Rattle.causes.specs.Admitted.{none-applies}
-use Rattle.causes.specs.Lent.{Lent, exportedProblem}
-use Rattle.causes.specs.Texts.{refused-late, answered}
+use Rattle.refusal_causes.specs.Admitted.{none-applies}
+use Rattle.refusal_causes.specs.Lent.{Lent, exportedProblem}
+use Rattle.refusal_causes.specs.Texts.{refused-late, answered}
 use Rattle.admission_steps.specs.declared.Counts.{Counts}
-use Rattle.dimacs.specs.Sizes.{sound-clauses, sound-length}
+use Rattle.rule_file.specs.Sizes.{sound-clauses, sound-length}
 use Rattle.opb_format.specs.Opb.{headerText, opbOf}
 use Rattle.opb_writer.specs.Parts.{head, file-parts, file-size}
 use Rattle.opb_writer.proofs.write_admitted.Statement.{statement}

@@ -2,9 +2,9 @@
 use mathlib.Core.Path.{_≡_, sym, _∙_}
 use mathlib.Core.Option.{none}
 use borrow.Author.Needs.{needs}
-use Rattle.causes.specs.Admitted.{admitted}
-use Rattle.causes.specs.Lent.{Lent, exportedProblem, unadmitted}
-use Rattle.causes.specs.Texts.{refused-early}
+use Rattle.refusal_causes.specs.Admitted.{admitted}
+use Rattle.refusal_causes.specs.Lent.{Lent, exportedProblem, unadmitted}
+use Rattle.refusal_causes.specs.Texts.{refused-early}
 use Rattle.admission_steps.specs.Admission.{countsOf}
 use Rattle.admission_steps.specs.Laws.{refused-by, admitted-by}
 use Rattle.opb_format.specs.Opb.{opbOf}

@@ -2,8 +2,8 @@
 use mathlib.Core.Path.{_≡_, sym, _∙_}
 use lib.ListN.{length}
 use borrow.Author.Needs.{needs}
-use Rattle.causes.specs.Admitted.{unrefused}
-use Rattle.causes.specs.Lent.{Lent, wishedProblem, withRoom, refusalOf}
+use Rattle.refusal_causes.specs.Admitted.{unrefused}
+use Rattle.refusal_causes.specs.Lent.{Lent, wishedProblem, withRoom, refusalOf}
 use Rattle.admission_steps.specs.Admission.{countsOf, start}
 use Rattle.admission_steps.specs.Laws.{admitted-by, started}
 use Rattle.search_state.specs.ReadyLaws.{startable}

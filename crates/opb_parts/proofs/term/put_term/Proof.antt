@@ -10,7 +10,7 @@ use borrow.Author.Needs.{needs}
 use Rattle.literal.specs.Literal.{variable}
 use Rattle.decimal.specs.Decimal.{decimal}
 use Rattle.writing.specs.Wrote.{wrote-as, wrote-more, wrote-room}
-use Rattle.pseudo_boolean.specs.Export.{term}
+use Rattle.opb_pseudo_boolean.specs.Export.{term}
 use Rattle.opb_format.specs.Laws.{signOf, term-parts}
 use Rattle.opb_format.specs.Opb.{termText}
 use Rattle.opb_parts.proofs.term.put_term.Statement.{statement}

@@ -8,7 +8,7 @@ use lib.ListN.{length, getD, drop}
 use borrow.Author.Needs.{needs}
 use Rattle.literal.specs.Laws.{as-read}
 use Rattle.literal.specs.Literal.{wanted}
-use Rattle.pseudo_boolean.specs.Export.{negatives}
+use Rattle.opb_pseudo_boolean.specs.Export.{negatives}
 use Rattle.opb_rules.specs.Lines.{negatives-more, negatives-same, negatives-past}
 use Rattle.opb_rules.proofs.count.negatives_of.Statement.{statement}
 use Rattle.opb_rules.proofs.count.negatives_of.Tie as tie

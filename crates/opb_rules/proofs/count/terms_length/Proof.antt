@@ -6,7 +6,7 @@ use lib.IntN.{ℤ, pos}
 use lib.ListN.{length, getD, drop}
 use borrow.Author.Needs.{needs}
 use Rattle.literal.specs.Laws.{as-read}
-use Rattle.pseudo_boolean.specs.Export.{term}
+use Rattle.opb_pseudo_boolean.specs.Export.{term}
 use Rattle.opb_format.specs.Opb.{termText}
 use Rattle.opb_rules.specs.Lines.{clauseTerms, terms-step, terms-past}
 use Rattle.opb_rules.proofs.count.terms_length.Statement.{statement}

@@ -7,7 +7,7 @@ use lib.IntN.{ℤ}
 use lib.ListN.{length, drop}
 use borrow.Author.Needs.{needs}
 use Rattle.writing.specs.Wrote.{Remaining, remaining-all, remaining-next, remaining-none, remaining-room}
-use Rattle.pseudo_boolean.specs.Export.{ruleConstraint}
+use Rattle.opb_pseudo_boolean.specs.Export.{ruleConstraint}
 use Rattle.opb_format.specs.Opb.{lineText}
 use Rattle.opb_rules.specs.Lines.{ruleLines, clauseAt, lines-split, clause-size, lines-past}
 use Rattle.opb_rules.proofs.put.put_rules.Statement.{statement}

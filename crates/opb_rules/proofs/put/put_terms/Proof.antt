@@ -7,7 +7,7 @@ use native.Mathlib.Omega.{arith}
 use borrow.Author.Needs.{needs}
 use Rattle.literal.specs.Laws.{as-read}
 use Rattle.writing.specs.Wrote.{Remaining, wrote-as, remaining-all, remaining-next, remaining-none, remaining-room}
-use Rattle.pseudo_boolean.specs.Export.{term}
+use Rattle.opb_pseudo_boolean.specs.Export.{term}
 use Rattle.opb_format.specs.Opb.{termText}
 use Rattle.opb_rules.specs.Lines.{clauseTerms, terms-split, terms-past}
 use Rattle.opb_rules.proofs.put.put_terms.Statement.{statement}

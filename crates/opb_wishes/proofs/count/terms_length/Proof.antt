@@ -4,7 +4,7 @@ use Prim.Native.Nat.{_+_, _-_, _*_, _≤_}
 use native.Mathlib.Omega.{arith}
 use lib.ListN.{length, drop}
 use borrow.Author.Needs.{needs}
-use Rattle.pseudo_boolean.specs.Export.{wishTerms}
+use Rattle.opb_pseudo_boolean.specs.Export.{wishTerms}
 use Rattle.opb_format.specs.Opb.{termsText}
 use Rattle.opb_wishes.specs.Line.{terms-length, terms-end}
 use Rattle.opb_wishes.proofs.count.terms_length.Statement.{statement}

@@ -4,7 +4,7 @@ use native.Mathlib.Omega.{arith}
 use lib.ListN.{length, drop}
 use borrow.Author.Needs.{needs}
 use Rattle.writing.specs.Wrote.{Remaining, remaining-all, remaining-next, remaining-none, remaining-room}
-use Rattle.pseudo_boolean.specs.Export.{wishTerms}
+use Rattle.opb_pseudo_boolean.specs.Export.{wishTerms}
 use Rattle.opb_format.specs.Opb.{termsText}
 use Rattle.opb_wishes.specs.Line.{here, rest, terms-split, terms-end}
 use Rattle.opb_wishes.proofs.put.put_terms.Statement.{statement}

@@ -11,7 +11,7 @@ use Rattle.literal.specs.Laws.{as-read}
 use Rattle.writing.specs.Wrote.{wrote-none, wrote-as}
 use Rattle.wish.specs.Laws.{weight-wish}
 use Rattle.wish.specs.Wish.{isWish}
-use Rattle.pseudo_boolean.specs.Export.{term, wishTerms}
+use Rattle.opb_pseudo_boolean.specs.Export.{term, wishTerms}
 use Rattle.opb_format.specs.Opb.{termText, termsText}
 use Rattle.opb_wishes.specs.Line.{term-free, term-wish}
 use Rattle.opb_wishes.proofs.put.put_wish.Statement.{statement}

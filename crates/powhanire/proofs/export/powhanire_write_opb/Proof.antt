@@ -1,7 +1,7 @@
 -- `powhanire::export::powhanire_write_opb` meets its contract: what the call answers is passed on.
 use mathlib.Core.Path.{ap, _∙_}
 use borrow.Author.Needs.{needs}
-use Rattle.answers.specs.Answers.{answerOf}
+use Rattle.c_answers.specs.Answers.{answerOf}
 use Rattle.powhanire.proofs.export.powhanire_write_opb.Statement.{statement}
 use Rattle.powhanire.proofs.export.powhanire_write_opb.Tie as tie
 

@@ -1,7 +1,7 @@
 -- `powhanire::judge::powhanire_check` meets its contract: what the call answers is passed on.
 use mathlib.Core.Path.{ap, _∙_}
 use borrow.Author.Needs.{needs}
-use Rattle.answers.specs.Answers.{answerOf}
+use Rattle.c_answers.specs.Answers.{answerOf}
 use Rattle.powhanire.proofs.judge.powhanire_check.Statement.{statement}
 use Rattle.powhanire.proofs.judge.powhanire_check.Tie as tie
 

@@ -1,7 +1,7 @@
 -- `powhanire::rewrite::powhanire_rewrite` meets its contract: what the call answers is passed on.
 use mathlib.Core.Path.{ap, _∙_}
 use borrow.Author.Needs.{needs}
-use Rattle.answers.specs.Answers.{answerOf}
+use Rattle.c_answers.specs.Answers.{answerOf}
 use Rattle.powhanire.proofs.rewrite.powhanire_rewrite.Statement.{statement}
 use Rattle.powhanire.proofs.rewrite.powhanire_rewrite.Tie as tie
 

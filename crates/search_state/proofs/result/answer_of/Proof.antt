@@ -1,6 +1,6 @@
 -- `search_state::result::answer_of` meets its contract.
 use mathlib.Core.Path.{sym, ap}
-use Rattle.searches.specs.Answers.{searchedOf}
+use Rattle.search_meaning.specs.Answers.{searchedOf}
 use Rattle.search_state.specs.declared.result.Tried.{Tried}
 use Rattle.search_state.specs.Result.{brokenIn}
 use borrow.Author.Needs.{needs}

@@ -1,9 +1,0 @@
-// What is at hand on the way through the wishes.
-use tally::Tally;
-
-// The tally of the values, how many wishes are assumed, and how much is broken at least.
-pub struct Progress {
-    pub tally: Tally,
-    pub assumed: usize,
-    pub bound: usize,
-}

@@ -1,8 +1,0 @@
-// What propagation comes to.
-use tally::Tally;
-
-// A dead end or the propagated state, with the tally of what is assigned then.
-pub enum Propagated {
-    Dead(Tally),
-    Settled(Tally),
-}
