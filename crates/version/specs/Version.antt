@@ -13,7 +13,7 @@ abbrev pub minor : ℕ
 minor = 0
 
 abbrev pub patch : ℕ
-patch = 0
+patch = 1
 
 -- as one number: `POWHANIRE_VERSION` of the header
 abbrev pub version : ℕ
@@ -21,7 +21,7 @@ version = major * 10000 + (minor * 100 + patch)
 
 -- as people write it: `POWHANIRE_VERSION_TEXT` of the header
 abbrev pub versionText : List ℕ
-versionText = ascii "1.0.0"
+versionText = ascii "1.0.1"
 
 -- the text has the three numbers, with points between them
 pub text-of-numbers : versionText ≡ decimal major ++ (ascii "." ++ (decimal minor ++ (ascii "." ++ decimal patch)))

@@ -6,12 +6,12 @@ ghost use Rattle.version.specs.Version.{version, versionText};
 pub fn number() -> u64
     ensures { λ r. ⌜ r ≡ version ⌝ }
 {
-    10000
+    10001
 }
 
 // As people write it.
 pub fn text() -> [u8; 5]
     ensures { λ r. ⌜ r ≡ versionText ⌝ }
 {
-    [b'1', b'.', b'0', b'.', b'0']
+    [b'1', b'.', b'0', b'.', b'1']
 }
