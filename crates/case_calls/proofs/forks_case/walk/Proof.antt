@@ -10,16 +10,20 @@ use Rattle.search_state.specs.ReadyLaws.{startable}
 use Rattle.case_calls.proofs.forks_case.walk.Statement.{statement}
 use Rattle.case_calls.proofs.forks_case.walk.Tie as tie
 
+-- the entry, after the checks
+abbrev entry : tie.After-with-room → tie.Start
+entry c = c .before .before .before .before
+
 -- after the checks: what was lent, without and with the room, and what they say of it
 module _ (c : tie.After-with-room) where
   abbrev problem-of : Lent
-  problem-of = wishedProblem (c .before .before .before .before .args .n) (c .before .before .before .before .args .rules .now) (c .before .before .before .before .args .row .now) (c .before .before .before .before .args .d)
+  problem-of = wishedProblem (entry c .args .n) (entry c .args .rules .now) (entry c .args .row .now) (entry c .args .d)
 
   abbrev lent : Lent
-  lent = withRoom (c .before .before .before .before .args .n) (length (c .before .before .before .before .args .choice .now)) problem-of
+  lent = withRoom (entry c .args .n) (length (entry c .args .choice .now)) problem-of
 
   told : c .with-room .result ≡ start lent
-  told = c .with-room .ensures ∙ started (c .before .admit-wishes .result) problem-of (c .before .before .before .before .args .n) (length (c .before .before .before .before .args .choice .now)) (c .before .admit-wishes .ensures)
+  told = c .with-room .ensures ∙ started (c .before .admit-wishes .result) problem-of (entry c .args .n) (length (entry c .args .choice .now)) (c .before .admit-wishes .ensures)
 
 admit-wishes-requires : tie.Need-admit-wishes-requires
 admit-wishes-requires c κs = search needs
@@ -40,7 +44,7 @@ walk-into-requires : tie.Need-walk-into-requires
 walk-into-requires c κs =
     let past = c .before in
     let checked = past .before .before in
-    let args = checked .before .before .before .before .args in
+    let args = entry checked .args in
     let passed = admitted-by (refusalOf (lent checked)) (countsOf (lent checked)) (past .enum-told .given .0 .0) (sym (told checked) ∙ past .enum-told .given .1) .0 in
     startable (problem-of checked) (length (args .choice .now)) (unrefused (problem-of checked) (args .n) (length (args .choice .now)) passed)
 
