@@ -1,4 +1,4 @@
--- The same of a call that writes a text: its answer is the text's length.
+-- What Outputs.antt says, of a call that writes a text: its answer is the text's length.
 use mathlib.Core.Path.{_≡_, ap}
 use mathlib.Core.List.{List, _++_}
 use mathlib.Core.Option.{none, some}
