@@ -1,5 +1,6 @@
 -- `search_nearest::search` meets its contract: refused, or the first nearest choice.
 use mathlib.Core.Path.{_≡_, refl, sym, ap, subst, _∙_}
+use mathlib.Core.List.{List}
 use mathlib.Core.Option.{Option, none, some}
 use Prim.Native.Nat.{ℕ, _≤_}
 use lib.ListN.{length}
@@ -27,6 +28,10 @@ checked c = c .before .before .before
 
 abbrev counts : tie.After-first-nearest → tie.After-known-told2
 counts c = c .before .before
+
+-- what is left of `choice`
+abbrev searched-choice : tie.After-first-nearest → List ℕ
+searched-choice c = c .first-nearest .last .1 .1 .1 .1 .0
 
 -- after the checks: what was lent, and what they say of it
 module _ (c : tie.After-with-room) where
@@ -91,7 +96,7 @@ returns-2 c =
     let args = entry p .args in
     let answer = nearestAnswer (args .n) (args .rules .now) (args .row .now) in
     let call = searched .first-nearest in
-    let after = call .last .1 .1 .1 .1 .0 in
+    let after = searched-choice searched in
     let w = given-answer (refusalOf (lent p)) answer (args .n) (args .choice .now) (passed past .0) (call .result) after (call .ensures .0) (call .ensures .1) in (
       w .0 ∙ ap (λ (o : Option ℕ). unless (refusalOf (lent p)) (found o)) (nearest-is (args .n) (args .rules .now) (args .row .now)),
       (

@@ -39,6 +39,10 @@ begun c = c .before
 abbrev lends : tie.After-walk-into → tie.After-no-wishes
 lends c = c .before .before .before
 
+-- what is left of `choice`
+abbrev walked-choice : tie.After-walk-into → List ℕ
+walked-choice c = c .walk-into .last .1 .1 .1 .1 .0
+
 -- after the checks: what was lent, and what they say of it
 module _ (c : tie.After-with-room) where
   abbrev n : ℕ
@@ -116,7 +120,7 @@ returns-2 c =
     let past = begun (lends walked) in
     let args = entry (checked past) .args in
     let answer = plainWalk (args .n) (clauses (args .rules .now)) .answer in
-    let after = walked .walk-into .last .1 .1 .1 .1 .0 in
+    let after = walked-choice walked in
     let reaches = subst (λ (row : List ℕ). Reaches (walk (args .n) (clauses (args .rules .now)) row 0) (args .n) (args .choice .now) after (walked .walk-into .result)) (free (lends walked)) (walked .walk-into .ensures) in
     let answered : c .answer-of .result ≡ searchedOf (brokenBy answer) = c .answer-of .ensures ∙ ap searchedOf (reaches .answered) in
     let w = given-answer (refusalOf (lent (checked past))) answer (args .n) (args .choice .now) (passed past) (c .answer-of .result) after answered (reaches .output) in (

@@ -1,5 +1,6 @@
 -- `search_wish::search` meets its contract: refused, or what the walk comes to.
 use mathlib.Core.Path.{_≡_, refl, sym, ap, subst, _∙_}
+use mathlib.Core.List.{List}
 use mathlib.Core.Option.{none}
 use Prim.Native.Nat.{ℕ, _≤_}
 use lib.ListN.{length}
@@ -25,6 +26,10 @@ checked c = c .before .before
 
 abbrev begun : tie.After-walk-into → tie.After-enum-told
 begun c = c .before .before
+
+-- what is left of `choice`
+abbrev walked-choice : tie.After-walk-into → List ℕ
+walked-choice c = c .walk-into .last .1 .1 .1 .1 .0
 
 -- after the checks: what was lent, and what they say of it
 module _ (c : tie.After-with-room) where
@@ -88,7 +93,7 @@ returns-2 c =
     let past = begun walked in
     let args = entry (checked past) .args in
     let answer = walk (args .n) (clauses (args .rules .now)) (args .row .now) (args .d) .answer in
-    let after = walked .walk-into .last .1 .1 .1 .1 .0 in
+    let after = walked-choice walked in
     let reaches = walked .walk-into .ensures in
     let answered : c .answer-of .result ≡ searchedOf (brokenBy answer) = c .answer-of .ensures ∙ ap searchedOf (reaches .answered) in
     let w = given-answer (refusalOf (lent (checked past))) answer (args .n) (args .choice .now) (passed past) (c .answer-of .result) after answered (reaches .output) in (

@@ -1,5 +1,6 @@
 -- `nearest_first_choice::fix::first_value` meets its contract: the choice at hand has the variable off, or a search from the state decides.
 use mathlib.Core.Path.{_≡_, refl, sym, subst, _∙_}
+use mathlib.Core.List.{List}
 use mathlib.Core.Option.{Option, none, some}
 use Prim.Native.Nat.{ℕ, _+_, _<_}
 use native.Mathlib.Omega.{arith}
@@ -28,6 +29,10 @@ asked c = c .before .before .before .before
 
 abbrev found : tie.After-slice-known6 → tie.After-value-by-search
 found c = c .before .before .before .before .before .before
+
+-- what is left of `choice`
+abbrev searched-choice : tie.After-value-by-search → List ℕ
+searched-choice c = c .value-by-search .last .1 .1 .1 .1 .1 .1 .1 .1 .1 .1 .0
 
 value-bit : (o : Option Answer) → valueAfter o < 2
 value-bit none = omega arith
@@ -80,7 +85,7 @@ returns-2 c =
     = refining-searched (given .0 .fixed .refining) u refl (omega (arith, given .1)) (given .2) (decided .answer) (decided .right) in (
       (
         subst (λ (k : ℕ). k < 2) (sym (decided .value-is)) (value-bit (decided .answer)),
-        subst (λ (k : ℕ). Refining n f (call .args .row .now) (call .args .d) u (assign (call .args .a .now) u k) (searched .last .1 .1 .1 .1 .1 .1 .1 .1 .1 .1 .0)) (sym (decided .value-is))
+        subst (λ (k : ℕ). Refining n f (call .args .row .now) (call .args .d) u (assign (call .args .a .now) u k) (searched-choice (found c))) (sym (decided .value-is))
             (subst (Refining n f (call .args .row .now) (call .args .d) u (assign (call .args .a .now) u (valueAfter (decided .answer)))) (sym (decided .hand-is)) refined),
       ),
       searched .ensures .1,

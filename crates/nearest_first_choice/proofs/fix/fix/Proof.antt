@@ -45,6 +45,14 @@ settling c = c .before .before .before .before .before .before
 abbrev propagated : tie.After-slice-known12 → tie.After-settle
 propagated c = c .before .before .before .before
 
+-- what is left of `a`
+abbrev settled-a : tie.After-settle → List ℕ
+settled-a c = c .settle .last .1 .1 .1 .1 .1 .0
+
+-- what is left of `trail`
+abbrev settled-trail : tie.After-settle → List ℕ
+settled-trail c = c .settle .last .1 .1 .1 .1 .1 .1 .0
+
 -- with the value that the variable takes, which had none
 module _ (c : tie.After-first-value) where
   abbrev call : tie.Start
@@ -160,7 +168,7 @@ returns-2 c =
     let done = propagated c in
     let start = assigned-at done in
     let size = searching start .state .size in
-    (settled (n (first start)) (given start .pre .1 .sound) (refining start) (done .settle .ensures .0) (subst (λ (k : ℕ). Searching k (given start .args .row .now) (done .settle .last .1 .1 .1 .1 .1 .0) (done .settle .last .1 .1 .1 .1 .1 .1 .0) (done .settle .result .settled) (done .settle .result .broken)) size (done .settle .ensures .1)), first start .first-value .ensures .1)
+    (settled (n (first start)) (given start .pre .1 .sound) (refining start) (done .settle .ensures .0) (subst (λ (k : ℕ). Searching k (given start .args .row .now) (settled-a done) (settled-trail done) (done .settle .result .settled) (done .settle .result .broken)) size (done .settle .ensures .1)), first start .first-value .ensures .1)
 
 pub fix-spec : {M : Type 1} → statement M
 fix-spec =

@@ -37,6 +37,14 @@ begun c = c .before .before .before .before .before .before .before .before .bef
 abbrev searched : tie.After-slice-known10 → tie.After-attempt
 searched c = c .before .before .before .before .before .before .before .before
 
+-- what is left of `a`
+abbrev last-a : tie.After-attempt → List ℕ
+last-a c = c .attempt .last .1 .1 .1 .1 .1 .1 .1 .0
+
+-- what is left of `trail`
+abbrev last-trail : tie.After-attempt → List ℕ
+last-trail c = c .attempt .last .1 .1 .1 .1 .1 .1 .1 .1 .0
+
 -- the call: n variables, the clauses f, and a state with a variable to assign
 module _ (c : tie.Start) where
   abbrev n : ℕ
@@ -103,10 +111,10 @@ returns c =
     let found = searched c in
     let start = begun found in
     let args = call start .args in
-    let left = found .attempt .last .1 .1 .1 .1 .1 .1 .1 .0 in
+    let left = last-a found in
     let search = searchFrom (f (call start)) (args .row .now) (args .guide .now) (args .d) in (
       subst (λ (l : List ℕ). RootSays (search l) left (found .attempt .result)) (start .assign-to .ensures .values)
-          (root-says (search (values start)) (args .tally .settled) _ (order start) (found .attempt .last .1 .1 .1 .1 .1 .1 .1 .1 .0) left (found .attempt .result) (found .attempt .ensures .0)),
+          (root-says (search (values start)) (args .tally .settled) _ (order start) (last-trail found) left (found .attempt .result) (found .attempt .ensures .0)),
       found .attempt .ensures .1,
     )
 

@@ -76,6 +76,10 @@ done c = c .before .before
 abbrev nothing : tie.After-enum-told2 → tie.After-search-off
 nothing c = c .before .before .before .before .before .before .before .before
 
+-- what is left of `choice`
+abbrev copied-choice : tie.After-copy-to2 → List ℕ
+copied-choice c = c .copy-to2 .last .1 .0
+
 -- the tables: each has room for n variables
 module _ (c : tie.After-no-trail) where
   abbrev call : tie.Start
@@ -286,7 +290,7 @@ returns c =
     let here = found told in
     let hand = state here .args .choice .now in
     let answer = said here _ (told .enum-told .given .1) in
-    let same = copied-whole (take (n (space here)) (left here ++ left-rest here)) hand (copied .copy-to2 .last .1 .0) (choice-long here) (copied .copy-to2 .ensures) ∙ left-front here in
+    let same = copied-whole (take (n (space here)) (left here ++ left-rest here)) hand (copied-choice copied) (choice-long here) (copied .copy-to2 .ensures) ∙ left-front here in
     (record { answer = reached here .answer; right = right here; value-is = sym (ap valueAfter (answer .0)); hand-is = same ∙ sym (ap (handAfter hand) (answer .0)) }, here .search-off .ensures .1)
 
 same-length-4 : tie.Need-same-length-4

@@ -2,6 +2,7 @@
 use mathlib.Core.Path.{sym, ap}
 use mathlib.Core.List.{List}
 use mathlib.Core.Option.{Option, none}
+use Prim.Native.Nat.{ℕ}
 use lib.ListN.{length}
 use borrow.Author.Needs.{needs}
 use Rattle.choices.specs.Order.{first-within}
@@ -15,6 +16,10 @@ entry c = c .before .before .before .before .before .before .before .before .bef
 
 abbrev refined : tie.After-slice-known10 → tie.After-refine
 refined c = c .before .before .before .before .before .before .before .before .before .before
+
+-- what is left of `choice`
+abbrev refined-choice : tie.After-refine → List ℕ
+refined-choice c = c .refine .last .1 .1 .1 .1 .1 .1 .1 .1 .0
 
 slice-relend-prefix-refine : tie.Need-slice-relend-prefix-refine
 slice-relend-prefix-refine c = search needs
@@ -45,7 +50,7 @@ returns c =
     let done = refined c in
     let args = entry done .args in
     let n = length (args .a .now) in
-    let first : List _ = done .refine .last .1 .1 .1 .1 .1 .1 .1 .1 .0 in
+    let first = refined-choice done in
     sym
     (ap (λ (o : Option (List _)). choiceAfter none (withBroken (args .row .now) o) n (args .choice .now))
     (first-within n (args .list .now) (args .row .now) (args .d) first .1 (done .refine .ensures)))

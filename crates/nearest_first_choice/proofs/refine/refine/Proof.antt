@@ -1,5 +1,6 @@
 -- `nearest_first_choice::refine::refine` meets its contract: before each turn the first i variables are as the first model has them.
 use mathlib.Core.Path.{_≡_, refl, subst, _∙_}
+use mathlib.Core.List.{List}
 use Prim.Native.Nat.{ℕ, _-_, _≤_}
 use native.Mathlib.Omega.{arith}
 use lib.ListN.{length, replicate}
@@ -43,13 +44,17 @@ tested c = c .before .before .before .before .before .before
 abbrev fixed : tie.After-slice-known12 Inv-loop μ-loop → tie.After-fix Inv-loop μ-loop
 fixed c = c .before .before .before .before .before .before .before .before .before .before
 
+-- what is left of `a`
+abbrev settled-a : tie.After-settle-first Inv-loop μ-loop → List ℕ
+settled-a c = c .settle-first .last .1 .1 .1 .1 .0
+
 -- no variable is fixed yet
 unfixed : (c : tie.Start Inv-loop μ-loop)
     → Refining (length (c .args .a .now)) (clauses (c .args .list .now)) (c .args .row .now) (c .args .d) 0 (replicate (length (c .args .a .now)) 2) (c .args .choice .now)
 unfixed c = refining-start (length (c .args .a .now)) (clauses (c .args .list .now)) (c .args .row .now) (c .args .d) (c .args .choice .now) (c .pre .1 .0) (c .pre .1 .1)
 
 -- as many variables as before
-still : (c : tie.After-settle-first Inv-loop μ-loop) → length (c .settle-first .last .1 .1 .1 .1 .0) ≡ length (call c .args .a .now)
+still : (c : tie.After-settle-first Inv-loop μ-loop) → length (settled-a c) ≡ length (call c .args .a .now)
 still c = c .settle-first .kept .1 .1 .1 .1 .0
 
 settle-first-requires : tie.Need-settle-first-requires Inv-loop μ-loop

@@ -1,6 +1,8 @@
 -- `nearest_first_choice::settle::settle_first` meets its contract: the root is settled, and comes to no dead end.
 use mathlib.Core.Path.{_≡_, sym, subst, _∙_}
+use mathlib.Core.List.{List}
 use mathlib.Core.Bool.{true≢false}
+use Prim.Native.Nat.{ℕ}
 use lib.ListN.{length}
 use borrow.Author.Needs.{needs}
 use Rattle.formula.specs.Formula.{clauses}
@@ -20,11 +22,19 @@ ended c = c .before .before .before .before .before .before .before
 abbrev alive : tie.After-known-told2 → tie.After-settle-root
 alive c = c .before .before .before .before .before .before .before
 
+-- what is left of `a`
+abbrev settled-a : tie.After-settle-root → List ℕ
+settled-a c = c .settle-root .last .1 .1 .1 .1 .0
+
+-- what is left of `trail`
+abbrev settled-trail : tie.After-settle-root → List ℕ
+settled-trail c = c .settle-root .last .1 .1 .1 .1 .1 .0
+
 -- what propagation came to
 told-as : (c : tie.After-settle-root) (r : Propagated) → c .settle-root .result ≡ r
-    → SettledRoot (length (call c .args .a .now)) (clauses (call c .args .list .now)) (call c .args .row .now) (call c .args .d) (call c .args .trail .now) (c .settle-root .last .1 .1 .1 .1 .0) (c .settle-root .last .1 .1 .1 .1 .1 .0) r
+    → SettledRoot (length (call c .args .a .now)) (clauses (call c .args .list .now)) (call c .args .row .now) (call c .args .d) (call c .args .trail .now) (settled-a c) (settled-trail c) r
 told-as c r e =
-    subst (SettledRoot (length (call c .args .a .now)) (clauses (call c .args .list .now)) (call c .args .row .now) (call c .args .d) (call c .args .trail .now) (c .settle-root .last .1 .1 .1 .1 .0) (c .settle-root .last .1 .1 .1 .1 .1 .0)) e (c .settle-root .ensures)
+    subst (SettledRoot (length (call c .args .a .now)) (clauses (call c .args .list .now)) (call c .args .row .now) (call c .args .d) (call c .args .trail .now) (settled-a c) (settled-trail c)) e (c .settle-root .ensures)
 
 settle-root-requires : tie.Need-settle-root-requires
 settle-root-requires c κs = search needs

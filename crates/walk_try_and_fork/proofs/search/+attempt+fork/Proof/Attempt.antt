@@ -245,6 +245,14 @@ module _ (t : ℕ) where
     weights-picked : length picked-weights ≡ length (start (settled c) .args .weights .now)
     weights-picked = c .pick-branch .kept .1 .1 .1 .1 .1 .1 .1 .0
 
+  -- what is left of `witnesses` after the fork
+  abbrev last-witnesses : Forked → List ℕ
+  last-witnesses c = c .fork .last .1 .1 .1 .1 .1 .1 .1 .1 .0
+
+  -- what is left of `weights` after the fork
+  abbrev last-weights : Forked → List ℕ
+  last-weights c = c .fork .last .1 .1 .1 .1 .1 .1 .1 .1 .1 .0
+
   -- the fork
   module _ (c : Forked) where
     abbrev last-a : List ℕ
@@ -259,10 +267,10 @@ module _ (t : ℕ) where
     trail-forked : length last-trail ≡ length (trail (propagation (origin c)))
     trail-forked = c .fork .kept .1 .1 .1 .1 .1 .1 .1 .0
 
-    witnesses-forked : length (c .fork .last .1 .1 .1 .1 .1 .1 .1 .1 .0) ≡ length (start (origin c) .args .witnesses .now)
+    witnesses-forked : length (last-witnesses c) ≡ length (start (origin c) .args .witnesses .now)
     witnesses-forked = c .fork .kept .1 .1 .1 .1 .1 .1 .1 .1 .0 ∙ witnesses-picked (picked (branching c))
 
-    weights-forked : length (c .fork .last .1 .1 .1 .1 .1 .1 .1 .1 .1 .0) ≡ length (start (origin c) .args .weights .now)
+    weights-forked : length (last-weights c) ≡ length (start (origin c) .args .weights .now)
     weights-forked = c .fork .kept .1 .1 .1 .1 .1 .1 .1 .1 .1 .0 ∙ weights-picked (picked (branching c))
 
   -- what is undone: at a dead end, where none is left to branch on, and after a fork

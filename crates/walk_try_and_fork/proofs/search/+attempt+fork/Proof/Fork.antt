@@ -154,6 +154,14 @@ module _ (t : ℕ) where
     abbrev second-trail : List ℕ
     second-trail = c .assign-to2 .last .1 .1 .1 .1 .1 .0
 
+  -- what is left of `witnesses` after the second try
+  abbrev last-witnesses : SecondTried → List ℕ
+  last-witnesses c = c .attempt2 .last .1 .1 .1 .1 .1 .1 .1 .0
+
+  -- what is left of `weights` after the second try
+  abbrev last-weights : SecondTried → List ℕ
+  last-weights c = c .attempt2 .last .1 .1 .1 .1 .1 .1 .1 .1 .0
+
   -- the second try
   module _ (c : SecondTried) where
     abbrev last-a : List ℕ
@@ -168,10 +176,10 @@ module _ (t : ℕ) where
     last-trail-kept : length last-trail ≡ length (second-trail (second c))
     last-trail-kept = c .attempt2 .kept .1 .1 .1 .1 .1 .1 .0
 
-    last-witnesses-kept : length (c .attempt2 .last .1 .1 .1 .1 .1 .1 .1 .0) ≡ length (begun c .args .witnesses .now)
+    last-witnesses-kept : length (last-witnesses c) ≡ length (begun c .args .witnesses .now)
     last-witnesses-kept = c .attempt2 .kept .1 .1 .1 .1 .1 .1 .1 .0 ∙ witnesses-kept (fruitless (first-tried (second c)))
 
-    last-weights-kept : length (c .attempt2 .last .1 .1 .1 .1 .1 .1 .1 .1 .0) ≡ length (begun c .args .weights .now)
+    last-weights-kept : length (last-weights c) ≡ length (begun c .args .weights .now)
     last-weights-kept = c .attempt2 .kept .1 .1 .1 .1 .1 .1 .1 .1 .0 ∙ weights-kept (fruitless (first-tried (second c)))
 
   -- the call: n variables, and the walk of which two states are tried
