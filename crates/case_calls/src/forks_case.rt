@@ -13,7 +13,7 @@ pub fn answer(n: usize, rules: &[i32], row: &[u8], d: usize) {
 fn walk(n: usize, rules: &[i32], row: &[u8], d: usize, choice: &mut [u8]) {
     let admitted = admission::admit_wishes(n, rules, row, d);
     match admission_steps::with_room(admitted, n, choice.len()) {
-        Admission::Refused(r) => program_report::refused(r.number as u64, r.place as u64),
+        Admission::Refused(r) => report::refused(r.number as u64, r.place as u64),
         Admission::Admitted(_) => show(walk_root::walk_into(n, rules, row, d, choice)),
     }
 }
@@ -21,10 +21,10 @@ fn walk(n: usize, rules: &[i32], row: &[u8], d: usize, choice: &mut [u8]) {
 fn show(tried: Tried) {
     match tried {
         Tried::Found(_, forks) => {
-            program_report::value_line(words::FOUND_FORKS, forks as u64);
+            report::value_line(words::FOUND_FORKS, forks as u64);
         }
         Tried::Nothing(forks) => {
-            program_report::value_line(words::NONE_FORKS, forks as u64);
+            report::value_line(words::NONE_FORKS, forks as u64);
         }
     }
 }

@@ -24,7 +24,7 @@ pub fn answer(call: usize, n: usize, rules: &[i32], row: &[u8], d: usize, choice
 // What holds of a choice that was found, and what the buffer holds.
 fn found(call: usize, n: usize, rules: &[i32], row: &[u8], d: usize, broken: u64, choice: &[u8]) {
     if choice.len() < n {
-        program_report::line(words::NO_ROOM);
+        report::line(words::NO_ROOM);
         return;
     }
     judge(call, n, rules, row, d, broken, &choice[0..n]);
@@ -45,7 +45,7 @@ fn called(call: usize, n: usize, rules: &[i32], row: &[u8], d: usize, choice: &m
 
 fn judge(call: usize, n: usize, rules: &[i32], row: &[u8], d: usize, broken: u64, choice: &[u8]) {
     if call == PLAIN {
-        program_report::value_line(words::FOUND, broken);
+        report::value_line(words::FOUND, broken);
         plain(rules, choice);
         return;
     }
@@ -53,7 +53,7 @@ fn judge(call: usize, n: usize, rules: &[i32], row: &[u8], d: usize, broken: u64
     if call == SEARCH {
         limited(checked, d, broken);
     } else {
-        program_report::value_line(words::FOUND, broken);
+        report::value_line(words::FOUND, broken);
         show::checked(checked);
     }
 }
@@ -62,15 +62,15 @@ fn judge(call: usize, n: usize, rules: &[i32], row: &[u8], d: usize, broken: u64
 fn limited(checked: Answer, d: usize, broken: u64) {
     let count = checked.value[0];
     if 0 < checked.refusal {
-        program_report::refused(checked.refusal, checked.place);
+        report::refused(checked.refusal, checked.place);
     } else if checked.verdict == 0 {
-        program_report::value_line(words::FOUND_UNMET, count);
+        report::value_line(words::FOUND_UNMET, count);
     } else if count != broken {
-        program_report::value_line(words::FOUND_MISCOUNTED, count);
+        report::value_line(words::FOUND_MISCOUNTED, count);
     } else if (d as u64) < count {
-        program_report::value_line(words::FOUND_PAST_LIMIT, count);
+        report::value_line(words::FOUND_PAST_LIMIT, count);
     } else {
-        program_report::line(words::FOUND_WITHIN);
+        report::line(words::FOUND_WITHIN);
     }
 }
 
@@ -78,11 +78,11 @@ fn limited(checked: Answer, d: usize, broken: u64) {
 // parts of that call that do.
 fn plain(rules: &[i32], choice: &[u8]) {
     if let Verdict::Refuse(r) = refusal_causes::scan_choice(choice) {
-        program_report::refused(r.number as u64, r.place as u64);
+        report::refused(r.number as u64, r.place as u64);
     }
     if formula::is_model(rules, choice) {
-        program_report::line(words::MET_WORD);
+        report::line(words::MET_WORD);
     } else {
-        program_report::line(words::UNMET_WORD);
+        report::line(words::UNMET_WORD);
     }
 }

@@ -6,9 +6,9 @@ use case_text::words;
 // The answer of a search that found no choice.
 pub fn unfound(answer: Answer) {
     if 0 < answer.refusal {
-        program_report::refused(answer.refusal, answer.place);
+        report::refused(answer.refusal, answer.place);
     } else {
-        program_report::line(words::NONE);
+        report::line(words::NONE);
     }
 }
 
@@ -23,28 +23,28 @@ pub fn checked(answer: Answer) {
 // An answer with one value, after a word.
 pub fn one(answer: Answer, word: usize) {
     if 0 < answer.refusal {
-        program_report::refused(answer.refusal, answer.place);
+        report::refused(answer.refusal, answer.place);
     } else {
-        program_report::value_line(word, answer.value[0]);
+        report::value_line(word, answer.value[0]);
     }
 }
 
 pub fn read(answer: Answer) {
     if 0 < answer.refusal {
-        program_report::refused(answer.refusal, answer.place);
+        report::refused(answer.refusal, answer.place);
         return;
     }
     words::write(words::READ);
-    program_report::value(words::BLANK, answer.value[0]);
-    program_report::value(words::BLANK, answer.value[1]);
-    program_report::value_line(words::BLANK, answer.value[2]);
+    report::value(words::BLANK, answer.value[0]);
+    report::value(words::BLANK, answer.value[1]);
+    report::value_line(words::BLANK, answer.value[2]);
 }
 
 pub fn rewritten(answer: Answer) {
     if 0 < answer.refusal {
-        program_report::refused(answer.refusal, answer.place);
+        report::refused(answer.refusal, answer.place);
         return;
     }
-    program_report::value(words::BLANK, answer.value[0]);
-    program_report::value_line(words::REWRITTEN, answer.value[1]);
+    report::value(words::BLANK, answer.value[0]);
+    report::value_line(words::REWRITTEN, answer.value[1]);
 }

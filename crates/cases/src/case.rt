@@ -11,7 +11,7 @@ use case_text::report;
 
 pub fn run(line: &[u8], call: usize) {
     if CALLS <= call {
-        program_report::malformed();
+        report::malformed();
         return;
     }
     let has = call::form_of(call);
@@ -45,7 +45,7 @@ fn with_row(
     at: usize,
 ) {
     if call::longest_row(call) < row.len() {
-        program_report::malformed();
+        report::malformed();
         return;
     }
     let mut choice = case_text::bytes();
@@ -87,7 +87,7 @@ fn with_choice(
             if at == line.len() {
                 nothing_case::answer(call, n, rules, row, d, choice);
             } else {
-                program_report::malformed();
+                report::malformed();
             }
         }
     }
@@ -105,7 +105,7 @@ fn with_numbers(
     let mut numbers = case_text::numbers();
     let filled = case_text::read_numbers_if(true, line, at, &mut numbers);
     if filled.next != line.len() {
-        program_report::malformed();
+        report::malformed();
         return;
     }
     let end = filled.end;
@@ -116,7 +116,7 @@ fn with_bytes(line: &[u8], call: usize, n: usize, rules: &[i32], row: &[u8], d: 
     let mut bytes = case_text::file();
     let filled = case_text::read_bytes_if(true, line, at, &mut bytes);
     if filled.next != line.len() {
-        program_report::malformed();
+        report::malformed();
         return;
     }
     let end = filled.end;

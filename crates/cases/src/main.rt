@@ -26,7 +26,7 @@ fn main() {
     if n < INPUT {
         lines(&space[..n]);
     } else {
-        program_report::line(words::TOO_LONG);
+        report::line(words::TOO_LONG);
     }
 }
 
@@ -41,7 +41,7 @@ fn lines(input: &[u8]) {
 
 fn line(line: &[u8]) {
     if case_text::past_byte(line, 0, b'#') <= line.len() {
-        program_report::label(line);
+        report::label(line);
         return;
     }
     case::run(line, call::named(line));
