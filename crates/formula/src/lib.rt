@@ -5,12 +5,12 @@ ghost use lib.ListN.{drop};
 ghost use Rattle.formula.specs.Formula.{clauses, clauseLength, satisfied, models};
 
 // Where the clause that begins at an index ends: the index of its closing 0, or the list's length.
-pub fn clause_end(list: &[i32], from: usize) -> usize
-    ensures { λ r. ⌜ r ≡ from + clauseLength (drop from (now (list .entry))) ⌝ }
+pub fn clause_end(rules: &[i32], from: usize) -> usize
+    ensures { λ r. ⌜ r ≡ from + clauseLength (drop from (now (rules .entry))) ⌝ }
 {
     let mut i = from;
-    while i < list.len() {
-        if literal::closes(list[i]) {
+    while i < rules.len() {
+        if literal::closes(rules[i]) {
             return i;
         }
         i += 1;
@@ -33,13 +33,13 @@ pub fn satisfied_by(clause: &[i32], assignment: &[u8]) -> bool
 }
 
 // Whether an assignment satisfies every clause of a list.
-pub fn is_model(list: &[i32], assignment: &[u8]) -> bool
-    ensures { λ r. ⌜ r ≡ models (now (assignment .entry)) (clauses (now (list .entry))) ⌝ }
+pub fn is_model(rules: &[i32], assignment: &[u8]) -> bool
+    ensures { λ r. ⌜ r ≡ models (now (assignment .entry)) (clauses (now (rules .entry))) ⌝ }
 {
     let mut from = 0;
-    while from < list.len() {
-        let end = clause_end(list, from);
-        if !satisfied_by(&list[from..end], assignment) {
+    while from < rules.len() {
+        let end = clause_end(rules, from);
+        if !satisfied_by(&rules[from..end], assignment) {
             return false;
         }
         from = end + 1;

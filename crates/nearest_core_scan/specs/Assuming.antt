@@ -53,7 +53,7 @@ dead-falsified f row a few =
     ap (λ (t : Bool). any (isFalsified a) f || t) (le-ltb noLimit (disagreement row a) (omega (arith, disagreement-length row a))) ∙ or-false (any (isFalsified a) f)
 
 -- the variable v is unassigned in a state to which unit propagation adds nothing
-module _ {list : List ℤ} {arrangement row : List ℕ} {t : Tally} {a trail : List ℕ} (h : Following list arrangement row t a trail) (quiet : NoneDue (clauses list) a)
+module _ {rules : List ℤ} {arrangement row : List ℕ} {t : Tally} {a trail : List ℕ} (h : Following rules arrangement row t a trail) (quiet : NoneDue (clauses rules) a)
     (v : ℕ) (low : 0 < v) (high : v ≤ length a) (free : value a v ≡ 2) where
   searching : Searching (length a) row a trail (t .settled) (t .broken)
   searching = h .looking .searching
@@ -70,36 +70,36 @@ module _ {list : List ℤ} {arrangement row : List ℕ} {t : Tally} {a trail : L
     assume-moved = record { grown = assigned-grown told searching low high free wished; searching = assigned-searching told searching low high free wished }
 
     -- only clauses of v can ask for anything
-    covers : Covers (clauses list) (pending (t .settled) t₁ a₁ trail₁)
+    covers : Covers (clauses rules) (pending (t .settled) t₁ a₁ trail₁)
     covers =
         let queue : slice (t .settled) (t₁ .settled) trail₁ ≡ v ∷ []
         = ap₂ (λ (k : ℕ) (l : List ℕ). slice (t .settled) k l) (told .settled) (told .order)
         ∙ slice-stored trail (t .settled) (t .settled) v (omega arith) (omega (arith, assume-room, searching .long))
         ∙ ap (λ (l : List ℕ). l ++ (v ∷ [])) (slice-empty (t .settled) trail) in
-        rw (queue, told .values) (fork-covers (clauses list) (searching .state) quiet v (wishedValue (value row v)) low high free wished)
+        rw (queue, told .values) (fork-covers (clauses rules) (searching .state) quiet v (wishedValue (value row v)) low high free wished)
 
     module _ (a′ trail′ : List ℕ) where
-      propagated : (r : Propagated) → ComesTo (length a) row (follow (clauses list) row noLimit (pending (t .settled) t₁ a₁ trail₁)) t₁ a₁ trail₁ a′ trail′ r
-          → PropagatedBy (length a) (clauses list) row noLimit t₁ a₁ trail₁ a′ trail′ r
+      propagated : (r : Propagated) → ComesTo (length a) row (follow (clauses rules) row noLimit (pending (t .settled) t₁ a₁ trail₁)) t₁ a₁ trail₁ a′ trail′ r
+          → PropagatedBy (length a) (clauses rules) row noLimit t₁ a₁ trail₁ a′ trail′ r
       propagated r w =
-          propagated-by (length a) (clauses list) row noLimit t₁ a₁ trail₁ a′ trail′ (follow (clauses list) row noLimit (pending (t .settled) t₁ a₁ trail₁))
-          (follow-alike (length a) (clauses list) (h .looking .fit) row noLimit a₁ (assume-moved .searching .state) (slice (t .settled) (t₁ .settled) trail₁) covers) r w
+          propagated-by (length a) (clauses rules) row noLimit t₁ a₁ trail₁ a′ trail′ (follow (clauses rules) row noLimit (pending (t .settled) t₁ a₁ trail₁))
+          (follow-alike (length a) (clauses rules) (h .looking .fit) row noLimit a₁ (assume-moved .searching .state) (slice (t .settled) (t₁ .settled) trail₁) covers) r w
 
-      few : length (propagate (clauses list) a₁) ≤ maxVariables
-      few = omega (arith, propagate-state (clauses list) (assume-moved .searching .state) .size, h .looking .few)
+      few : length (propagate (clauses rules) a₁) ≤ maxVariables
+      few = omega (arith, propagate-state (clauses rules) (assume-moved .searching .state) .size, h .looking .few)
 
       -- what following it up says of the wish
-      pub assumed-by : (r : Propagated) → ComesTo (length a₁) row (follow (clauses list) row noLimit (pending (t .settled) t₁ a₁ trail₁)) t₁ a₁ trail₁ a′ trail′ r
-          → AssumedBy (length a) (clauses list) row v t a trail a′ trail′ r
-      assumed-by r u = go r (propagated r (subst (λ (n : ℕ). ComesTo n row (follow (clauses list) row noLimit (pending (t .settled) t₁ a₁ trail₁)) t₁ a₁ trail₁ a′ trail′ r) (assume-moved .searching .state .size) u))
+      pub assumed-by : (r : Propagated) → ComesTo (length a₁) row (follow (clauses rules) row noLimit (pending (t .settled) t₁ a₁ trail₁)) t₁ a₁ trail₁ a′ trail′ r
+          → AssumedBy (length a) (clauses rules) row v t a trail a′ trail′ r
+      assumed-by r u = go r (propagated r (subst (λ (n : ℕ). ComesTo n row (follow (clauses rules) row noLimit (pending (t .settled) t₁ a₁ trail₁)) t₁ a₁ trail₁ a′ trail′ r) (assume-moved .searching .state .size) u))
         where
-          go : (r : Propagated) → PropagatedBy (length a) (clauses list) row noLimit t₁ a₁ trail₁ a′ trail′ r → AssumedBy (length a) (clauses list) row v t a trail a′ trail′ r
+          go : (r : Propagated) → PropagatedBy (length a) (clauses rules) row noLimit t₁ a₁ trail₁ a′ trail′ r → AssumedBy (length a) (clauses rules) row v t a trail a′ trail′ r
           go (Dead t′) w =
-              (rw (← told .values) (sym (dead-falsified (clauses list) row (propagate (clauses list) a₁) few) ∙ w .0), moved-more assume-moved (w .1))
+              (rw (← told .values) (sym (dead-falsified (clauses rules) row (propagate (clauses rules) a₁) few) ∙ w .0), moved-more assume-moved (w .1))
           go (Settled t′) w =
-              let alive : isDeadEnd (clauses list) row noLimit (propagate (clauses list) a₁) ≡ false = ap (isDeadEnd (clauses list) row noLimit) (sym (w .0)) ∙ w .1 in (
-                w .0 ∙ ap (propagate (clauses list)) (told .values),
-                rw (w .0) (sym (dead-falsified (clauses list) row (propagate (clauses list) a₁) few) ∙ alive),
-                rw (w .0) (settled-none-due (length a) (clauses list) (h .looking .fit) row noLimit (assume-moved .searching .state) alive),
+              let alive : isDeadEnd (clauses rules) row noLimit (propagate (clauses rules) a₁) ≡ false = ap (isDeadEnd (clauses rules) row noLimit) (sym (w .0)) ∙ w .1 in (
+                w .0 ∙ ap (propagate (clauses rules)) (told .values),
+                rw (w .0) (sym (dead-falsified (clauses rules) row (propagate (clauses rules) a₁) few) ∙ alive),
+                rw (w .0) (settled-none-due (length a) (clauses rules) (h .looking .fit) row noLimit (assume-moved .searching .state) alive),
                 moved-more assume-moved (w .2),
               )

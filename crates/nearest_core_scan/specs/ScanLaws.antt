@@ -53,21 +53,21 @@ module _ (f : List (List ℤ)) (row b : List ℕ) (s : Scan) (v : ℕ) where
         ∙ ap (λ (t : Bool). cond t (closeCore row b s (s .assumed ++ (v ∷ []))) (withBroken row b s v a (firstBroken row (s .taken) a))) d
 
 -- a state of the search, whatever stands on the trail behind its variables
-following-kept : {list : List ℤ} {arrangement row : List ℕ} {t : Tally} {a trail : List ℕ} → Following list arrangement row t a trail
-    → (trail′ : List ℕ) → length trail′ ≡ length trail → take (t .settled) trail′ ≡ take (t .settled) trail → Following list arrangement row t a trail′
+following-kept : {rules : List ℤ} {arrangement row : List ℕ} {t : Tally} {a trail : List ℕ} → Following rules arrangement row t a trail
+    → (trail′ : List ℕ) → length trail′ ≡ length trail → take (t .settled) trail′ ≡ take (t .settled) trail → Following rules arrangement row t a trail′
 following-kept h trail′ l e =
     record {
       looking = record { few = h .looking .few; fit = h .looking .fit; located = h .looking .located; searching = searching-kept (h .looking .searching) trail′ l e };
       beside = h .beside;
     }
 
-module _ {list : List ℤ} {arrangement row : List ℕ} {base : Tally} {b : List ℕ} {v : ℕ} {p : Progress} {a trail taken assumed : List ℕ} (h : Scanning list arrangement row base b v p a trail taken assumed) where
+module _ {rules : List ℤ} {arrangement row : List ℕ} {base : Tally} {b : List ℕ} {v : ℕ} {p : Progress} {a trail taken assumed : List ℕ} (h : Scanning rules arrangement row base b v p a trail taken assumed) where
   -- the state has as many variables as the values
   pub same-size : length b ≡ length a
   same-size = omega (arith, h .base-following .looking .searching .long, h .following .looking .searching .long)
 
   -- it is not assumed
-  pub scan-refused : isAssumable row (present p a taken assumed) v ≡ false → Scanned list arrangement row base b v (present p a taken assumed) trail p a trail taken assumed
+  pub scan-refused : isAssumable row (present p a taken assumed) v ≡ false → Scanned rules arrangement row base b v (present p a taken assumed) trail p a trail taken assumed
   scan-refused e =
       record {
         next =
@@ -86,7 +86,7 @@ module _ {list : List ℤ} {arrangement row : List ℕ} {base : Tally} {b : List
               wide = h .wide;
               small = omega (arith, h .small);
             };
-        step = sym (scan-out (clauses list) row b (present p a taken assumed) v e);
+        step = sym (scan-out (clauses rules) row b (present p a taken assumed) v e);
         kept = refl;
       }
 
@@ -120,12 +120,12 @@ module _ {list : List ℤ} {arrangement row : List ℕ} {base : Tally} {b : List
     kept-later : take (base .settled) trail₁ ≡ take (base .settled) trail
     kept-later = sym (take-take (base .settled) (p .tally .settled) trail₁ (h .since)) ∙ ap (take (base .settled)) (m .grown .kept) ∙ take-take (base .settled) (p .tally .settled) trail (h .since)
 
-    base-later : Following list arrangement row base b trail₁
+    base-later : Following rules arrangement row base b trail₁
     base-later = following-kept (h .base-following) trail₁ (m .grown .long) kept-later
 
     -- a core is closed
     module _ (core assumed′ : List ℕ) (long : length assumed′ ≡ length assumed) where
-      closed-next : Scanning list arrangement row base b (suc v) (record { tally = base; assumed = 0; bound = p .bound + leastWeight row core }) b trail₁ (takeAll taken core) assumed′
+      closed-next : Scanning rules arrangement row base b (suc v) (record { tally = base; assumed = 0; bound = p .bound + leastWeight row core }) b trail₁ (takeAll taken core) assumed′
       closed-next =
           record {
             following = base-later;
@@ -144,20 +144,20 @@ module _ {list : List ℤ} {arrangement row : List ℕ} {base : Tally} {b : List
           }
 
       closed-scanned : {r : Progress} {a′ taken′ : List ℕ} → Closed row base (t .settled) (p .bound) core trail₁ a₁ taken r a′ taken′
-          → scanWish (clauses list) row b (present p a taken assumed) v ≡ closeCore row b (present p a taken assumed) core
-          → Scanned list arrangement row base b v (present p a taken assumed) trail r a′ trail₁ taken′ assumed′
+          → scanWish (clauses rules) row b (present p a taken assumed) v ≡ closeCore row b (present p a taken assumed) core
+          → Scanned rules arrangement row base b v (present p a taken assumed) trail r a′ trail₁ taken′ assumed′
       closed-scanned c e = rw (c .result, c .values ∙ back-later, c .takes) (record { next = closed-next; step = sym e; kept = kept-later })
 
   module _ (high : v ≤ length a) (e : isAssumable row (present p a taken assumed) v ≡ true) {t : Tally} {a₁ trail₁ : List ℕ} where
     -- a clause is falsified
-    pub scan-dead : AssumedBy (length a) (clauses list) row v (p .tally) a trail a₁ trail₁ (Dead t)
+    pub scan-dead : AssumedBy (length a) (clauses rules) row v (p .tally) a trail a₁ trail₁ (Dead t)
         → {r : Progress} {a′ taken′ : List ℕ} → Closed row base (t .settled) (p .bound) (take (p .assumed + 1) (set assumed (p .assumed) v)) trail₁ a₁ taken r a′ taken′
-        → Scanned list arrangement row base b v (present p a taken assumed) trail r a′ trail₁ taken′ (set assumed (p .assumed) v)
+        → Scanned rules arrangement row base b v (present p a taken assumed) trail r a′ trail₁ taken′ (set assumed (p .assumed) v)
     scan-dead w c =
         closed-scanned (w .1) (take (p .assumed + 1) (set assumed (p .assumed) v)) (set assumed (p .assumed) v) (length-set assumed (p .assumed) v) c
-        (scan-core (clauses list) row b (present p a taken assumed) v e (w .0) ∙ ap (closeCore row b (present p a taken assumed)) (sym (assumed-with high)))
+        (scan-core (clauses rules) row b (present p a taken assumed) v e (w .0) ∙ ap (closeCore row b (present p a taken assumed)) (sym (assumed-with high)))
 
-    module _ (w : AssumedBy (length a) (clauses list) row v (p .tally) a trail a₁ trail₁ (Settled t)) where
+    module _ (w : AssumedBy (length a) (clauses rules) row v (p .tally) a trail a₁ trail₁ (Settled t)) where
       -- where as much is broken as before, nothing is broken that is not taken
       pub still-none : p .tally .broken ≡ t .broken → firstBroken row taken a₁ ≡ 0
       still-none q =
@@ -166,10 +166,10 @@ module _ {list : List ℤ} {arrangement row : List ℕ} {base : Tally} {b : List
           later : Extends a₁ a
           later =
               subst (λ (l : List ℕ). Extends l a) (sym (w .0))
-              (extends-trans (propagate-extends (clauses list) (keepWish row a v)) (assign-extends a v (wishedValue (value row v)) (assumable-free e)))
+              (extends-trans (propagate-extends (clauses rules) (keepWish row a v)) (assign-extends a v (wishedValue (value row v)) (assumable-free e)))
 
       -- it is assumed
-      kept-next : Unbroken row taken a₁ → Scanning list arrangement row base b (suc v) (record { tally = t; assumed = p .assumed + 1; bound = p .bound }) a₁ trail₁ taken (set assumed (p .assumed) v)
+      kept-next : Unbroken row taken a₁ → Scanning rules arrangement row base b (suc v) (record { tally = t; assumed = p .assumed + 1; bound = p .bound }) a₁ trail₁ taken (set assumed (p .assumed) v)
       kept-next u =
           let long : length a₁ ≡ length a = w .3 .searching .state .size in
           record {
@@ -191,15 +191,15 @@ module _ {list : List ℤ} {arrangement row : List ℕ} {base : Tally} {b : List
       -- no clause is falsified: by the lowest wish that is broken
       pub scan-settled : {r : Progress} {a′ taken′ assumed′ : List ℕ} → length assumed′ ≡ length assumed
           → BrokenThen row base (p .assumed + 1) (p .bound) t trail₁ a₁ taken (set assumed (p .assumed) v) r a′ taken′ assumed′ (firstBroken row taken a₁)
-          → Scanned list arrangement row base b v (present p a taken assumed) trail r a′ trail₁ taken′ assumed′
+          → Scanned rules arrangement row base b v (present p a taken assumed) trail r a′ trail₁ taken′ assumed′
       scan-settled {r} {a′} {taken′} {assumed′} long = go (firstBroken row taken a₁) refl
         where
-          step : (x : ℕ) → firstBroken row taken a₁ ≡ x → scanWish (clauses list) row b (present p a taken assumed) v ≡ withBroken row b (present p a taken assumed) v a₁ x
+          step : (x : ℕ) → firstBroken row taken a₁ ≡ x → scanWish (clauses rules) row b (present p a taken assumed) v ≡ withBroken row b (present p a taken assumed) v a₁ x
           step x q =
-              scan-broken (clauses list) row b (present p a taken assumed) v e a₁ (w .0) (w .1) ∙ ap (withBroken row b (present p a taken assumed) v a₁) q
+              scan-broken (clauses rules) row b (present p a taken assumed) v e a₁ (w .0) (w .1) ∙ ap (withBroken row b (present p a taken assumed) v a₁) q
 
           go : (x : ℕ) → firstBroken row taken a₁ ≡ x → BrokenThen row base (p .assumed + 1) (p .bound) t trail₁ a₁ taken (set assumed (p .assumed) v) r a′ taken′ assumed′ x
-              → Scanned list arrangement row base b v (present p a taken assumed) trail r a′ trail₁ taken′ assumed′
+              → Scanned rules arrangement row base b v (present p a taken assumed) trail r a′ trail₁ taken′ assumed′
           go zero q (er, ea, et, es) =
               rw (er, ea, et, es)
               (record {

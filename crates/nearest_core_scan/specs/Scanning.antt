@@ -25,11 +25,11 @@ abbrev pub setBack : Tally → Progress → List ℕ → List ℕ → List ℕ
 setBack base p trail a = undone (slice (base .settled) (p .tally .settled) trail) a
 
 -- Before variable v, from the state b with the tally base: the values and the state are states of the search to which unit propagation adds nothing, setting the values back gives the state, of what is not taken nothing is assigned in the state and nothing broken by the values, and the table has room for one wish more than there are variables.
-pub record Scanning (list : List ℤ) (arrangement row : List ℕ) (base : Tally) (b : List ℕ) (v : ℕ) (p : Progress) (a trail taken assumed : List ℕ) : Type 0 where
-  pub following : Following list arrangement row (p .tally) a trail
-  pub quiet : NoneDue (clauses list) a
-  pub base-following : Following list arrangement row base b trail
-  pub base-quiet : NoneDue (clauses list) b
+pub record Scanning (rules : List ℤ) (arrangement row : List ℕ) (base : Tally) (b : List ℕ) (v : ℕ) (p : Progress) (a trail taken assumed : List ℕ) : Type 0 where
+  pub following : Following rules arrangement row (p .tally) a trail
+  pub quiet : NoneDue (clauses rules) a
+  pub base-following : Following rules arrangement row base b trail
+  pub base-quiet : NoneDue (clauses rules) b
   pub since : base .settled ≤ p .tally .settled
   pub back : setBack base p trail a ≡ b
   pub left-free : LeftFree b taken
@@ -41,7 +41,7 @@ pub record Scanning (list : List ℤ) (arrangement row : List ℕ) (base : Tally
   pub small : p .bound ≤ (length a + v) * maxWeight
 
 -- what one variable v comes to, from the scan s and the trail
-pub record Scanned (list : List ℤ) (arrangement row : List ℕ) (base : Tally) (b : List ℕ) (v : ℕ) (s : Scan) (trail : List ℕ) (r : Progress) (a′ trail′ taken′ assumed′ : List ℕ) : Type 0 where
-  pub next : Scanning list arrangement row base b (suc v) r a′ trail′ taken′ assumed′
-  pub step : present r a′ taken′ assumed′ ≡ scanWish (clauses list) row b s v
+pub record Scanned (rules : List ℤ) (arrangement row : List ℕ) (base : Tally) (b : List ℕ) (v : ℕ) (s : Scan) (trail : List ℕ) (r : Progress) (a′ trail′ taken′ assumed′ : List ℕ) : Type 0 where
+  pub next : Scanning rules arrangement row base b (suc v) r a′ trail′ taken′ assumed′
+  pub step : present r a′ taken′ assumed′ ≡ scanWish (clauses rules) row b s v
   pub kept : take (base .settled) trail′ ≡ take (base .settled) trail

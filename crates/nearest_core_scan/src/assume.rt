@@ -16,7 +16,7 @@ pub const NO_LIMIT: usize = 18446744073709551615;
 
 // Assigns a variable as it is wished, and propagates that.
 pub fn assume(
-    list: &[i32],
+    rules: &[i32],
     arrangement: &[u16],
     row: &[u8],
     tally: Tally,
@@ -24,14 +24,14 @@ pub fn assume(
     a: &mut [u8],
     trail: &mut [u16],
 ) -> Propagated
-    requires { ⌜ Following (now list) (now arrangement) (now row) tally (now a) (now trail) × NoneDue (clauses (now list)) (now a) ⌝ }
+    requires { ⌜ Following (now rules) (now arrangement) (now row) tally (now a) (now trail) × NoneDue (clauses (now rules)) (now a) ⌝ }
     requires { ⌜ (0 < v .0) × (v .0 ≤ length (now a)) × (value (now a) (v .0) ≡ 2) ⌝ }
-    ensures { λ r. ⌜ AssumedBy (length (now (a .entry))) (clauses (now (list .entry))) (now (row .entry)) (v .0) tally (now (a .entry)) (now (trail .entry)) (now (a .exit)) (now (trail .exit)) r ⌝ }
+    ensures { λ r. ⌜ AssumedBy (length (now (a .entry))) (clauses (now (rules .entry))) (now (row .entry)) (v .0) tally (now (a .entry)) (now (trail .entry)) (now (a .exit)) (now (trail .exit)) r ⌝ }
 {
     let wished = wish::wished_value(literal::value_of(v, row));
     let with = walk_propagation::assign_to(tally, row, v, wished, a, trail);
     walk_propagation::propagate_units(
-        list,
+        rules,
         arrangement,
         row,
         NO_LIMIT,

@@ -24,7 +24,7 @@ ghost use Rattle.nearest_core_scan.specs.Scanning.{present, setBack, Sca
 // breaks at least, and which variables are taken. Wishes are assumed in the state's own space, and undone by
 // the trail.
 pub fn find_cores(
-    list: &[i32],
+    rules: &[i32],
     arrangement: &[u16],
     row: &[u8],
     tally: Tally,
@@ -33,10 +33,10 @@ pub fn find_cores(
     taken: &mut [u8],
     assumed: &mut [u16],
 ) -> usize
-    requires { ⌜ Following (now list) (now arrangement) (now row) tally (now a) (now trail) × NoneDue (clauses (now list)) (now a) ⌝ }
+    requires { ⌜ Following (now rules) (now arrangement) (now row) tally (now a) (now trail) × NoneDue (clauses (now rules)) (now a) ⌝ }
     requires { ⌜ (length (now taken) ≡ length (now a)) × (length (now a) < length (now assumed)) ⌝ }
-    ensures bound { λ r. ⌜ r ≡ scanOf (clauses (now (list .entry))) (now (row .entry)) (now (a .entry)) .bound ⌝ }
-    ensures taken { λ r. ⌜ now (taken .exit) ≡ scanOf (clauses (now (list .entry))) (now (row .entry)) (now (a .entry)) .taken ⌝ }
+    ensures bound { λ r. ⌜ r ≡ scanOf (clauses (now (rules .entry))) (now (row .entry)) (now (a .entry)) .bound ⌝ }
+    ensures taken { λ r. ⌜ now (taken .exit) ≡ scanOf (clauses (now (rules .entry))) (now (row .entry)) (now (a .entry)) .taken ⌝ }
     ensures state { λ r. ⌜ now (a .exit) ≡ now (a .entry) ⌝ }
     ensures trail { λ r. ⌜ take (tally .settled) (now (trail .exit)) ≡ take (tally .settled) (now (trail .entry)) ⌝ }
 {
@@ -50,7 +50,7 @@ pub fn find_cores(
     while i < a.len() {
         let next = i + 1;
         progress = scan_wish(
-            list,
+            rules,
             arrangement,
             row,
             tally,
@@ -70,7 +70,7 @@ pub fn find_cores(
 // One wish: where it can be assumed, it is. The base is the tally of the state, to which the values are set
 // back where that gives a core.
 fn scan_wish(
-    list: &[i32],
+    rules: &[i32],
     arrangement: &[u16],
     row: &[u8],
     base: Tally,
@@ -81,8 +81,8 @@ fn scan_wish(
     taken: &mut [u8],
     assumed: &mut [u16],
 ) -> Progress
-    requires { ⌜ Scanning (now list) (now arrangement) (now row) base (setBack base progress (now trail) (now a)) (v .0) progress (now a) (now trail) (now taken) (now assumed) × (v .0 ≤ length (now a)) ⌝ }
-    ensures { λ r. ⌜ Scanned (now (list .entry)) (now (arrangement .entry)) (now (row .entry)) base (setBack base progress (now (trail .entry)) (now (a .entry))) (v .0) (present progress (now (a .entry)) (now (taken .entry)) (now (assumed .entry))) (now (trail .entry)) r (now (a .exit)) (now (trail .exit)) (now (taken .exit)) (now (assumed .exit)) ⌝ }
+    requires { ⌜ Scanning (now rules) (now arrangement) (now row) base (setBack base progress (now trail) (now a)) (v .0) progress (now a) (now trail) (now taken) (now assumed) × (v .0 ≤ length (now a)) ⌝ }
+    ensures { λ r. ⌜ Scanned (now (rules .entry)) (now (arrangement .entry)) (now (row .entry)) base (setBack base progress (now (trail .entry)) (now (a .entry))) (v .0) (present progress (now (a .entry)) (now (taken .entry)) (now (assumed .entry))) (now (trail .entry)) r (now (a .exit)) (now (trail .exit)) (now (taken .exit)) (now (assumed .exit)) ⌝ }
 {
     if !is_assumable(v, row, a, taken) {
         return progress;
@@ -91,7 +91,7 @@ fn scan_wish(
     let at = progress.assumed;
     assumed[at] = v.0 as u16;
     let count = at + 1;
-    match assume(list, arrangement, row, before, v, a, trail) {
+    match assume(rules, arrangement, row, before, v, a, trail) {
         Propagated::Dead(t) => close_at(
             row,
             base,

@@ -25,7 +25,7 @@ ghost use lib.Seq.{slice};
 // anything. Where it finds an answer, that is what the lent assignment holds at the end; else it is the state
 // without those variables.
 pub fn attempt(
-    list: &[i32],
+    rules: &[i32],
     arrangement: &[u16],
     row: &[u8],
     guide: &[u8],
@@ -38,20 +38,20 @@ pub fn attempt(
     weights: &mut [u64],
 ) -> Tried
     requires { ⌜ Searching (length (now a)) (now row) (now a) (now trail) (tally .settled) (tally .broken) ⌝ }
-    requires { ⌜ Ready (now list) (now arrangement) (now witnesses) (length (now a)) (length (now weights)) ⌝ }
-    requires { ⌜ (from ≤ tally .settled) × Covers (clauses (now list)) (pending from tally (now a) (now trail)) ⌝ }
-    ensures tried { λ r. ⌜ TriedBy (searchFrom (clauses (now (list .entry))) (now (row .entry)) (now (guide .entry)) d (now (a .entry))) from (undone (slice from (tally .settled) (now (trail .entry))) (now (a .entry))) (now (trail .entry)) (now (trail .exit)) (now (a .exit)) r ⌝ }
-    ensures witness { λ r. ⌜ Witnesses (now (list .entry)) (now (witnesses .exit)) ⌝ }
+    requires { ⌜ Ready (now rules) (now arrangement) (now witnesses) (length (now a)) (length (now weights)) ⌝ }
+    requires { ⌜ (from ≤ tally .settled) × Covers (clauses (now rules)) (pending from tally (now a) (now trail)) ⌝ }
+    ensures tried { λ r. ⌜ TriedBy (searchFrom (clauses (now (rules .entry))) (now (row .entry)) (now (guide .entry)) d (now (a .entry))) from (undone (slice from (tally .settled) (now (trail .entry))) (now (a .entry))) (now (trail .entry)) (now (trail .exit)) (now (a .exit)) r ⌝ }
+    ensures witness { λ r. ⌜ Witnesses (now (rules .entry)) (now (witnesses .exit)) ⌝ }
 {
-    match nearest_narrowing::narrow(list, arrangement, row, d, from, tally, a, trail) {
+    match nearest_narrowing::narrow(rules, arrangement, row, d, from, tally, a, trail) {
         Propagated::Dead(t) => search_state::unwind(Tried::Nothing(0), from, t.settled, trail, a),
         Propagated::Settled(t) => {
-            if walk_completion::completes(list, guide, a) {
+            if walk_completion::completes(rules, guide, a) {
                 walk_completion::fill_completion(guide, a);
                 return Tried::Found(t.broken, 0);
             }
             match walk_pick::pick_branch(
-                list,
+                rules,
                 arrangement,
                 row,
                 d,
@@ -63,7 +63,7 @@ pub fn attempt(
                 Pick::DeadEnd => search_state::unwind(Tried::Nothing(0), from, t.settled, trail, a),
                 Pick::Branch(decision) => {
                     let tried = fork(
-                        list,
+                        rules,
                         arrangement,
                         row,
                         guide,
@@ -85,7 +85,7 @@ pub fn attempt(
 // Tries the branching variable at one value, and where that finds nothing at the other. Where neither
 // does, the state is as it was.
 fn fork(
-    list: &[i32],
+    rules: &[i32],
     arrangement: &[u16],
     row: &[u8],
     guide: &[u8],
@@ -98,16 +98,16 @@ fn fork(
     weights: &mut [u64],
 ) -> Tried
     requires { ⌜ Searching (length (now a)) (now row) (now a) (now trail) (tally .settled) (tally .broken) ⌝ }
-    requires { ⌜ Ready (now list) (now arrangement) (now witnesses) (length (now a)) (length (now weights)) ⌝ }
-    requires { ⌜ Branches (now a) (length (now a)) (decision .variable .0) × (decision .value < 2) × NoneDue (clauses (now list)) (now a) ⌝ }
-    ensures tried { λ r. ⌜ TriedBy (forkOf (searchFrom (clauses (now (list .entry))) (now (row .entry)) (now (guide .entry)) d) (now (a .entry)) (decision .variable .0) (decision .value)) (tally .settled) (now (a .entry)) (now (trail .entry)) (now (trail .exit)) (now (a .exit)) r ⌝ }
-    ensures witness { λ r. ⌜ Witnesses (now (list .entry)) (now (witnesses .exit)) ⌝ }
+    requires { ⌜ Ready (now rules) (now arrangement) (now witnesses) (length (now a)) (length (now weights)) ⌝ }
+    requires { ⌜ Branches (now a) (length (now a)) (decision .variable .0) × (decision .value < 2) × NoneDue (clauses (now rules)) (now a) ⌝ }
+    ensures tried { λ r. ⌜ TriedBy (forkOf (searchFrom (clauses (now (rules .entry))) (now (row .entry)) (now (guide .entry)) d) (now (a .entry)) (decision .variable .0) (decision .value)) (tally .settled) (now (a .entry)) (now (trail .entry)) (now (trail .exit)) (now (a .exit)) r ⌝ }
+    ensures witness { λ r. ⌜ Witnesses (now (rules .entry)) (now (witnesses .exit)) ⌝ }
 {
     let v = decision.variable;
     let value = decision.value;
     let first = walk_propagation::assign_to(tally, row, v, value, a, trail);
     match attempt(
-        list,
+        rules,
         arrangement,
         row,
         guide,
@@ -125,7 +125,7 @@ fn fork(
             search_state::with_forks(
                 before,
                 attempt(
-                    list,
+                    rules,
                     arrangement,
                     row,
                     guide,

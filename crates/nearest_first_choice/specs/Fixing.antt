@@ -15,31 +15,31 @@ use Rattle.walk.specs.Propagation.{propagate}
 use Rattle.nearest_first_choice.specs.Refining.{Refining, refining-propagated, refining-alive}
 
 -- for as many variables as the assignment is long
-pub record Fixed (list : List ℤ) (row : List ℕ) (d v : ℕ) (t : Tally) (a trail c : List ℕ) : Type 0 where
+pub record Fixed (rules : List ℤ) (row : List ℕ) (d v : ℕ) (t : Tally) (a trail c : List ℕ) : Type 0 where
   pub searching : Searching (length a) row a trail (t .settled) (t .broken)
-  pub refining : Refining (length a) (clauses list) row d v a c
+  pub refining : Refining (length a) (clauses rules) row d v a c
 
 -- and propagation has nothing to do
-pub record Fixing (list : List ℤ) (row : List ℕ) (d v : ℕ) (t : Tally) (a trail c : List ℕ) : Type 0 where
-  pub fixed : Fixed list row d v t a trail c
-  pub quiet : NoneDue (clauses list) a
+pub record Fixing (rules : List ℤ) (row : List ℕ) (d v : ℕ) (t : Tally) (a trail c : List ℕ) : Type 0 where
+  pub fixed : Fixed rules row d v t a trail c
+  pub quiet : NoneDue (clauses rules) a
 
 -- from what is said of n variables
-pub fixed-of : {list : List ℤ} {row : List ℕ} {d v : ℕ} {t : Tally} {a trail c : List ℕ} (n : ℕ) → Searching n row a trail (t .settled) (t .broken) → Refining n (clauses list) row d v a c → Fixed list row d v t a trail c
-fixed-of {list} {row} {d} {v} {t} {a} {trail} {c} n h r =
+pub fixed-of : {rules : List ℤ} {row : List ℕ} {d v : ℕ} {t : Tally} {a trail c : List ℕ} (n : ℕ) → Searching n row a trail (t .settled) (t .broken) → Refining n (clauses rules) row d v a c → Fixed rules row d v t a trail c
+fixed-of {rules} {row} {d} {v} {t} {a} {trail} {c} n h r =
     record {
       searching = subst (λ (k : ℕ). Searching k row a trail (t .settled) (t .broken)) long h;
-      refining = subst (λ (k : ℕ). Refining k (clauses list) row d v a c) long r;
+      refining = subst (λ (k : ℕ). Refining k (clauses rules) row d v a c) long r;
     }
   where
     long : n ≡ length a
     long = sym (h .state .size)
 
 -- what propagation leaves, with n variables and a sound list
-pub settled : {list : List ℤ} {row : List ℕ} {d v : ℕ} {t′ : Tally} {a a′ trail′ c : List ℕ} (n : ℕ) → SoundList n list → Refining n (clauses list) row d v a c → a′ ≡ propagate (clauses list) a
-    → Searching n row a′ trail′ (t′ .settled) (t′ .broken) → Fixing list row d v t′ a′ trail′ c
-settled {list} {row} {d} {v} {t′} {a} {a′} {trail′} {c} n sound r e s =
+pub settled : {rules : List ℤ} {row : List ℕ} {d v : ℕ} {t′ : Tally} {a a′ trail′ c : List ℕ} (n : ℕ) → SoundList n rules → Refining n (clauses rules) row d v a c → a′ ≡ propagate (clauses rules) a
+    → Searching n row a′ trail′ (t′ .settled) (t′ .broken) → Fixing rules row d v t′ a′ trail′ c
+settled {rules} {row} {d} {v} {t′} {a} {a′} {trail′} {c} n sound r e s =
     record {
-      fixed = fixed-of n s (subst (λ (l : List ℕ). Refining n (clauses list) row d v l c) (sym e) (refining-propagated r));
-      quiet = rw e (settled-none-due n (clauses list) (sound-fits n list sound) row d (r .state) (refining-alive r));
+      fixed = fixed-of n s (subst (λ (l : List ℕ). Refining n (clauses rules) row d v l c) (sym e) (refining-propagated r));
+      quiet = rw e (settled-none-due n (clauses rules) (sound-fits n rules sound) row d (r .state) (refining-alive r));
     }

@@ -17,7 +17,7 @@ ghost use Rattle.nearest_first_choice.specs.Refining.{Refining};
 // Fixes the variable after the first i, and what follows from it. One that propagation has fixed is left
 // as it is.
 pub fn fix(
-    list: &[i32],
+    rules: &[i32],
     arrangement: &[u16],
     row: &[u8],
     d: usize,
@@ -29,17 +29,17 @@ pub fn fix(
     weights: &mut [u64],
     choice: &mut [u8],
 ) -> Tally
-    requires { ⌜ Fixing (now list) (now row) d i tally (now a) (now trail) (now choice) × (i < length (now a)) ⌝ }
-    requires { ⌜ Ready (now list) (now arrangement) (now witnesses) (length (now a)) (length (now weights)) ⌝ }
-    ensures fixed { λ r. ⌜ Fixing (now (list .entry)) (now (row .entry)) d (i + 1) r (now (a .exit)) (now (trail .exit)) (now (choice .exit)) ⌝ }
-    ensures witness { λ r. ⌜ Witnesses (now (list .entry)) (now (witnesses .exit)) ⌝ }
+    requires { ⌜ Fixing (now rules) (now row) d i tally (now a) (now trail) (now choice) × (i < length (now a)) ⌝ }
+    requires { ⌜ Ready (now rules) (now arrangement) (now witnesses) (length (now a)) (length (now weights)) ⌝ }
+    ensures fixed { λ r. ⌜ Fixing (now (rules .entry)) (now (row .entry)) d (i + 1) r (now (a .exit)) (now (trail .exit)) (now (choice .exit)) ⌝ }
+    ensures witness { λ r. ⌜ Witnesses (now (rules .entry)) (now (witnesses .exit)) ⌝ }
 {
     let v = Variable(i + 1);
     if literal::value_of(v, a) != 2 {
         return tally;
     }
     let bit = first_value(
-        list,
+        rules,
         arrangement,
         row,
         d,
@@ -52,13 +52,13 @@ pub fn fix(
         choice,
     );
     let with = walk_propagation::assign_to(tally, row, v, bit, a, trail);
-    settle(list, arrangement, row, d, with, a, trail)
+    settle(rules, arrangement, row, d, with, a, trail)
 }
 
 // Its value: off where the choice at hand has it off, or where a search finds a choice that has, which is
 // then at hand; else on.
 fn first_value(
-    list: &[i32],
+    rules: &[i32],
     arrangement: &[u16],
     row: &[u8],
     d: usize,
@@ -70,17 +70,17 @@ fn first_value(
     weights: &mut [u64],
     choice: &mut [u8],
 ) -> u8
-    requires { ⌜ Fixing (now list) (now row) d i tally (now a) (now trail) (now choice) × (i < length (now a)) × (value (now a) (i + 1) ≡ 2) ⌝ }
-    requires { ⌜ Ready (now list) (now arrangement) (now witnesses) (length (now a)) (length (now weights)) ⌝ }
-    ensures refined { λ r. ⌜ (r < 2) × Refining (length (now (a .entry))) (clauses (now (list .entry))) (now (row .entry)) d (i + 1) (assign (now (a .entry)) (i + 1) r) (now (choice .exit)) ⌝ }
-    ensures witness { λ r. ⌜ Witnesses (now (list .entry)) (now (witnesses .exit)) ⌝ }
+    requires { ⌜ Fixing (now rules) (now row) d i tally (now a) (now trail) (now choice) × (i < length (now a)) × (value (now a) (i + 1) ≡ 2) ⌝ }
+    requires { ⌜ Ready (now rules) (now arrangement) (now witnesses) (length (now a)) (length (now weights)) ⌝ }
+    ensures refined { λ r. ⌜ (r < 2) × Refining (length (now (a .entry))) (clauses (now (rules .entry))) (now (row .entry)) d (i + 1) (assign (now (a .entry)) (i + 1) r) (now (choice .exit)) ⌝ }
+    ensures witness { λ r. ⌜ Witnesses (now (rules .entry)) (now (witnesses .exit)) ⌝ }
 {
     let v = Variable(i + 1);
     if literal::value_of(v, choice) == 0 {
         return 0;
     }
     value_by_search(
-        list,
+        rules,
         arrangement,
         row,
         d,

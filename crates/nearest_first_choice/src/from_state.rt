@@ -18,7 +18,7 @@ ghost use Rattle.nearest_first_choice.specs.Refining.{Decided};
 // The variable's value in the first choice: off where the search finds an answer, which is then the
 // choice at hand. The one at hand before guides the search. It goes in a copy, so that the state stays.
 pub fn value_by_search(
-    list: &[i32],
+    rules: &[i32],
     arrangement: &[u16],
     row: &[u8],
     d: usize,
@@ -30,10 +30,10 @@ pub fn value_by_search(
     weights: &mut [u64],
     choice: &mut [u8],
 ) -> u8
-    requires { ⌜ Searching (length (now a)) (now row) (now a) (now trail) (tally .settled) (tally .broken) × Branches (now a) (length (now a)) (v .0) × NoneDue (clauses (now list)) (now a) ⌝ }
-    requires { ⌜ Ready (now list) (now arrangement) (now witnesses) (length (now a)) (length (now weights)) × Choice (length (now a)) (now choice) ⌝ }
-    ensures decided { λ r. ⌜ Decided (length (now (a .entry))) (clauses (now (list .entry))) (now (row .entry)) d (now (a .entry)) (v .0) (now (choice .entry)) (now (choice .exit)) r ⌝ }
-    ensures witness { λ r. ⌜ Witnesses (now (list .entry)) (now (witnesses .exit)) ⌝ }
+    requires { ⌜ Searching (length (now a)) (now row) (now a) (now trail) (tally .settled) (tally .broken) × Branches (now a) (length (now a)) (v .0) × NoneDue (clauses (now rules)) (now a) ⌝ }
+    requires { ⌜ Ready (now rules) (now arrangement) (now witnesses) (length (now a)) (length (now weights)) × Choice (length (now a)) (now choice) ⌝ }
+    ensures decided { λ r. ⌜ Decided (length (now (a .entry))) (clauses (now (rules .entry))) (now (row .entry)) d (now (a .entry)) (v .0) (now (choice .entry)) (now (choice .exit)) r ⌝ }
+    ensures witness { λ r. ⌜ Witnesses (now (rules .entry)) (now (witnesses .exit)) ⌝ }
 {
     let n = a.len();
     let mut guide = search_state::no_values();
@@ -43,7 +43,7 @@ pub fn value_by_search(
     search_state::copy_to(a, &mut values);
     search_state::copy_numbers(trail, &mut trace[..n]);
     match search_off(
-        list,
+        rules,
         arrangement,
         row,
         &guide[..n],
@@ -65,7 +65,7 @@ pub fn value_by_search(
 
 // Assigns the variable off, and searches from there. An answer is what the assignment holds then.
 fn search_off(
-    list: &[i32],
+    rules: &[i32],
     arrangement: &[u16],
     row: &[u8],
     guide: &[u8],
@@ -77,15 +77,15 @@ fn search_off(
     witnesses: &mut [u16],
     weights: &mut [u64],
 ) -> Tried
-    requires { ⌜ Searching (length (now a)) (now row) (now a) (now trail) (tally .settled) (tally .broken) × Branches (now a) (length (now a)) (v .0) × NoneDue (clauses (now list)) (now a) ⌝ }
-    requires { ⌜ Ready (now list) (now arrangement) (now witnesses) (length (now a)) (length (now weights)) ⌝ }
-    ensures found { λ r. ⌜ RootSays (searchFrom (clauses (now (list .entry))) (now (row .entry)) (now (guide .entry)) d (assign (now (a .entry)) (v .0) 0)) (now (a .exit)) r ⌝ }
-    ensures witness { λ r. ⌜ Witnesses (now (list .entry)) (now (witnesses .exit)) ⌝ }
+    requires { ⌜ Searching (length (now a)) (now row) (now a) (now trail) (tally .settled) (tally .broken) × Branches (now a) (length (now a)) (v .0) × NoneDue (clauses (now rules)) (now a) ⌝ }
+    requires { ⌜ Ready (now rules) (now arrangement) (now witnesses) (length (now a)) (length (now weights)) ⌝ }
+    ensures found { λ r. ⌜ RootSays (searchFrom (clauses (now (rules .entry))) (now (row .entry)) (now (guide .entry)) d (assign (now (a .entry)) (v .0) 0)) (now (a .exit)) r ⌝ }
+    ensures witness { λ r. ⌜ Witnesses (now (rules .entry)) (now (witnesses .exit)) ⌝ }
 {
     let from = tally.settled;
     let off = walk_propagation::assign_to(tally, row, v, 0, a, trail);
     nearest_core_search::attempt(
-        list,
+        rules,
         arrangement,
         row,
         guide,

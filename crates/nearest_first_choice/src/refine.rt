@@ -15,7 +15,7 @@ ghost use Rattle.search_meaning.specs.Searches.{withBroken, choiceAfter};
 // A choice begins with a model within the limit d; the first such model takes its place. The other space
 // that is lent may hold anything but for the witnesses.
 pub fn make_first(
-    list: &[i32],
+    rules: &[i32],
     arrangement: &[u16],
     row: &[u8],
     d: usize,
@@ -25,13 +25,13 @@ pub fn make_first(
     weights: &mut [u64],
     choice: &mut [u8],
 )
-    requires { ⌜ (length (now trail) ≡ length (now a)) × Ready (now list) (now arrangement) (now witnesses) (length (now a)) (length (now weights)) ⌝ }
-    requires { ⌜ (length (now a) ≤ length (now choice)) × Model (length (now a)) (clauses (now list)) (take (length (now a)) (now choice)) × (disagreement (now row) (take (length (now a)) (now choice)) ≤ d) ⌝ }
-    ensures { λ _. ⌜ now (choice .exit) ≡ choiceAfter none (withBroken (now (row .entry)) (firstWithin (length (now (a .entry))) (now (list .entry)) (now (row .entry)) d)) (length (now (a .entry))) (now (choice .entry)) ⌝ }
+    requires { ⌜ (length (now trail) ≡ length (now a)) × Ready (now rules) (now arrangement) (now witnesses) (length (now a)) (length (now weights)) ⌝ }
+    requires { ⌜ (length (now a) ≤ length (now choice)) × Model (length (now a)) (clauses (now rules)) (take (length (now a)) (now choice)) × (disagreement (now row) (take (length (now a)) (now choice)) ≤ d) ⌝ }
+    ensures { λ _. ⌜ now (choice .exit) ≡ choiceAfter none (withBroken (now (row .entry)) (firstWithin (length (now (a .entry))) (now (rules .entry)) (now (row .entry)) d)) (length (now (a .entry))) (now (choice .entry)) ⌝ }
 {
     let n = a.len();
     refine(
-        list,
+        rules,
         arrangement,
         row,
         d,
@@ -45,7 +45,7 @@ pub fn make_first(
 
 // Of a choice with just the bytes of the model.
 fn refine(
-    list: &[i32],
+    rules: &[i32],
     arrangement: &[u16],
     row: &[u8],
     d: usize,
@@ -55,15 +55,15 @@ fn refine(
     weights: &mut [u64],
     choice: &mut [u8],
 )
-    requires { ⌜ (length (now trail) ≡ length (now a)) × Ready (now list) (now arrangement) (now witnesses) (length (now a)) (length (now weights)) ⌝ }
-    requires { ⌜ Model (length (now a)) (clauses (now list)) (now choice) × (disagreement (now row) (now choice) ≤ d) ⌝ }
-    ensures { λ _. ⌜ FirstWithin (length (now (a .entry))) (clauses (now (list .entry))) (now (row .entry)) d (now (choice .exit)) ⌝ }
+    requires { ⌜ (length (now trail) ≡ length (now a)) × Ready (now rules) (now arrangement) (now witnesses) (length (now a)) (length (now weights)) ⌝ }
+    requires { ⌜ Model (length (now a)) (clauses (now rules)) (now choice) × (disagreement (now row) (now choice) ≤ d) ⌝ }
+    ensures { λ _. ⌜ FirstWithin (length (now (a .entry))) (clauses (now (rules .entry))) (now (row .entry)) d (now (choice .exit)) ⌝ }
 {
-    let mut tally = settle_first(list, arrangement, row, d, a, trail);
+    let mut tally = settle_first(rules, arrangement, row, d, a, trail);
     let mut i = 0;
     while i < a.len() {
         tally = fix(
-            list,
+            rules,
             arrangement,
             row,
             d,

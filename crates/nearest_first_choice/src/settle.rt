@@ -20,7 +20,7 @@ ghost use Rattle.walk.specs.Walk.{isDeadEnd};
 // Propagates a state that some model within the limit extends, and in which only clauses of the newest
 // variable can ask for anything.
 pub fn settle(
-    list: &[i32],
+    rules: &[i32],
     arrangement: &[u16],
     row: &[u8],
     d: usize,
@@ -28,12 +28,12 @@ pub fn settle(
     a: &mut [u8],
     trail: &mut [u16],
 ) -> Tally
-    requires { ⌜ Following (now list) (now arrangement) (now row) tally (now a) (now trail) × Covers (clauses (now list)) (pending (newest tally) tally (now a) (now trail)) ⌝ }
-    requires { ⌜ isDeadEnd (clauses (now list)) (now row) d (propagate (clauses (now list)) (now a)) ≡ false ⌝ }
-    ensures { λ r. ⌜ (now (a .exit) ≡ propagate (clauses (now (list .entry))) (now (a .entry))) × Searching (length (now (a .entry))) (now (row .entry)) (now (a .exit)) (now (trail .exit)) (r .settled) (r .broken) ⌝ }
+    requires { ⌜ Following (now rules) (now arrangement) (now row) tally (now a) (now trail) × Covers (clauses (now rules)) (pending (newest tally) tally (now a) (now trail)) ⌝ }
+    requires { ⌜ isDeadEnd (clauses (now rules)) (now row) d (propagate (clauses (now rules)) (now a)) ≡ false ⌝ }
+    ensures { λ r. ⌜ (now (a .exit) ≡ propagate (clauses (now (rules .entry))) (now (a .entry))) × Searching (length (now (a .entry))) (now (row .entry)) (now (a .exit)) (now (trail .exit)) (r .settled) (r .broken) ⌝ }
 {
     let from = search_state::newest_of(tally.settled);
-    match walk_propagation::propagate_units(list, arrangement, row, d, from, tally, a, trail) {
+    match walk_propagation::propagate_units(rules, arrangement, row, d, from, tally, a, trail) {
         Propagated::Dead(t) => t,
         Propagated::Settled(t) => t,
     }
@@ -41,18 +41,18 @@ pub fn settle(
 
 // The same from the root, in lent space, whatever that holds.
 pub fn settle_first(
-    list: &[i32],
+    rules: &[i32],
     arrangement: &[u16],
     row: &[u8],
     d: usize,
     a: &mut [u8],
     trail: &mut [u16],
 ) -> Tally
-    requires { ⌜ (length (now a) ≤ maxVariables) × SoundList (length (now a)) (now list) × Beside (length (now a)) (now list) (now arrangement) × (length (now trail) ≡ length (now a)) ⌝ }
-    requires { ⌜ isDeadEnd (clauses (now list)) (now row) d (propagate (clauses (now list)) (replicate (length (now a)) 2)) ≡ false ⌝ }
-    ensures { λ r. ⌜ (now (a .exit) ≡ propagate (clauses (now (list .entry))) (replicate (length (now (a .entry))) 2)) × Searching (length (now (a .entry))) (now (row .entry)) (now (a .exit)) (now (trail .exit)) (r .settled) (r .broken) ⌝ }
+    requires { ⌜ (length (now a) ≤ maxVariables) × SoundList (length (now a)) (now rules) × Beside (length (now a)) (now rules) (now arrangement) × (length (now trail) ≡ length (now a)) ⌝ }
+    requires { ⌜ isDeadEnd (clauses (now rules)) (now row) d (propagate (clauses (now rules)) (replicate (length (now a)) 2)) ≡ false ⌝ }
+    ensures { λ r. ⌜ (now (a .exit) ≡ propagate (clauses (now (rules .entry))) (replicate (length (now (a .entry))) 2)) × Searching (length (now (a .entry))) (now (row .entry)) (now (a .exit)) (now (trail .exit)) (r .settled) (r .broken) ⌝ }
 {
-    match search_state::settle_root(list, arrangement, row, d, a, trail) {
+    match search_state::settle_root(rules, arrangement, row, d, a, trail) {
         Propagated::Dead(t) => t,
         Propagated::Settled(t) => t,
     }

@@ -21,7 +21,7 @@ enum Round {
 
 // One round: unit propagation, the cores, and the wishes that must be kept.
 fn narrow_round(
-    list: &[i32],
+    rules: &[i32],
     arrangement: &[u16],
     row: &[u8],
     d: usize,
@@ -30,17 +30,17 @@ fn narrow_round(
     a: &mut [u8],
     trail: &mut [u16],
 ) -> Round
-    requires { ⌜ Following (now list) (now arrangement) (now row) tally (now a) (now trail) × (from ≤ tally .settled) × Covers (clauses (now list)) (pending from tally (now a) (now trail)) ⌝ }
-    ensures { λ r. ⌜ RoundBy (length (now (a .entry))) (clauses (now (list .entry))) (now (row .entry)) d tally (now (a .entry)) (now (trail .entry)) (now (a .exit)) (now (trail .exit)) r ⌝ }
+    requires { ⌜ Following (now rules) (now arrangement) (now row) tally (now a) (now trail) × (from ≤ tally .settled) × Covers (clauses (now rules)) (pending from tally (now a) (now trail)) ⌝ }
+    ensures { λ r. ⌜ RoundBy (length (now (a .entry))) (clauses (now (rules .entry))) (now (row .entry)) d tally (now (a .entry)) (now (trail .entry)) (now (a .exit)) (now (trail .exit)) r ⌝ }
 {
-    match walk_propagation::propagate_units(list, arrangement, row, d, from, tally, a, trail) {
+    match walk_propagation::propagate_units(rules, arrangement, row, d, from, tally, a, trail) {
         Propagated::Dead(t) => Round::Dead(t),
         Propagated::Settled(t) => {
             let n = a.len();
             let mut taken = search_state::no_values();
             let mut assumed = search_state::no_assumed();
             let bound = nearest_core_scan::find_cores(
-                list,
+                rules,
                 arrangement,
                 row,
                 t,
@@ -64,7 +64,7 @@ fn narrow_round(
 // Narrows a state in which only clauses of the variables from a place of the trail on can ask for anything, round by
 // round.
 fn narrow_on(
-    list: &[i32],
+    rules: &[i32],
     arrangement: &[u16],
     row: &[u8],
     d: usize,
@@ -73,13 +73,13 @@ fn narrow_on(
     a: &mut [u8],
     trail: &mut [u16],
 ) -> Propagated
-    requires { ⌜ Following (now list) (now arrangement) (now row) tally (now a) (now trail) × (from ≤ tally .settled) × Covers (clauses (now list)) (pending from tally (now a) (now trail)) ⌝ }
-    ensures { λ r. ⌜ ComesTo (length (now (a .entry))) (now (row .entry)) (narrowOf (clauses (now (list .entry))) (now (row .entry)) d (now (a .entry))) tally (now (a .entry)) (now (trail .entry)) (now (a .exit)) (now (trail .exit)) r ⌝ }
+    requires { ⌜ Following (now rules) (now arrangement) (now row) tally (now a) (now trail) × (from ≤ tally .settled) × Covers (clauses (now rules)) (pending from tally (now a) (now trail)) ⌝ }
+    ensures { λ r. ⌜ ComesTo (length (now (a .entry))) (now (row .entry)) (narrowOf (clauses (now (rules .entry))) (now (row .entry)) d (now (a .entry))) tally (now (a .entry)) (now (trail .entry)) (now (a .exit)) (now (trail .exit)) r ⌝ }
 {
     let mut present = tally;
     let mut head = from;
     loop {
-        match narrow_round(list, arrangement, row, d, head, present, a, trail) {
+        match narrow_round(rules, arrangement, row, d, head, present, a, trail) {
             Round::Dead(t) => return Propagated::Dead(t),
             Round::Narrowed(t) => return Propagated::Settled(t),
             Round::Kept(place, t) => {
@@ -93,7 +93,7 @@ fn narrow_on(
 // Narrows such a state. The first round stands apart from the others, so that a round is called at two places: its
 // tables, some 2 KB, are then in a frame of its own, and not in the frame of each level of the search.
 pub fn narrow(
-    list: &[i32],
+    rules: &[i32],
     arrangement: &[u16],
     row: &[u8],
     d: usize,
@@ -102,12 +102,12 @@ pub fn narrow(
     a: &mut [u8],
     trail: &mut [u16],
 ) -> Propagated
-    requires { ⌜ Following (now list) (now arrangement) (now row) tally (now a) (now trail) × (from ≤ tally .settled) × Covers (clauses (now list)) (pending from tally (now a) (now trail)) ⌝ }
-    ensures { λ r. ⌜ ComesTo (length (now (a .entry))) (now (row .entry)) (narrowOf (clauses (now (list .entry))) (now (row .entry)) d (now (a .entry))) tally (now (a .entry)) (now (trail .entry)) (now (a .exit)) (now (trail .exit)) r ⌝ }
+    requires { ⌜ Following (now rules) (now arrangement) (now row) tally (now a) (now trail) × (from ≤ tally .settled) × Covers (clauses (now rules)) (pending from tally (now a) (now trail)) ⌝ }
+    ensures { λ r. ⌜ ComesTo (length (now (a .entry))) (now (row .entry)) (narrowOf (clauses (now (rules .entry))) (now (row .entry)) d (now (a .entry))) tally (now (a .entry)) (now (trail .entry)) (now (a .exit)) (now (trail .exit)) r ⌝ }
 {
-    match narrow_round(list, arrangement, row, d, from, tally, a, trail) {
+    match narrow_round(rules, arrangement, row, d, from, tally, a, trail) {
         Round::Dead(t) => Propagated::Dead(t),
         Round::Narrowed(t) => Propagated::Settled(t),
-        Round::Kept(place, t) => narrow_on(list, arrangement, row, d, place, t, a, trail),
+        Round::Kept(place, t) => narrow_on(rules, arrangement, row, d, place, t, a, trail),
     }
 }

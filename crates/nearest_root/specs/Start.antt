@@ -40,12 +40,12 @@ quiet-covers f a trail t quiet =
     rw (slice-empty (t .settled) trail) (none-covers f quiet)
 
 -- the root of a sound list with n variables, propagated with the limit d
-module _ (n : ℕ) (list : List ℤ) (sound : SoundList n list) (row : List ℕ) (d : ℕ) where
+module _ (n : ℕ) (rules : List ℤ) (sound : SoundList n rules) (row : List ℕ) (d : ℕ) where
   abbrev f : List (List ℤ)
-  f = clauses list
+  f = clauses rules
 
   fit : fits n f ≡ true
-  fit = sound-fits n list sound
+  fit = sound-fits n rules sound
 
   -- a model extends the root, and so the propagated root
   forced : (c : List ℕ) → Model n f c → Extends c (propagate f (replicate n 2))

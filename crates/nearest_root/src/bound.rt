@@ -14,20 +14,20 @@ ghost use Rattle.rule_list.specs.Sound.{SoundList};
 // Finds the bound in lent space, whatever that holds. Where unit propagation alone meets a falsified clause there
 // is no model, and any bound will do.
 pub fn root_bound(
-    list: &[i32],
+    rules: &[i32],
     arrangement: &[u16],
     row: &[u8],
     a: &mut [u8],
     trail: &mut [u16],
 ) -> usize
-    requires { ⌜ (length (now a) ≤ maxVariables) × SoundList (length (now a)) (now list) × Beside (length (now a)) (now list) (now arrangement) × (length (now trail) ≡ length (now a)) ⌝ }
-    ensures { λ r. ⌜ ((c : List ℕ) → Model (length (now (a .entry))) (clauses (now (list .entry))) c → r ≤ disagreement (now (row .entry)) c) ⌝ }
+    requires { ⌜ (length (now a) ≤ maxVariables) × SoundList (length (now a)) (now rules) × Beside (length (now a)) (now rules) (now arrangement) × (length (now trail) ≡ length (now a)) ⌝ }
+    ensures { λ r. ⌜ ((c : List ℕ) → Model (length (now (a .entry))) (clauses (now (rules .entry))) c → r ≤ disagreement (now (row .entry)) c) ⌝ }
 {
     let mut taken = search_state::no_values();
     let mut assumed = search_state::no_assumed();
     let n = a.len();
     match search_state::settle_root(
-        list,
+        rules,
         arrangement,
         row,
         nearest_core_scan::NO_LIMIT,
@@ -36,7 +36,7 @@ pub fn root_bound(
     ) {
         Propagated::Dead(_) => 0,
         Propagated::Settled(t) => nearest_core_scan::find_cores(
-            list,
+            rules,
             arrangement,
             row,
             t,

@@ -13,7 +13,7 @@ ghost use Rattle.nearest_root.specs.Root.{FoundWithin};
 // A choice begins with a model, by which the search is guided. Where a model within the limit is found, it takes
 // its place.
 pub fn search_within(
-    list: &[i32],
+    rules: &[i32],
     arrangement: &[u16],
     row: &[u8],
     d: usize,
@@ -23,16 +23,16 @@ pub fn search_within(
     weights: &mut [u64],
     choice: &mut [u8],
 ) -> bool
-    requires { ⌜ (length (now trail) ≡ length (now a)) × Ready (now list) (now arrangement) (now witnesses) (length (now a)) (length (now weights)) ⌝ }
-    requires { ⌜ (length (now a) ≤ length (now choice)) × Model (length (now a)) (clauses (now list)) (take (length (now a)) (now choice)) ⌝ }
-    ensures found { λ r. ⌜ FoundWithin (length (now (a .entry))) (clauses (now (list .entry))) (now (row .entry)) d (now (choice .entry)) (now (choice .exit)) r ⌝ }
-    ensures witness { λ r. ⌜ Witnesses (now (list .entry)) (now (witnesses .exit)) ⌝ }
+    requires { ⌜ (length (now trail) ≡ length (now a)) × Ready (now rules) (now arrangement) (now witnesses) (length (now a)) (length (now weights)) ⌝ }
+    requires { ⌜ (length (now a) ≤ length (now choice)) × Model (length (now a)) (clauses (now rules)) (take (length (now a)) (now choice)) ⌝ }
+    ensures found { λ r. ⌜ FoundWithin (length (now (a .entry))) (clauses (now (rules .entry))) (now (row .entry)) d (now (choice .entry)) (now (choice .exit)) r ⌝ }
+    ensures witness { λ r. ⌜ Witnesses (now (rules .entry)) (now (witnesses .exit)) ⌝ }
 {
     let mut guide = search_state::no_values();
     let n = a.len();
     nearest_guide::write_guide(row, choice, &mut guide[..n]);
     match search_from_root(
-        list,
+        rules,
         arrangement,
         row,
         &guide[..n],

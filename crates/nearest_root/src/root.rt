@@ -11,7 +11,7 @@ ghost use Rattle.nearest_root.specs.Root.{RootRight};
 
 // Searches from the root, whatever the lent space holds but for the witnesses.
 pub fn search_from_root(
-    list: &[i32],
+    rules: &[i32],
     arrangement: &[u16],
     row: &[u8],
     guide: &[u8],
@@ -21,15 +21,15 @@ pub fn search_from_root(
     witnesses: &mut [u16],
     weights: &mut [u64],
 ) -> Tried
-    requires { ⌜ (length (now trail) ≡ length (now a)) × Ready (now list) (now arrangement) (now witnesses) (length (now a)) (length (now weights)) ⌝ }
+    requires { ⌜ (length (now trail) ≡ length (now a)) × Ready (now rules) (now arrangement) (now witnesses) (length (now a)) (length (now weights)) ⌝ }
     requires { ⌜ Guides (length (now a)) (now row) (now guide) ⌝ }
-    ensures root { λ r. ⌜ RootRight (length (now (a .entry))) (clauses (now (list .entry))) (now (row .entry)) d (now (a .exit)) r ⌝ }
-    ensures witness { λ r. ⌜ Witnesses (now (list .entry)) (now (witnesses .exit)) ⌝ }
+    ensures root { λ r. ⌜ RootRight (length (now (a .entry))) (clauses (now (rules .entry))) (now (row .entry)) d (now (a .exit)) r ⌝ }
+    ensures witness { λ r. ⌜ Witnesses (now (rules .entry)) (now (witnesses .exit)) ⌝ }
 {
-    match search_state::settle_root(list, arrangement, row, d, a, trail) {
+    match search_state::settle_root(rules, arrangement, row, d, a, trail) {
         Propagated::Dead(_) => Tried::Nothing(0),
         Propagated::Settled(t) => nearest_core_search::attempt(
-            list,
+            rules,
             arrangement,
             row,
             guide,

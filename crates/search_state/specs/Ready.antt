@@ -15,15 +15,15 @@ pub record Startable (n : ℕ) (rules : List ℤ) (room : ℕ) : Type 0 where
   pub wide : n ≤ room
 
 -- the list's arrangement, and of the space for witnesses one for each of so many clauses
-pub record Prepared (n : ℕ) (list : List ℤ) (arrangement witnesses : List ℕ) (many : ℕ) : Type 0 where
-  pub beside : Beside n list arrangement
+pub record Prepared (n : ℕ) (rules : List ℤ) (arrangement witnesses : List ℕ) (many : ℕ) : Type 0 where
+  pub beside : Beside n rules arrangement
   pub inside : many ≤ length witnesses
-  pub witnessed : Witnesses list (take many witnesses)
+  pub witnessed : Witnesses rules (take many witnesses)
 
 -- for n variables: no more than document 01 admits, a sound list with its arrangement and its clauses' witnesses, and a table of so many numbers that each literal's weight and each variable's mark has a place
-pub record Ready (list : List ℤ) (arrangement witnesses : List ℕ) (n weights : ℕ) : Type 0 where
+pub record Ready (rules : List ℤ) (arrangement witnesses : List ℕ) (n weights : ℕ) : Type 0 where
   pub few : n ≤ maxVariables
-  pub sound : SoundList n list
-  pub beside : Beside n list arrangement
-  pub witnessed : Witnesses list witnesses
+  pub sound : SoundList n rules
+  pub beside : Beside n rules arrangement
+  pub witnessed : Witnesses rules witnesses
   pub weighs : 3 * n + 2 < weights

@@ -25,36 +25,36 @@ pub startable : (s : Lent) (room : ℕ) → Admitted s × (s .problem .n ≤ roo
 startable s room a = record { few = a .0 .most; sound = a .0 .soundRules; wide = a .1 }
 
 -- the list is arranged, and where its clauses begin are the first witnesses
-pub prepared : {n : ℕ} {list : List ℤ} {arrangement witnesses : List ℕ} {many : ℕ} → Beside n list arrangement → witnesses ≡ beginsOf arrangement → many ≡ getD arrangement 1 0 → Prepared n list arrangement witnesses many
+pub prepared : {n : ℕ} {rules : List ℤ} {arrangement witnesses : List ℕ} {many : ℕ} → Beside n rules arrangement → witnesses ≡ beginsOf arrangement → many ≡ getD arrangement 1 0 → Prepared n rules arrangement witnesses many
 prepared h e c = rw (e, c) (record { beside = h; inside = count-inside h; witnessed = count-witnesses h })
 
 -- so a search is ready
-pub prepared-ready : {n room many weights : ℕ} {list : List ℤ} {arrangement witnesses : List ℕ} → Startable n list room → Prepared n list arrangement witnesses many → 3 * n + 2 < weights → Ready list arrangement (take many witnesses) n weights
+pub prepared-ready : {n room many weights : ℕ} {rules : List ℤ} {arrangement witnesses : List ℕ} → Startable n rules room → Prepared n rules arrangement witnesses many → 3 * n + 2 < weights → Ready rules arrangement (take many witnesses) n weights
 prepared-ready s p w = record { few = s .few; sound = s .sound; beside = p .beside; witnessed = p .witnessed; weighs = w }
 
 -- assignments and tables keep their lengths, and other literals may be the witnesses
-pub ready-still : {list : List ℤ} {arrangement witnesses witnesses′ : List ℕ} {n weights n′ weights′ : ℕ} → n′ ≡ n → Witnesses list witnesses′ → weights′ ≡ weights → Ready list arrangement witnesses n weights
-    → Ready list arrangement witnesses′ n′ weights′
+pub ready-still : {rules : List ℤ} {arrangement witnesses witnesses′ : List ℕ} {n weights n′ weights′ : ℕ} → n′ ≡ n → Witnesses rules witnesses′ → weights′ ≡ weights → Ready rules arrangement witnesses n weights
+    → Ready rules arrangement witnesses′ n′ weights′
 ready-still p w q h = rw (p, q) (record { few = h .few; sound = h .sound; beside = h .beside; witnessed = w; weighs = h .weighs })
 
 -- so propagation may follow the arrangement from any state of the search
-pub following : {list : List ℤ} {arrangement row a trail : List ℕ} {n : ℕ} {t : Tally} → n ≤ maxVariables → SoundList n list → Beside n list arrangement → Searching n row a trail (t .settled) (t .broken)
-    → Following list arrangement row t a trail
-following {list} {arrangement} {row} {a} {trail} {n} {t} few sound beside h =
+pub following : {rules : List ℤ} {arrangement row a trail : List ℕ} {n : ℕ} {t : Tally} → n ≤ maxVariables → SoundList n rules → Beside n rules arrangement → Searching n row a trail (t .settled) (t .broken)
+    → Following rules arrangement row t a trail
+following {rules} {arrangement} {row} {a} {trail} {n} {t} few sound beside h =
     let long : n ≡ length a = sym (h .state .size) in
     record {
       looking =
           record {
             few = omega arith;
-            fit = sound-fits (length a) list (subst (λ (k : ℕ). SoundList k list) long sound);
+            fit = sound-fits (length a) rules (subst (λ (k : ℕ). SoundList k rules) long sound);
             located = beside .arranged .located;
             searching = subst (λ (k : ℕ). Searching k row a trail (t .settled) (t .broken)) long h;
           };
-      beside = subst (λ (k : ℕ). Beside k list arrangement) long beside;
+      beside = subst (λ (k : ℕ). Beside k rules arrangement) long beside;
     }
 
-pub ready-following : {list : List ℤ} {arrangement witnesses row a trail : List ℕ} {n weights : ℕ} {t : Tally} → Ready list arrangement witnesses n weights → Searching n row a trail (t .settled) (t .broken)
-    → Following list arrangement row t a trail
+pub ready-following : {rules : List ℤ} {arrangement witnesses row a trail : List ℕ} {n weights : ℕ} {t : Tally} → Ready rules arrangement witnesses n weights → Searching n row a trail (t .settled) (t .broken)
+    → Following rules arrangement row t a trail
 ready-following r h = following (r .few) (r .sound) (r .beside) h
 
 -- a state is one of as many variables as its assignment is long

@@ -50,12 +50,12 @@ root-searching n row trail a l e =
     })
 
 -- settling by the arrangement, from the root of a sound list with n variables
-module _ (n : ℕ) (list : List ℤ) (sound : SoundList n list) (row : List ℕ) (d : ℕ) where
+module _ (n : ℕ) (rules : List ℤ) (sound : SoundList n rules) (row : List ℕ) (d : ℕ) where
   abbrev f : List (List ℤ)
-  f = clauses list
+  f = clauses rules
 
   fit : fits n f ≡ true
-  fit = sound-fits n list sound
+  fit = sound-fits n rules sound
 
   pub settled-root : (a trail a′ trail′ : List ℕ) (r : Propagated) → length a ≡ n → a ≡ replicate n 2 → ComesTo (length a) row (settle f row d a) root a trail a′ trail′ r → SettledRoot n f row d trail a′ trail′ r
   settled-root a trail a′ trail′ r size start w =

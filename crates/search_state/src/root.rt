@@ -13,20 +13,20 @@ ghost use Rattle.search_state.specs.Root.{SettledRoot};
 
 // Settles the root in lent space, whatever that holds.
 pub fn settle_root(
-    list: &[i32],
+    rules: &[i32],
     arrangement: &[u16],
     row: &[u8],
     d: usize,
     a: &mut [u8],
     trail: &mut [u16],
 ) -> Propagated
-    requires { ⌜ (length (now a) ≤ maxVariables) × SoundList (length (now a)) (now list) × Beside (length (now a)) (now list) (now arrangement) × (length (now trail) ≡ length (now a)) ⌝ }
-    ensures { λ r. ⌜ SettledRoot (length (now (a .entry))) (clauses (now (list .entry))) (now (row .entry)) d (now (trail .entry)) (now (a .exit)) (now (trail .exit)) r ⌝ }
+    requires { ⌜ (length (now a) ≤ maxVariables) × SoundList (length (now a)) (now rules) × Beside (length (now a)) (now rules) (now arrangement) × (length (now trail) ≡ length (now a)) ⌝ }
+    ensures { λ r. ⌜ SettledRoot (length (now (a .entry))) (clauses (now (rules .entry))) (now (row .entry)) d (now (trail .entry)) (now (a .exit)) (now (trail .exit)) r ⌝ }
 {
     unassign_all(a);
     let root = Tally {
         settled: 0,
         broken: 0,
     };
-    walk_propagation::propagate_all(list, arrangement, row, d, root, a, trail)
+    walk_propagation::propagate_all(rules, arrangement, row, d, root, a, trail)
 }

@@ -18,19 +18,19 @@ pub fn is_unassigned(x: i32, assignment: &[u8]) -> bool
 }
 
 // Reads the clause that begins at an index, up to the first literal that holds.
-pub fn read_clause(list: &[i32], from: usize, assignment: &[u8]) -> ReadClause
-    ensures { λ r. ⌜ IsRead (now (assignment .entry)) (now (list .entry)) from r ⌝ }
+pub fn read_clause(rules: &[i32], from: usize, assignment: &[u8]) -> ReadClause
+    ensures { λ r. ⌜ IsRead (now (assignment .entry)) (now (rules .entry)) from r ⌝ }
 {
     let mut count: usize = 0;
     let mut i = from;
-    while i < list.len() {
-        if literal::closes(list[i]) {
+    while i < rules.len() {
+        if literal::closes(rules[i]) {
             return ReadClause::Open(i, count);
         }
-        if literal::holds_in(list[i], assignment) {
+        if literal::holds_in(rules[i], assignment) {
             return ReadClause::Satisfied(i);
         }
-        if is_unassigned(list[i], assignment) {
+        if is_unassigned(rules[i], assignment) {
             count += 1;
         }
         i += 1;

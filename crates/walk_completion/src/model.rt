@@ -21,19 +21,19 @@ pub struct Completed {
 
 // Reads the clause that begins at an index, each literal once. After one that holds it looks only for
 // the clause's end.
-pub fn read_completed(list: &[i32], from: usize, row: &[u8], assignment: &[u8]) -> Completed
-    ensures { λ r. ⌜ Tested (holds (complete (now (row .entry)) (now (assignment .entry)))) (now (list .entry)) from (r .end) (r .satisfied) ⌝ }
+pub fn read_completed(rules: &[i32], from: usize, row: &[u8], assignment: &[u8]) -> Completed
+    ensures { λ r. ⌜ Tested (holds (complete (now (row .entry)) (now (assignment .entry)))) (now (rules .entry)) from (r .end) (r .satisfied) ⌝ }
 {
     let mut i = from;
-    while i < list.len() {
-        if literal::closes(list[i]) {
+    while i < rules.len() {
+        if literal::closes(rules[i]) {
             return Completed {
                 end: i,
                 satisfied: false,
             };
         }
-        if holds_completed(list[i], row, assignment) {
-            let end = formula::clause_end(list, i + 1);
+        if holds_completed(rules[i], row, assignment) {
+            let end = formula::clause_end(rules, i + 1);
             return Completed {
                 end: end,
                 satisfied: true,
@@ -48,12 +48,12 @@ pub fn read_completed(list: &[i32], from: usize, row: &[u8], assignment: &[u8]) 
 }
 
 // Whether the completion satisfies every clause of a list, in one pass over it.
-pub fn completes(list: &[i32], row: &[u8], assignment: &[u8]) -> bool
-    ensures { λ r. ⌜ r ≡ models (complete (now (row .entry)) (now (assignment .entry))) (clauses (now (list .entry))) ⌝ }
+pub fn completes(rules: &[i32], row: &[u8], assignment: &[u8]) -> bool
+    ensures { λ r. ⌜ r ≡ models (complete (now (row .entry)) (now (assignment .entry))) (clauses (now (rules .entry))) ⌝ }
 {
     let mut from = 0;
-    while from < list.len() {
-        let clause = read_completed(list, from, row, assignment);
+    while from < rules.len() {
+        let clause = read_completed(rules, from, row, assignment);
         if !clause.satisfied {
             return false;
         }

@@ -93,17 +93,17 @@ module _ (f f′ : List (List ℤ)) (holding : (v b : ℕ) → occurrences f v b
       clause-formed (d ∷ g) (suc j) e h = clause-formed g j (and-right (joining n [] d) (wellFormed n g) e) (le-of-suc-le-suc h)
 
 -- The arrangement of a sound list determines its rules: only the order of the entries in a rule is not in it.
-pub rules-determined : (n n′ : ℕ) (list list′ : List ℤ) → SoundList n list → SoundList n′ list′
-    → ((v b : ℕ) → occurrences (clauses list) v b ≡ occurrences (clauses list′) v b)
-    → emptyClauses (clauses list) ≡ emptyClauses (clauses list′)
-    → EqualRules (clauses list) (clauses list′)
-rules-determined n n′ list list′ s s′ holding empty =
-    let f : List (List ℤ) = clauses list in
-    let f′ : List (List ℤ) = clauses list′ in
+pub rules-determined : (n n′ : ℕ) (rules rules′ : List ℤ) → SoundList n rules → SoundList n′ rules′
+    → ((v b : ℕ) → occurrences (clauses rules) v b ≡ occurrences (clauses rules′) v b)
+    → emptyClauses (clauses rules) ≡ emptyClauses (clauses rules′)
+    → EqualRules (clauses rules) (clauses rules′)
+rules-determined n n′ rules rules′ s s′ holding empty =
+    let f : List (List ℤ) = clauses rules in
+    let f′ : List (List ℤ) = clauses rules′ in
     let back : (v b : ℕ) → occurrences f′ v b ≡ occurrences f v b = λ v b. sym (holding v b) in
     record {
       many = omega (arith, no-more f f′ holding empty, no-more f′ f back (sym empty));
       entries = λ i i′ x. (entry-kept f f′ holding empty i i′ x, entry-kept f′ f back (sym empty) i′ i x);
       lengths = λ i i′.
-          (omega (arith, rule-shorter f f′ holding empty n (sound n list s .formed) i i′, rule-shorter f′ f back (sym empty) n′ (sound n′ list′ s′ .formed) i′ i));
+          (omega (arith, rule-shorter f f′ holding empty n (sound n rules s .formed) i i′, rule-shorter f′ f back (sym empty) n′ (sound n′ rules′ s′ .formed) i′ i));
     }

@@ -42,19 +42,19 @@ pub fn is_opposed(clause: &[i32], row: &[u8], assignment: &[u8]) -> bool
 
 // Reads the clause that begins at an index, each literal once. After one that does not oppose it looks
 // only for the clause's end.
-pub fn read_opposed(list: &[i32], from: usize, row: &[u8], assignment: &[u8]) -> ReadOpposed
-    ensures { λ r. ⌜ (r .end ≡ from + clauseLength (drop from (now (list .entry)))) × (r .opposed ≡ isOpposed (now (row .entry)) (now (assignment .entry)) (clauseAt from (now (list .entry)))) ⌝ }
+pub fn read_opposed(rules: &[i32], from: usize, row: &[u8], assignment: &[u8]) -> ReadOpposed
+    ensures { λ r. ⌜ (r .end ≡ from + clauseLength (drop from (now (rules .entry)))) × (r .opposed ≡ isOpposed (now (row .entry)) (now (assignment .entry)) (clauseAt from (now (rules .entry)))) ⌝ }
 {
     let mut i = from;
-    while i < list.len() {
-        if literal::closes(list[i]) {
+    while i < rules.len() {
+        if literal::closes(rules[i]) {
             return ReadOpposed {
                 end: i,
                 opposed: true,
             };
         }
-        if !is_opposing(list[i], row, assignment) {
-            let end = formula::clause_end(list, i + 1);
+        if !is_opposing(rules[i], row, assignment) {
+            let end = formula::clause_end(rules, i + 1);
             return ReadOpposed {
                 end: end,
                 opposed: false,

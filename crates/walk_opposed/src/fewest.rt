@@ -15,14 +15,14 @@ pub enum Fewest {
 }
 
 // Counts the unassigned literals of the shortest opposed clause.
-pub fn fewest_opposed(list: &[i32], row: &[u8], assignment: &[u8]) -> Fewest
-    requires { ⌜ NoneShort (now row) (now assignment) (clauses (now list)) ⌝ }
-    ensures { λ r. ⌜ sizeOf r ≡ fewest (now (row .entry)) (now (assignment .entry)) (clauses (now (list .entry))) ⌝ }
+pub fn fewest_opposed(rules: &[i32], row: &[u8], assignment: &[u8]) -> Fewest
+    requires { ⌜ NoneShort (now row) (now assignment) (clauses (now rules)) ⌝ }
+    ensures { λ r. ⌜ sizeOf r ≡ fewest (now (row .entry)) (now (assignment .entry)) (clauses (now (rules .entry))) ⌝ }
 {
-    match find_opposed(list, row, assignment) {
+    match find_opposed(rules, row, assignment) {
         Begins::Nothing => Fewest::Nothing,
         Begins::At(from) => {
-            let shortest = shortest_opposed(list, from, row, assignment);
+            let shortest = shortest_opposed(rules, from, row, assignment);
             Fewest::Literals(unassigned_in(shortest, assignment))
         }
     }

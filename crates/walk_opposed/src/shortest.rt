@@ -19,12 +19,12 @@ pub enum Begins {
 }
 
 // Goes through the list until a clause is opposed.
-pub fn find_opposed(list: &[i32], row: &[u8], assignment: &[u8]) -> Begins
-    ensures { λ r. ⌜ KeepsShortest (now (row .entry)) (now (assignment .entry)) (now (list .entry)) r ⌝ }
+pub fn find_opposed(rules: &[i32], row: &[u8], assignment: &[u8]) -> Begins
+    ensures { λ r. ⌜ KeepsShortest (now (row .entry)) (now (assignment .entry)) (now (rules .entry)) r ⌝ }
 {
     let mut from = 0;
-    while from < list.len() {
-        let reading = read_opposed(list, from, row, assignment);
+    while from < rules.len() {
+        let reading = read_opposed(rules, from, row, assignment);
         let end = reading.end;
         if reading.opposed {
             return Begins::At(from);
@@ -37,27 +37,27 @@ pub fn find_opposed(list: &[i32], row: &[u8], assignment: &[u8]) -> Begins
 // The shortest opposed clause, handed back as itself, given where one begins that it is not before. None has
 // less than two unassigned literals, so the list is read on only while the clause kept has more than two.
 pub fn shortest_opposed<'a>(
-    list: &'a [i32],
+    rules: &'a [i32],
     first: usize,
     row: &[u8],
     assignment: &[u8],
 ) -> &'a [i32]
-    requires { ⌜ (first < length (now list)) × (isOpposed (now row) (now assignment) (clauseAt first (now list)) ≡ true) ⌝ }
-    requires { ⌜ NoneShort (now row) (now assignment) (clauses (drop first (now list))) ⌝ }
-    ensures { λ r. ⌜ some (now r) ≡ shortest (now (row .entry)) (now (assignment .entry)) (clauses (drop first (now (list .entry)))) ⌝ }
+    requires { ⌜ (first < length (now rules)) × (isOpposed (now row) (now assignment) (clauseAt first (now rules)) ≡ true) ⌝ }
+    requires { ⌜ NoneShort (now row) (now assignment) (clauses (drop first (now rules))) ⌝ }
+    ensures { λ r. ⌜ some (now r) ≡ shortest (now (row .entry)) (now (assignment .entry)) (clauses (drop first (now (rules .entry)))) ⌝ }
 {
-    let first_end = formula::clause_end(list, first);
-    let mut kept = &list[first..first_end];
+    let first_end = formula::clause_end(rules, first);
+    let mut kept = &rules[first..first_end];
     let mut size = unassigned_in(kept, assignment);
     let mut from = first_end + 1;
-    while from < list.len() {
+    while from < rules.len() {
         if size < 3 {
             return kept;
         }
-        let reading = read_opposed(list, from, row, assignment);
+        let reading = read_opposed(rules, from, row, assignment);
         let end = reading.end;
         if reading.opposed {
-            let best = shorter(kept, &list[from..end], assignment);
+            let best = shorter(kept, &rules[from..end], assignment);
             kept = best;
             size = unassigned_in(kept, assignment);
         }

@@ -112,24 +112,24 @@ clean n read (x ∷ c) e =
     )
 
 -- a sound list can be weighed
-pub sound-weighable : (n : ℕ) (list : List ℤ) (weights : List ℕ) → SoundList n list → 3 * n + 2 < length weights → WeighableList n list weights
-sound-weighable n list weights e h =
-    let s = sound n list e in
+pub sound-weighable : (n : ℕ) (rules : List ℤ) (weights : List ℕ) → SoundList n rules → 3 * n + 2 < length weights → WeighableList n rules weights
+sound-weighable n rules weights e h =
+    let s = sound n rules e in
     record {
-      clean = all-weaken (joining n []) (isClean n) (λ c q. let r = clean n [] c q in and-eq-true-iff (all (hasVariable n) c) (distinct c) .1 (r .0, r .1)) (clauses list) (s .formed);
+      clean = all-weaken (joining n []) (isClean n) (λ c q. let r = clean n [] c q in and-eq-true-iff (all (hasVariable n) c) (distinct c) .1 (r .0, r .1)) (clauses rules) (s .formed);
       few = omega (arith, s .few);
       wide = h;
     }
 
 -- and what was weighed can be scored
-pub totals-scorable : (row a : List ℕ) (size : Option ℕ) (list : List ℤ) (before weights : List ℕ) → WeighableList (length a) list before → length weights ≡ length before → Totals row a size (clauses list) weights
+pub totals-scorable : (row a : List ℕ) (size : Option ℕ) (rules : List ℤ) (before weights : List ℕ) → WeighableList (length a) rules before → length weights ≡ length before → Totals row a size (clauses rules) weights
     → (3 * length a + 2 < length weights) × Scorable (length a) (weightsOf (length a) weights) (marksOf (length a) weights)
-totals-scorable row a size list before weights r p t =
+totals-scorable row a size rules before weights r p t =
     let wide : 3 * length a + 2 < length weights = omega (arith, r .wide) in (
       wide,
       record {
         slots = omega (arith, weights-length (length a) weights wide);
         places = omega (arith, length-drop (2 * length a + 2) weights);
-        small = λ i. omega (arith, t .sums i, weight-most a i (clauses list), r .few);
+        small = λ i. omega (arith, t .sums i, weight-most a i (clauses rules), r .few);
       },
     )

@@ -38,7 +38,7 @@ pub enum Pick {
 // locals they would stand in the frame of every level into which this is inlined. So are the witnesses, which
 // are remembered from state to state.
 pub fn pick_branch(
-    list: &[i32],
+    rules: &[i32],
     arrangement: &[u16],
     row: &[u8],
     d: usize,
@@ -47,20 +47,20 @@ pub fn pick_branch(
     witnesses: &mut [u16],
     weights: &mut [u64],
 ) -> Pick
-    requires { ⌜ (broken ≡ disagreement (now row) (now a)) × (SoundList (length (now a)) (now list)) ⌝ }
+    requires { ⌜ (broken ≡ disagreement (now row) (now a)) × (SoundList (length (now a)) (now rules)) ⌝ }
     requires { ⌜ 3 * length (now a) + 2 < length (now weights) ⌝ }
-    requires { ⌜ NoneShort (now row) (now a) (clauses (now list)) ⌝ }
-    requires { ⌜ Located (now list) (beginsOf (now arrangement)) × Witnesses (now list) (now witnesses) ⌝ }
-    ensures pick { λ r. ⌜ r ≡ pickOf (clauses (now (list .entry))) (now (row .entry)) d (now (a .entry)) ⌝ }
-    ensures witness { λ r. ⌜ Witnesses (now (list .entry)) (now (witnesses .exit)) ⌝ }
+    requires { ⌜ NoneShort (now row) (now a) (clauses (now rules)) ⌝ }
+    requires { ⌜ Located (now rules) (beginsOf (now arrangement)) × Witnesses (now rules) (now witnesses) ⌝ }
+    ensures pick { λ r. ⌜ r ≡ pickOf (clauses (now (rules .entry))) (now (row .entry)) d (now (a .entry)) ⌝ }
+    ensures witness { λ r. ⌜ Witnesses (now (rules .entry)) (now (witnesses .exit)) ⌝ }
 {
     if broken == d {
-        return pick_at_limit(list, arrangement, row, a, witnesses, weights);
+        return pick_at_limit(rules, arrangement, row, a, witnesses, weights);
     }
-    let size = walk_opposed::fewest_opposed(list, row, a);
+    let size = walk_opposed::fewest_opposed(rules, row, a);
     // below the limit it never stops, so its answer is known
     walk_weighing::weigh_list(
-        list,
+        rules,
         arrangement,
         row,
         a,
@@ -75,21 +75,21 @@ pub fn pick_branch(
 // The same where the limit is spent. An opposed clause is a dead end there, and the weighing stops at it; where
 // it does not stop there is none, so it weighs with none, and the list is read once.
 fn pick_at_limit(
-    list: &[i32],
+    rules: &[i32],
     arrangement: &[u16],
     row: &[u8],
     a: &[u8],
     witnesses: &mut [u16],
     weights: &mut [u64],
 ) -> Pick
-    requires { ⌜ SoundList (length (now a)) (now list) ⌝ }
+    requires { ⌜ SoundList (length (now a)) (now rules) ⌝ }
     requires { ⌜ 3 * length (now a) + 2 < length (now weights) ⌝ }
-    requires { ⌜ Located (now list) (beginsOf (now arrangement)) × Witnesses (now list) (now witnesses) ⌝ }
-    ensures pick { λ r. ⌜ r ≡ pickSpent (clauses (now (list .entry))) (now (row .entry)) (now (a .entry)) ⌝ }
-    ensures witness { λ r. ⌜ Witnesses (now (list .entry)) (now (witnesses .exit)) ⌝ }
+    requires { ⌜ Located (now rules) (beginsOf (now arrangement)) × Witnesses (now rules) (now witnesses) ⌝ }
+    ensures pick { λ r. ⌜ r ≡ pickSpent (clauses (now (rules .entry))) (now (row .entry)) (now (a .entry)) ⌝ }
+    ensures witness { λ r. ⌜ Witnesses (now (rules .entry)) (now (witnesses .exit)) ⌝ }
 {
     if walk_weighing::weigh_list(
-        list,
+        rules,
         arrangement,
         row,
         a,

@@ -34,35 +34,35 @@ use Rattle.walk_propagation.specs.declared.unit.Unit.the-variants.{Confl
 
 -- numbers of clauses of a list
 abbrev pub Numbers : List ℤ → List ℕ → Type 0
-Numbers list ks = (i : ℕ) → i < length ks → (0 < getD ks i 0) × (getD ks i 0 ≤ length (clauses list))
+Numbers rules ks = (i : ℕ) → i < length ks → (0 < getD ks i 0) × (getD ks i 0 ≤ length (clauses rules))
 
 -- a state of the search over the clauses of a list, which can be found by number
-pub record Looking (list : List ℤ) (arrangement row : List ℕ) (t : Tally) (a trail : List ℕ) : Type 0 where
+pub record Looking (rules : List ℤ) (arrangement row : List ℕ) (t : Tally) (a trail : List ℕ) : Type 0 where
   pub few : length a ≤ maxVariables
-  pub fit : fits (length a) (clauses list) ≡ true
-  pub located : Located list (beginsOf arrangement)
+  pub fit : fits (length a) (clauses rules) ≡ true
+  pub located : Located rules (beginsOf arrangement)
   pub searching : Searching (length a) row a trail (t .settled) (t .broken)
 
 -- and with the arrangement beside it
-pub record Following (list : List ℤ) (arrangement row : List ℕ) (t : Tally) (a trail : List ℕ) : Type 0 where
-  pub looking : Looking list arrangement row t a trail
-  pub beside : Beside (length a) list arrangement
+pub record Following (rules : List ℤ) (arrangement row : List ℕ) (t : Tally) (a trail : List ℕ) : Type 0 where
+  pub looking : Looking rules arrangement row t a trail
+  pub beside : Beside (length a) rules arrangement
 
 -- later states are of the same kind
-pub looking-moved : {list : List ℤ} {arrangement row : List ℕ} {t t′ : Tally} {a trail a′ trail′ : List ℕ} → Looking list arrangement row t a trail → Moved (length a) row t a trail t′ a′ trail′ → Looking list arrangement row t′ a′ trail′
-looking-moved {list} {arrangement} {row} {t} {t′} {a} {trail} {a′} {trail′} h m =
+pub looking-moved : {rules : List ℤ} {arrangement row : List ℕ} {t t′ : Tally} {a trail a′ trail′ : List ℕ} → Looking rules arrangement row t a trail → Moved (length a) row t a trail t′ a′ trail′ → Looking rules arrangement row t′ a′ trail′
+looking-moved {rules} {arrangement} {row} {t} {t′} {a} {trail} {a′} {trail′} h m =
     let long : length a ≡ length a′ = sym (m .searching .state .size) in
     record {
       few = omega (arith, h .few);
-      fit = subst (λ (n : ℕ). fits n (clauses list) ≡ true) long (h .fit);
+      fit = subst (λ (n : ℕ). fits n (clauses rules) ≡ true) long (h .fit);
       located = h .located;
       searching = subst (λ (n : ℕ). Searching n row a′ trail′ (t′ .settled) (t′ .broken)) long (m .searching);
     }
 
-pub following-moved : {list : List ℤ} {arrangement row : List ℕ} {t t′ : Tally} {a trail a′ trail′ : List ℕ} → Following list arrangement row t a trail
-    → Moved (length a) row t a trail t′ a′ trail′ → Following list arrangement row t′ a′ trail′
-following-moved {list} {arrangement} h m =
-    record { looking = looking-moved (h .looking) m; beside = subst (λ (n : ℕ). Beside n list arrangement) (sym (m .searching .state .size)) (h .beside) }
+pub following-moved : {rules : List ℤ} {arrangement row : List ℕ} {t t′ : Tally} {a trail a′ trail′ : List ℕ} → Following rules arrangement row t a trail
+    → Moved (length a) row t a trail t′ a′ trail′ → Following rules arrangement row t′ a′ trail′
+following-moved {rules} {arrangement} h m =
+    record { looking = looking-moved (h .looking) m; beside = subst (λ (n : ℕ). Beside n rules arrangement) (sym (m .searching .state .size)) (h .beside) }
 
 -- what a clause asks for decides what looking at it does
 abbrev pub lookBy : List ℕ → ℕ → Pending → Unit → Option Pending
@@ -89,9 +89,9 @@ asks-found a c x e = go (isFalsified a c) (isUnit a c) (find (isUnassigned a) c)
     go false false o q = cc
 
 -- a clause is looked at: its number k, and what it asks for
-module _ {list : List ℤ} {arrangement row : List ℕ} {t : Tally} {a trail : List ℕ} (h : Looking list arrangement row t a trail) (d : ℕ) (k : ℕ) (low : 0 < k) (high : k ≤ length (clauses list)) where
+module _ {rules : List ℤ} {arrangement row : List ℕ} {t : Tally} {a trail : List ℕ} (h : Looking rules arrangement row t a trail) (d : ℕ) (k : ℕ) (low : 0 < k) (high : k ≤ length (clauses rules)) where
   abbrev c : List ℤ
-  c = getD (clauses list) (k - 1) []
+  c = getD (clauses rules) (k - 1) []
 
   abbrev outcome : ℕ → Option Pending
   outcome head = look row d (pending head t a trail) c
@@ -107,7 +107,7 @@ module _ {list : List ℤ} {arrangement row : List ℕ} {t : Tally} {a trail : L
     member = find-member (isUnassigned a) c (asks-found a c x e)
 
     pub inside : (0 < variable x) × (variable x ≤ length a)
-    inside = fits-at (length a) (clauses list) (h .fit) (member-at [] (clauses list) (k - 1) (omega arith)) (member .0)
+    inside = fits-at (length a) (clauses rules) (h .fit) (member-at [] (clauses rules) (k - 1) (omega arith)) (member .0)
 
     free : value a (variable x) ≡ 2
     free = eqb-true (value a (variable x)) 2 (member .1)

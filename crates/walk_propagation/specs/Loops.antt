@@ -117,9 +117,9 @@ module _ {n : ℕ} {f : List (List ℤ)} {row : List ℕ} {d from : ℕ} {t₀ :
       empty (suc m) = refl
 
 -- the clauses of a literal of a variable, and all clauses, as parts of the arrangement
-module _ {n : ℕ} {list : List ℤ} {t : List ℕ} (h : Beside n list t) where
-  pub part-numbers : (v b : ℕ) → 0 < v → b < 2 → v ≤ n → Numbers list (partAt t (2 * v + b))
-  part-numbers v b low bit l = rw (part-holding h v b low bit l) (λ i q. occurrences-inside (clauses list) v b (member-at 0 (occurrences (clauses list) v b) i q))
+module _ {n : ℕ} {rules : List ℤ} {t : List ℕ} (h : Beside n rules t) where
+  pub part-numbers : (v b : ℕ) → 0 < v → b < 2 → v ≤ n → Numbers rules (partAt t (2 * v + b))
+  part-numbers v b low bit l = rw (part-holding h v b low bit l) (λ i q. occurrences-inside (clauses rules) v b (member-at 0 (occurrences (clauses rules) v b) i q))
 
-  pub every-numbers : Numbers list (take (getD t 1 0) (numbersOf t))
-  every-numbers = rw (every-clause h) (λ i q. every-inside (clauses list) (member-at 0 (filledClauses (clauses list) ++ emptyClauses (clauses list)) i q))
+  pub every-numbers : Numbers rules (take (getD t 1 0) (numbersOf t))
+  every-numbers = rw (every-clause h) (λ i q. every-inside (clauses rules) (member-at 0 (filledClauses (clauses rules) ++ emptyClauses (clauses rules)) i q))

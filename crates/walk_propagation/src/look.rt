@@ -16,7 +16,7 @@ ghost use Rattle.walk_propagation.specs.Looking.{Looking, Numbers};
 // Looks at a clause: where it is unit its literal is made to hold, and where it is falsified, or the
 // literal breaks one wish too many, it is a dead end.
 pub fn look_at(
-    list: &[i32],
+    rules: &[i32],
     arrangement: &[u16],
     number: Clause,
     row: &[u8],
@@ -25,12 +25,12 @@ pub fn look_at(
     a: &mut [u8],
     trail: &mut [u16],
 ) -> Propagated
-    requires { ⌜ Looking (now list) (now arrangement) (now row) tally (now a) (now trail) ⌝ }
-    requires { ⌜ (0 < number .0) × (number .0 ≤ length (clauses (now list))) ⌝ }
-    ensures { λ r. ⌜ LookedBy (length (now (a .entry))) (now (row .entry)) (λ (head : ℕ). look (now (row .entry)) d (pending head tally (now (a .entry)) (now (trail .entry))) (getD (clauses (now (list .entry))) (number .0 - 1) [])) tally (now (a .entry)) (now (trail .entry)) (now (a .exit)) (now (trail .exit)) r ⌝ }
+    requires { ⌜ Looking (now rules) (now arrangement) (now row) tally (now a) (now trail) ⌝ }
+    requires { ⌜ (0 < number .0) × (number .0 ≤ length (clauses (now rules))) ⌝ }
+    ensures { λ r. ⌜ LookedBy (length (now (a .entry))) (now (row .entry)) (λ (head : ℕ). look (now (row .entry)) d (pending head tally (now (a .entry)) (now (trail .entry))) (getD (clauses (now (rules .entry))) (number .0 - 1) [])) tally (now (a .entry)) (now (trail .entry)) (now (a .exit)) (now (trail .exit)) r ⌝ }
 {
     let from = walk_occurrences::begin_of(arrangement, number);
-    match unit_at(list, from, a) {
+    match unit_at(rules, from, a) {
         Unit::Conflict => Propagated::Dead(tally),
         Unit::Nothing => Propagated::Settled(tally),
         Unit::Literal(x) => {
@@ -47,7 +47,7 @@ pub fn look_at(
 
 // Looks at clauses one after the other, up to the first dead end.
 pub fn look_at_all(
-    list: &[i32],
+    rules: &[i32],
     arrangement: &[u16],
     numbers: &[u16],
     row: &[u8],
@@ -56,15 +56,15 @@ pub fn look_at_all(
     a: &mut [u8],
     trail: &mut [u16],
 ) -> Propagated
-    requires { ⌜ Looking (now list) (now arrangement) (now row) tally (now a) (now trail) ⌝ }
-    requires { ⌜ Numbers (now list) (now numbers) ⌝ }
-    ensures { λ r. ⌜ LookedBy (length (now (a .entry))) (now (row .entry)) (λ (head : ℕ). lookAt (clauses (now (list .entry))) (now (row .entry)) d (pending head tally (now (a .entry)) (now (trail .entry))) (now (numbers .entry))) tally (now (a .entry)) (now (trail .entry)) (now (a .exit)) (now (trail .exit)) r ⌝ }
+    requires { ⌜ Looking (now rules) (now arrangement) (now row) tally (now a) (now trail) ⌝ }
+    requires { ⌜ Numbers (now rules) (now numbers) ⌝ }
+    ensures { λ r. ⌜ LookedBy (length (now (a .entry))) (now (row .entry)) (λ (head : ℕ). lookAt (clauses (now (rules .entry))) (now (row .entry)) d (pending head tally (now (a .entry)) (now (trail .entry))) (now (numbers .entry))) tally (now (a .entry)) (now (trail .entry)) (now (a .exit)) (now (trail .exit)) r ⌝ }
 {
     let mut present = tally;
     let mut i = 0;
     while i < numbers.len() {
         let number = Clause(numbers[i] as usize);
-        match look_at(list, arrangement, number, row, d, present, a, trail) {
+        match look_at(rules, arrangement, number, row, d, present, a, trail) {
             Propagated::Dead(t) => return Propagated::Dead(t),
             Propagated::Settled(t) => present = t,
         }

@@ -13,7 +13,7 @@ ghost use Rattle.walk_propagation.specs.Looking.{Following};
 // Propagates a state in which only the clauses of variables from a place of the trail on can ask for
 // anything, as after a fork. It stops at the first sign of a dead end, since what follows cannot mend it.
 pub fn propagate_units(
-    list: &[i32],
+    rules: &[i32],
     arrangement: &[u16],
     row: &[u8],
     d: usize,
@@ -22,18 +22,18 @@ pub fn propagate_units(
     a: &mut [u8],
     trail: &mut [u16],
 ) -> Propagated
-    requires { ⌜ Following (now list) (now arrangement) (now row) tally (now a) (now trail) × (from ≤ tally .settled) ⌝ }
-    ensures { λ r. ⌜ ComesTo (length (now (a .entry))) (now (row .entry)) (follow (clauses (now (list .entry))) (now (row .entry)) d (pending from tally (now (a .entry)) (now (trail .entry)))) tally (now (a .entry)) (now (trail .entry)) (now (a .exit)) (now (trail .exit)) r ⌝ }
+    requires { ⌜ Following (now rules) (now arrangement) (now row) tally (now a) (now trail) × (from ≤ tally .settled) ⌝ }
+    ensures { λ r. ⌜ ComesTo (length (now (a .entry))) (now (row .entry)) (follow (clauses (now (rules .entry))) (now (row .entry)) d (pending from tally (now (a .entry)) (now (trail .entry)))) tally (now (a .entry)) (now (trail .entry)) (now (a .exit)) (now (trail .exit)) r ⌝ }
 {
     if d < tally.broken {
         return Propagated::Dead(tally);
     }
-    follow_queue(list, arrangement, row, d, from, tally, a, trail)
+    follow_queue(rules, arrangement, row, d, from, tally, a, trail)
 }
 
 // Propagates any state: each clause is looked at once, and then the queue is followed.
 pub fn propagate_all(
-    list: &[i32],
+    rules: &[i32],
     arrangement: &[u16],
     row: &[u8],
     d: usize,
@@ -41,17 +41,17 @@ pub fn propagate_all(
     a: &mut [u8],
     trail: &mut [u16],
 ) -> Propagated
-    requires { ⌜ Following (now list) (now arrangement) (now row) tally (now a) (now trail) ⌝ }
-    ensures { λ r. ⌜ ComesTo (length (now (a .entry))) (now (row .entry)) (settle (clauses (now (list .entry))) (now (row .entry)) d (now (a .entry))) tally (now (a .entry)) (now (trail .entry)) (now (a .exit)) (now (trail .exit)) r ⌝ }
+    requires { ⌜ Following (now rules) (now arrangement) (now row) tally (now a) (now trail) ⌝ }
+    ensures { λ r. ⌜ ComesTo (length (now (a .entry))) (now (row .entry)) (settle (clauses (now (rules .entry))) (now (row .entry)) d (now (a .entry))) tally (now (a .entry)) (now (trail .entry)) (now (a .exit)) (now (trail .exit)) r ⌝ }
 {
     if d < tally.broken {
         return Propagated::Dead(tally);
     }
     let numbers = walk_occurrences::every_clause(arrangement);
-    match look_at_all(list, arrangement, numbers, row, d, tally, a, trail) {
+    match look_at_all(rules, arrangement, numbers, row, d, tally, a, trail) {
         Propagated::Dead(t) => Propagated::Dead(t),
         Propagated::Settled(t) => follow_queue(
-            list,
+            rules,
             arrangement,
             row,
             d,

@@ -36,7 +36,7 @@ fn false_part<'a>(v: Variable, a: &[u8], arrangement: &'a [u16]) -> &'a [u16]
 // Takes one variable after the other from the queue, which begins at a place of the trail, and looks at
 // the clauses that hold its false literal.
 pub fn follow_queue(
-    list: &[i32],
+    rules: &[i32],
     arrangement: &[u16],
     row: &[u8],
     d: usize,
@@ -45,15 +45,15 @@ pub fn follow_queue(
     a: &mut [u8],
     trail: &mut [u16],
 ) -> Propagated
-    requires { ⌜ Following (now list) (now arrangement) (now row) tally (now a) (now trail) × (from ≤ tally .settled) ⌝ }
-    ensures { λ r. ⌜ ComesTo (length (now (a .entry))) (now (row .entry)) (drain (clauses (now (list .entry))) (now (row .entry)) d (pending from tally (now (a .entry)) (now (trail .entry)))) tally (now (a .entry)) (now (trail .entry)) (now (a .exit)) (now (trail .exit)) r ⌝ }
+    requires { ⌜ Following (now rules) (now arrangement) (now row) tally (now a) (now trail) × (from ≤ tally .settled) ⌝ }
+    ensures { λ r. ⌜ ComesTo (length (now (a .entry))) (now (row .entry)) (drain (clauses (now (rules .entry))) (now (row .entry)) d (pending from tally (now (a .entry)) (now (trail .entry)))) tally (now (a .entry)) (now (trail .entry)) (now (a .exit)) (now (trail .exit)) r ⌝ }
 {
     let mut present = tally;
     let mut head = from;
     while head < present.settled {
         let v = Variable(trail[head] as usize);
         let part = false_part(v, a, arrangement);
-        match look_at_all(list, arrangement, part, row, d, present, a, trail) {
+        match look_at_all(rules, arrangement, part, row, d, present, a, trail) {
             Propagated::Dead(t) => return Propagated::Dead(t),
             Propagated::Settled(t) => present = t,
         }

@@ -14,14 +14,14 @@ pub enum Unit {
 
 // Reads the clause that begins at an index, up to a literal that holds or to the second one that is
 // unassigned: it asks for nothing then.
-pub fn unit_at(list: &[i32], from: usize, a: &[u8]) -> Unit
-    ensures { λ r. ⌜ r ≡ asks (now (a .entry)) (clauseAt from (now (list .entry))) ⌝ }
+pub fn unit_at(rules: &[i32], from: usize, a: &[u8]) -> Unit
+    ensures { λ r. ⌜ r ≡ asks (now (a .entry)) (clauseAt from (now (rules .entry))) ⌝ }
 {
     let mut count: usize = 0;
     let mut found: i32 = 0;
     let mut i = from;
-    while i < list.len() {
-        let x = list[i];
+    while i < rules.len() {
+        let x = rules[i];
         if literal::closes(x) {
             return unit_by(count, found);
         }

@@ -33,12 +33,12 @@ use Rattle.search_state.specs.RootLaws.{root-says}
 use Rattle.search_state.specs.Tried.{TriedBy, RootSays}
 
 -- the walk of a sound list with n variables
-module _ (n : ℕ) (list : List ℤ) (sound : SoundList n list) (row : List ℕ) (d : ℕ) where
+module _ (n : ℕ) (rules : List ℤ) (sound : SoundList n rules) (row : List ℕ) (d : ℕ) where
   abbrev f : List (List ℤ)
-  f = clauses list
+  f = clauses rules
 
   fit : fits n f ≡ true
-  fit = sound-fits n list sound
+  fit = sound-fits n rules sound
 
   stepped : walk n f row d ≡ decide f row d (walkFrom f row d) (propagate f (replicate n 2))
   stepped = walk-step n f fit row d (replicate n 2) (start-state n)

@@ -14,7 +14,7 @@ pub use into::walk_into;
 
 // Walks from the root in lent space, whatever that holds but for the witnesses.
 pub fn walk_from_root(
-    list: &[i32],
+    rules: &[i32],
     arrangement: &[u16],
     row: &[u8],
     d: usize,
@@ -23,14 +23,14 @@ pub fn walk_from_root(
     witnesses: &mut [u16],
     weights: &mut [u64],
 ) -> Tried
-    requires { ⌜ (length (now trail) ≡ length (now a)) × Ready (now list) (now arrangement) (now witnesses) (length (now a)) (length (now weights)) ⌝ }
-    ensures root { λ r. ⌜ RootSays (walk (length (now (a .entry))) (clauses (now (list .entry))) (now (row .entry)) d) (now (a .exit)) r ⌝ }
-    ensures witness { λ r. ⌜ Witnesses (now (list .entry)) (now (witnesses .exit)) ⌝ }
+    requires { ⌜ (length (now trail) ≡ length (now a)) × Ready (now rules) (now arrangement) (now witnesses) (length (now a)) (length (now weights)) ⌝ }
+    ensures root { λ r. ⌜ RootSays (walk (length (now (a .entry))) (clauses (now (rules .entry))) (now (row .entry)) d) (now (a .exit)) r ⌝ }
+    ensures witness { λ r. ⌜ Witnesses (now (rules .entry)) (now (witnesses .exit)) ⌝ }
 {
-    match search_state::settle_root(list, arrangement, row, d, a, trail) {
+    match search_state::settle_root(rules, arrangement, row, d, a, trail) {
         Propagated::Dead(_) => Tried::Nothing(0),
         Propagated::Settled(t) => walk_try_and_fork::attempt(
-            list,
+            rules,
             arrangement,
             row,
             d,

@@ -23,7 +23,7 @@ ghost use Rattle.search_state.specs.Tried.{TriedBy};
 // The walk from a state in which only clauses of the newest variable can ask for anything. Where it finds
 // an answer, that is what the lent assignment holds at the end; else it is the state before that variable.
 pub fn attempt(
-    list: &[i32],
+    rules: &[i32],
     arrangement: &[u16],
     row: &[u8],
     d: usize,
@@ -34,21 +34,21 @@ pub fn attempt(
     weights: &mut [u64],
 ) -> Tried
     requires { ⌜ Searching (length (now a)) (now row) (now a) (now trail) (tally .settled) (tally .broken) ⌝ }
-    requires { ⌜ Ready (now list) (now arrangement) (now witnesses) (length (now a)) (length (now weights)) ⌝ }
-    requires { ⌜ Covers (clauses (now list)) (pending (newest tally) tally (now a) (now trail)) ⌝ }
-    ensures tried { λ r. ⌜ TriedBy (walkFrom (clauses (now (list .entry))) (now (row .entry)) d (now (a .entry))) (newest tally) (before tally (now (a .entry)) (now (trail .entry))) (now (trail .entry)) (now (trail .exit)) (now (a .exit)) r ⌝ }
-    ensures witness { λ r. ⌜ Witnesses (now (list .entry)) (now (witnesses .exit)) ⌝ }
+    requires { ⌜ Ready (now rules) (now arrangement) (now witnesses) (length (now a)) (length (now weights)) ⌝ }
+    requires { ⌜ Covers (clauses (now rules)) (pending (newest tally) tally (now a) (now trail)) ⌝ }
+    ensures tried { λ r. ⌜ TriedBy (walkFrom (clauses (now (rules .entry))) (now (row .entry)) d (now (a .entry))) (newest tally) (before tally (now (a .entry)) (now (trail .entry))) (now (trail .entry)) (now (trail .exit)) (now (a .exit)) r ⌝ }
+    ensures witness { λ r. ⌜ Witnesses (now (rules .entry)) (now (witnesses .exit)) ⌝ }
 {
     let from = newest_of(tally.settled);
-    match walk_propagation::propagate_units(list, arrangement, row, d, from, tally, a, trail) {
+    match walk_propagation::propagate_units(rules, arrangement, row, d, from, tally, a, trail) {
         Propagated::Dead(t) => unwind(Tried::Nothing(0), from, t.settled, trail, a),
         Propagated::Settled(t) => {
-            if walk_completion::completes(list, row, a) {
+            if walk_completion::completes(rules, row, a) {
                 walk_completion::fill_completion(row, a);
                 return Tried::Found(t.broken, 0);
             }
             match walk_pick::pick_branch(
-                list,
+                rules,
                 arrangement,
                 row,
                 d,
@@ -60,7 +60,7 @@ pub fn attempt(
                 Pick::DeadEnd => unwind(Tried::Nothing(0), from, t.settled, trail, a),
                 Pick::Branch(decision) => {
                     let tried = fork(
-                        list,
+                        rules,
                         arrangement,
                         row,
                         d,
@@ -81,7 +81,7 @@ pub fn attempt(
 // Tries the branching variable at one value, and where that finds nothing at the other. Where neither
 // does, the state is as it was.
 fn fork(
-    list: &[i32],
+    rules: &[i32],
     arrangement: &[u16],
     row: &[u8],
     d: usize,
@@ -93,16 +93,16 @@ fn fork(
     weights: &mut [u64],
 ) -> Tried
     requires { ⌜ Searching (length (now a)) (now row) (now a) (now trail) (tally .settled) (tally .broken) ⌝ }
-    requires { ⌜ Ready (now list) (now arrangement) (now witnesses) (length (now a)) (length (now weights)) ⌝ }
-    requires { ⌜ Branches (now a) (length (now a)) (decision .variable .0) × (decision .value < 2) × NoneDue (clauses (now list)) (now a) ⌝ }
-    ensures tried { λ r. ⌜ TriedBy (forkOf (walkFrom (clauses (now (list .entry))) (now (row .entry)) d) (now (a .entry)) (decision .variable .0) (decision .value)) (tally .settled) (now (a .entry)) (now (trail .entry)) (now (trail .exit)) (now (a .exit)) r ⌝ }
-    ensures witness { λ r. ⌜ Witnesses (now (list .entry)) (now (witnesses .exit)) ⌝ }
+    requires { ⌜ Ready (now rules) (now arrangement) (now witnesses) (length (now a)) (length (now weights)) ⌝ }
+    requires { ⌜ Branches (now a) (length (now a)) (decision .variable .0) × (decision .value < 2) × NoneDue (clauses (now rules)) (now a) ⌝ }
+    ensures tried { λ r. ⌜ TriedBy (forkOf (walkFrom (clauses (now (rules .entry))) (now (row .entry)) d) (now (a .entry)) (decision .variable .0) (decision .value)) (tally .settled) (now (a .entry)) (now (trail .entry)) (now (trail .exit)) (now (a .exit)) r ⌝ }
+    ensures witness { λ r. ⌜ Witnesses (now (rules .entry)) (now (witnesses .exit)) ⌝ }
 {
     let v = decision.variable;
     let value = decision.value;
     let first = walk_propagation::assign_to(tally, row, v, value, a, trail);
     match attempt(
-        list,
+        rules,
         arrangement,
         row,
         d,
@@ -118,7 +118,7 @@ fn fork(
             search_state::with_forks(
                 before,
                 attempt(
-                    list,
+                    rules,
                     arrangement,
                     row,
                     d,

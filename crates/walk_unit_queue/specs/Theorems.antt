@@ -213,6 +213,6 @@ settled-none-due n f fit row d {a} s e c w =
     not-due (propagate f a) c (any-false (isFalsified (propagate f a)) (dead-causes f row d (propagate f a) e .0) w) (propagate-ends n f fit s c w)
 
 -- "settling by either from the same state ends alike (a dead end in both, or the same settled state) for every sound list"
-pub sound-alike : (n : ℕ) (list : List ℤ) → SoundList n list → (row : List ℕ) (d : ℕ) (a : List ℕ) → State n a
-    → EndsAlike (clauses list) row d (propagate (clauses list) a) (settle (clauses list) row d a)
-sound-alike n list h = settle-alike n (clauses list) (sound-fits n list h)
+pub sound-alike : (n : ℕ) (rules : List ℤ) → SoundList n rules → (row : List ℕ) (d : ℕ) (a : List ℕ) → State n a
+    → EndsAlike (clauses rules) row d (propagate (clauses rules) a) (settle (clauses rules) row d a)
+sound-alike n rules h = settle-alike n (clauses rules) (sound-fits n rules h)

@@ -34,45 +34,45 @@ take-zero (suc m) (x ∷ l) z zero = z 0
 take-zero (suc m) (x ∷ l) z (suc j) = take-zero m l (λ i. z (suc i)) j
 
 -- the first k clauses have been weighed; where the limit is spent, none of them makes a dead end
-pub record Weighing (row a : List ℕ) (size : Option ℕ) (spent : Bool) (list : List ℤ) (before witnesses weights : List ℕ) (k : ℕ) : Type 0 where
+pub record Weighing (row a : List ℕ) (size : Option ℕ) (spent : Bool) (rules : List ℤ) (before witnesses weights : List ℕ) (k : ℕ) : Type 0 where
   pub wide : length weights ≡ length before
-  pub known : Witnesses list witnesses
-  pub alive : spent && any (isOpposed row a) (clauses list) ≡ spent && any (isOpposed row a) (drop k (clauses list))
-  pub sums : (j : ℕ) → getD (weightsOf (length a) weights) j 0 + weightAt a j (drop k (clauses list)) ≡ weightAt a j (clauses list)
-  pub marked : (v : ℕ) → isMarked (marksOf (length a) weights) v || any (offers row a size v) (drop k (clauses list)) ≡ any (offers row a size v) (clauses list)
+  pub known : Witnesses rules witnesses
+  pub alive : spent && any (isOpposed row a) (clauses rules) ≡ spent && any (isOpposed row a) (drop k (clauses rules))
+  pub sums : (j : ℕ) → getD (weightsOf (length a) weights) j 0 + weightAt a j (drop k (clauses rules)) ≡ weightAt a j (clauses rules)
+  pub marked : (v : ℕ) → isMarked (marksOf (length a) weights) v || any (offers row a size v) (drop k (clauses rules)) ≡ any (offers row a size v) (clauses rules)
 
-module _ (row a : List ℕ) (size : Option ℕ) (spent : Bool) (list : List ℤ) (before : List ℕ) (weighable : WeighableList (length a) list before) where
+module _ (row a : List ℕ) (size : Option ℕ) (spent : Bool) (rules : List ℤ) (before : List ℕ) (weighable : WeighableList (length a) rules before) where
   -- nothing has been weighed
-  pub weighing-start : (witnesses weights : List ℕ) → Witnesses list witnesses → length weights ≡ length before → ((j : ℕ) → getD weights j 0 ≡ 0) → Weighing row a size spent list before witnesses weights 0
+  pub weighing-start : (witnesses weights : List ℕ) → Witnesses rules witnesses → length weights ≡ length before → ((j : ℕ) → getD weights j 0 ≡ 0) → Weighing row a size spent rules before witnesses weights 0
   weighing-start witnesses weights t p z =
       record {
         wide = p;
         known = t;
         alive = refl;
         sums = λ j. omega (arith, take-zero (2 * length a + 2) weights z j);
-        marked = λ v. ap (λ (b : Bool). b || any (offers row a size v) (clauses list)) (ne-eqb (getD (marksOf (length a) weights) v 0) 1 (λ e. omega (arith, e, getD-drop (2 * length a + 2) weights v 0, z (2 * length a + 2 + v))));
+        marked = λ v. ap (λ (b : Bool). b || any (offers row a size v) (clauses rules)) (ne-eqb (getD (marksOf (length a) weights) v 0) 1 (λ e. omega (arith, e, getD-drop (2 * length a + 2) weights v 0, z (2 * length a + 2 + v))));
       }
 
-  module _ (witnesses weights : List ℕ) (k : ℕ) (s : Weighing row a size spent list before witnesses weights k) where
-    module _ (h : k < length (clauses list)) where
+  module _ (witnesses weights : List ℕ) (k : ℕ) (s : Weighing row a size spent rules before witnesses weights k) where
+    module _ (h : k < length (clauses rules)) where
       abbrev c : List ℤ
-      c = getD (clauses list) k []
+      c = getD (clauses rules) k []
 
       abbrev f : List (List ℤ)
-      f = drop (k + 1) (clauses list)
+      f = drop (k + 1) (clauses rules)
 
-      split : drop k (clauses list) ≡ c ∷ f
-      split = rw (drop-cons (clauses list) k [] h, add-one k)
+      split : drop k (clauses rules) ≡ c ∷ f
+      split = rw (drop-cons (clauses rules) k [] h, add-one k)
 
       -- the next clause can be weighed
       pub weighing-clause : Weighable (length a) c weights
       weighing-clause =
-          let good = and-eq-true-iff (all (hasVariable (length a)) c) (distinct c) .0 (all-index [] (isClean (length a)) (clauses list) k (weighable .clean) h) in
+          let good = and-eq-true-iff (all (hasVariable (length a)) c) (distinct c) .0 (all-index [] (isClean (length a)) (clauses rules) k (weighable .clean) h) in
           record {
             wide = omega (arith, s .wide, weighable .wide);
             within = λ i l. inside i (good .0) l;
             once = good .1;
-            fits = λ j. omega (arith, s .sums j, weight-most a j (clauses list), weighable .few);
+            fits = λ j. omega (arith, s .sums j, weight-most a j (clauses rules), weighable .few);
           }
         where
           inside : (i : ℕ) → all (hasVariable (length a)) c ≡ true → i < length c → variable (getD c i (pos 0)) ≤ length a
@@ -81,8 +81,8 @@ module _ (row a : List ℕ) (size : Option ℕ) (spent : Bool) (list : List ℤ)
               leb-true (variable x) (length a) (and-eq-true-iff (ltb 0 (variable x)) (leb (variable x) (length a)) .0 (all-index (pos 0) (hasVariable (length a)) c i good l) .1)
 
       -- and then it has been
-      pub weighing-next : (witnesses′ weights′ : List ℕ) → Witnesses list witnesses′ → length weights′ ≡ length weights → spent && isOpposed row a c ≡ false → Weighed row a size c weights weights′
-          → Weighing row a size spent list before witnesses′ weights′ (k + 1)
+      pub weighing-next : (witnesses′ weights′ : List ℕ) → Witnesses rules witnesses′ → length weights′ ≡ length weights → spent && isOpposed row a c ≡ false → Weighed row a size c weights weights′
+          → Weighing row a size spent rules before witnesses′ weights′ (k + 1)
       weighing-next witnesses′ weights′ t p u w =
           record {
             wide = p ∙ s .wide;
@@ -102,7 +102,7 @@ module _ (row a : List ℕ) (size : Option ℕ) (spent : Bool) (list : List ℤ)
           passed false y z e = refl
 
       -- or it makes a dead end
-      pub weighing-dead : spent && isOpposed row a c ≡ true → spent && any (isOpposed row a) (clauses list) ≡ true
+      pub weighing-dead : spent && isOpposed row a c ≡ true → spent && any (isOpposed row a) (clauses rules) ≡ true
       weighing-dead u = s .alive ∙ ap (λ (g : List (List ℤ)). spent && any (isOpposed row a) g) split ∙ found spent (isOpposed row a c) (any (isOpposed row a) f) u
         where
           found : (x y z : Bool) → x && y ≡ true → x && (y || z) ≡ true
@@ -111,17 +111,17 @@ module _ (row a : List ℕ) (size : Option ℕ) (spent : Bool) (list : List ℤ)
           found false y z e = absurd (true≢false (sym e))
 
     -- all have been weighed
-    module _ (h : length (clauses list) ≤ k) where
-      pub weighing-alive : spent && any (isOpposed row a) (clauses list) ≡ false
-      weighing-alive = s .alive ∙ ap (λ (g : List (List ℤ)). spent && any (isOpposed row a) g) (drop-of-length-le (clauses list) h) ∙ and-false spent
+    module _ (h : length (clauses rules) ≤ k) where
+      pub weighing-alive : spent && any (isOpposed row a) (clauses rules) ≡ false
+      weighing-alive = s .alive ∙ ap (λ (g : List (List ℤ)). spent && any (isOpposed row a) g) (drop-of-length-le (clauses rules) h) ∙ and-false spent
 
-      pub weighing-end : Totals row a size (clauses list) weights
+      pub weighing-end : Totals row a size (clauses rules) weights
       weighing-end =
           record {
-            sums = λ j. omega (arith, s .sums j, ap (weightAt a j) (drop-of-length-le (clauses list) h));
-            marked = λ v. sym (or-false (isMarked (marksOf (length a) weights) v)) ∙ sym (ap (λ (g : List (List ℤ)). isMarked (marksOf (length a) weights) v || any (offers row a size v) g) (drop-of-length-le (clauses list) h)) ∙ s .marked v;
+            sums = λ j. omega (arith, s .sums j, ap (weightAt a j) (drop-of-length-le (clauses rules) h));
+            marked = λ v. sym (or-false (isMarked (marksOf (length a) weights) v)) ∙ sym (ap (λ (g : List (List ℤ)). isMarked (marksOf (length a) weights) v || any (offers row a size v) g) (drop-of-length-le (clauses rules) h)) ∙ s .marked v;
           }
 
 -- only the length matters
-pub weighable-kept : (n : ℕ) (list : List ℤ) (weights weights′ : List ℕ) → WeighableList n list weights → length weights′ ≡ length weights → WeighableList n list weights′
-weighable-kept n list weights weights′ r p = record { clean = r .clean; few = r .few; wide = omega (arith, r .wide) }
+pub weighable-kept : (n : ℕ) (rules : List ℤ) (weights weights′ : List ℕ) → WeighableList n rules weights → length weights′ ≡ length weights → WeighableList n rules weights′
+weighable-kept n rules weights weights′ r p = record { clean = r .clean; few = r .few; wide = omega (arith, r .wide) }

@@ -67,9 +67,9 @@ pub record Weighed (row a : List ℕ) (size : Option ℕ) (c : List ℤ) (weight
   pub marked : (v : ℕ) → isMarked (marksOf (length a) weights′) v ≡ isMarked (marksOf (length a) weights) v || offers row a size v c
 
 -- a list can be weighed over n variables: its clauses are clean, and few enough for the sums to fit; there is room for the variables
-pub record WeighableList (n : ℕ) (list : List ℤ) (weights : List ℕ) : Type 0 where
-  pub clean : all (isClean n) (clauses list) ≡ true
-  pub few : length (clauses list) ≤ 2 ^ 40
+pub record WeighableList (n : ℕ) (rules : List ℤ) (weights : List ℕ) : Type 0 where
+  pub clean : all (isClean n) (clauses rules) ≡ true
+  pub few : length (clauses rules) ≤ 2 ^ 40
   pub wide : 3 * n + 2 < length weights
 
 -- the weights and the marks of a whole formula

@@ -31,7 +31,7 @@ fn exhausts(spent: bool, clause: &[i32], row: &[u8], assignment: &[u8]) -> bool
 // Weighs a clause, and tells whether it makes a dead end instead. It is not read if its witness holds; if
 // another literal does, that is its witness from now on.
 fn weigh_at(
-    list: &[i32],
+    rules: &[i32],
     arrangement: &[u16],
     number: Clause,
     row: &[u8],
@@ -41,23 +41,23 @@ fn weigh_at(
     witnesses: &mut [u16],
     weights: &mut [u64],
 ) -> bool
-    requires { ⌜ Located (now list) (beginsOf (now arrangement)) × Witnesses (now list) (now witnesses) × (0 < number .0) × (number .0 ≤ length (clauses (now list))) ⌝ }
-    requires { ⌜ Weighable (length (now assignment)) (getD (clauses (now list)) (number .0 - 1) []) (now weights) ⌝ }
-    ensures witness { λ r. ⌜ Witnesses (now (list .entry)) (now (witnesses .exit)) ⌝ }
-    ensures dead { λ r. ⌜ r ≡ spent && isOpposed (now (row .entry)) (now (assignment .entry)) (getD (clauses (now (list .entry))) (number .0 - 1) []) ⌝ }
-    ensures weighed { λ r. ⌜ (r ≡ false → Weighed (now (row .entry)) (now (assignment .entry)) (sizeOf fewest) (getD (clauses (now (list .entry))) (number .0 - 1) []) (now (weights .entry)) (now (weights .exit))) ⌝ }
+    requires { ⌜ Located (now rules) (beginsOf (now arrangement)) × Witnesses (now rules) (now witnesses) × (0 < number .0) × (number .0 ≤ length (clauses (now rules))) ⌝ }
+    requires { ⌜ Weighable (length (now assignment)) (getD (clauses (now rules)) (number .0 - 1) []) (now weights) ⌝ }
+    ensures witness { λ r. ⌜ Witnesses (now (rules .entry)) (now (witnesses .exit)) ⌝ }
+    ensures dead { λ r. ⌜ r ≡ spent && isOpposed (now (row .entry)) (now (assignment .entry)) (getD (clauses (now (rules .entry))) (number .0 - 1) []) ⌝ }
+    ensures weighed { λ r. ⌜ (r ≡ false → Weighed (now (row .entry)) (now (assignment .entry)) (sizeOf fewest) (getD (clauses (now (rules .entry))) (number .0 - 1) []) (now (weights .entry)) (now (weights .exit))) ⌝ }
 {
-    if walk_witnesses::is_witnessed(list, witnesses, number, assignment) {
+    if walk_witnesses::is_witnessed(rules, witnesses, number, assignment) {
         return false;
     }
     let from = walk_occurrences::begin_of(arrangement, number);
-    match walk_clause_standing::read_clause(list, from, assignment) {
+    match walk_clause_standing::read_clause(rules, from, assignment) {
         ReadClause::Satisfied(at) => {
             witnesses[number.0 - 1] = at as u16;
             false
         }
         ReadClause::Open(end, count) => {
-            let clause = &list[from..end];
+            let clause = &rules[from..end];
             if exhausts(spent, clause, row, assignment) {
                 return true;
             }
@@ -70,7 +70,7 @@ fn weigh_at(
 // Weighs the clauses of a list, each of which has one witness. Where the limit is spent it stops at the first
 // that makes a dead end, and tells so; the weights and marks then say nothing.
 pub fn weigh_list(
-    list: &[i32],
+    rules: &[i32],
     arrangement: &[u16],
     row: &[u8],
     assignment: &[u8],
@@ -79,17 +79,17 @@ pub fn weigh_list(
     witnesses: &mut [u16],
     weights: &mut [u64],
 ) -> bool
-    requires { ⌜ WeighableList (length (now assignment)) (now list) (now weights) ⌝ }
-    requires { ⌜ Located (now list) (beginsOf (now arrangement)) × Witnesses (now list) (now witnesses) ⌝ }
-    ensures witness { λ r. ⌜ Witnesses (now (list .entry)) (now (witnesses .exit)) ⌝ }
-    ensures dead { λ r. ⌜ r ≡ spent && any (isOpposed (now (row .entry)) (now (assignment .entry))) (clauses (now (list .entry))) ⌝ }
-    ensures weighed { λ r. ⌜ (r ≡ false → Totals (now (row .entry)) (now (assignment .entry)) (sizeOf fewest) (clauses (now (list .entry))) (now (weights .exit))) ⌝ }
+    requires { ⌜ WeighableList (length (now assignment)) (now rules) (now weights) ⌝ }
+    requires { ⌜ Located (now rules) (beginsOf (now arrangement)) × Witnesses (now rules) (now witnesses) ⌝ }
+    ensures witness { λ r. ⌜ Witnesses (now (rules .entry)) (now (witnesses .exit)) ⌝ }
+    ensures dead { λ r. ⌜ r ≡ spent && any (isOpposed (now (row .entry)) (now (assignment .entry))) (clauses (now (rules .entry))) ⌝ }
+    ensures weighed { λ r. ⌜ (r ≡ false → Totals (now (row .entry)) (now (assignment .entry)) (sizeOf fewest) (clauses (now (rules .entry))) (now (weights .exit))) ⌝ }
 {
     clear(&mut *weights);
     let mut k = 0;
     while k < witnesses.len() {
         if weigh_at(
-            list,
+            rules,
             arrangement,
             Clause(k + 1),
             row,

@@ -47,44 +47,44 @@ first-satisfies l from h a t = go (closes (getD l from (pos 0))) (λ i. closes (
     go false e = held-satisfies l from from (omega arith) (omega (arith, length-literal l from h e)) h a t
 
 -- so where the m clauses begin there are witnesses
-first-witnesses : {list : List ℤ} {begins : List ℕ} → Located list begins → (m : ℕ) → m ≡ length (clauses list) → Witnesses list (take m begins)
-first-witnesses {list} {begins} h m n =
+first-witnesses : {rules : List ℤ} {begins : List ℕ} → Located rules begins → (m : ℕ) → m ≡ length (clauses rules) → Witnesses rules (take m begins)
+first-witnesses {rules} {begins} h m n =
     record {
       many = length-take-le m begins (omega (arith, h .many)) ∙ n;
       inside = λ k l. omega (arith, same k l, begins-inside h k l);
       satisfies = λ k l a t.
-          ap (satisfied a) (sym (begins-clause h k l)) ∙ first-satisfies list (getD begins k 0) (begins-inside h k l) a (sym (ap (λ (j : ℕ). holds a (getD list j (pos 0))) (same k l)) ∙ t);
+          ap (satisfied a) (sym (begins-clause h k l)) ∙ first-satisfies rules (getD begins k 0) (begins-inside h k l) a (sym (ap (λ (j : ℕ). holds a (getD rules j (pos 0))) (same k l)) ∙ t);
     }
   where
-    same : (k : ℕ) → k < length (clauses list) → getD (take m begins) k 0 ≡ getD begins k 0
+    same : (k : ℕ) → k < length (clauses rules) → getD (take m begins) k 0 ≡ getD begins k 0
     same k l = getD-take m begins k 0 (omega arith)
 
 -- so the begins in an arrangement, as many as there are clauses, are witnesses
-module _ {n : ℕ} {list : List ℤ} {t : List ℕ} (h : Beside n list t) where
+module _ {n : ℕ} {rules : List ℤ} {t : List ℕ} (h : Beside n rules t) where
   pub count-inside : getD t 1 0 ≤ length (beginsOf t)
   count-inside = omega (arith, count-read h, beside-located h .many)
 
-  pub count-witnesses : Witnesses list (take (getD t 1 0) (beginsOf t))
+  pub count-witnesses : Witnesses rules (take (getD t 1 0) (beginsOf t))
   count-witnesses = first-witnesses (beside-located h) (getD t 1 0) (count-read h)
 
 -- and a literal of clause k, read from where that begins, may be its witness
-pub new-witness : {list : List ℤ} {begins witnesses : List ℕ} → Located list begins → Witnesses list witnesses → (k at : ℕ) → k < length (clauses list)
-    → getD begins k 0 ≤ at → at < getD begins k 0 + clauseLength (drop (getD begins k 0) list) → Witnesses list (set witnesses k at)
-new-witness {list} {begins} {witnesses} h w k at l after inside =
+pub new-witness : {rules : List ℤ} {begins witnesses : List ℕ} → Located rules begins → Witnesses rules witnesses → (k at : ℕ) → k < length (clauses rules)
+    → getD begins k 0 ≤ at → at < getD begins k 0 + clauseLength (drop (getD begins k 0) rules) → Witnesses rules (set witnesses k at)
+new-witness {rules} {begins} {witnesses} h w k at l after inside =
     record {
       many = length-set witnesses k at ∙ w .many;
       inside = λ j m. elim (ℕ-discrete j k) [ yes e ↦ omega (arith, stored j e, far) | no e ↦ omega (arith, getD-set-other witnesses k j at 0 e, w .inside j m) ];
-      satisfies = λ j m a t. elim (ℕ-discrete j k) [ yes e ↦ here j e a t | no e ↦ w .satisfies j m a (sym (ap (λ (i : ℕ). holds a (getD list i (pos 0))) (getD-set-other witnesses k j at 0 e)) ∙ t) ];
+      satisfies = λ j m a t. elim (ℕ-discrete j k) [ yes e ↦ here j e a t | no e ↦ w .satisfies j m a (sym (ap (λ (i : ℕ). holds a (getD rules i (pos 0))) (getD-set-other witnesses k j at 0 e)) ∙ t) ];
     }
   where
-    far : at < length list
-    far = omega (arith, inside, end-inside list (getD begins k 0) (getD begins k 0 + clauseLength (drop (getD begins k 0) list)) (omega (arith, begins-inside h k l)) (λ i. getD begins k 0 + clauseLength (drop (getD begins k 0) list)))
+    far : at < length rules
+    far = omega (arith, inside, end-inside rules (getD begins k 0) (getD begins k 0 + clauseLength (drop (getD begins k 0) rules)) (omega (arith, begins-inside h k l)) (λ i. getD begins k 0 + clauseLength (drop (getD begins k 0) rules)))
 
     stored : (j : ℕ) → j ≡ k → getD (set witnesses k at) j 0 ≡ at
     stored j e = ap (λ (i : ℕ). getD (set witnesses k at) i 0) e ∙ getD-set-same witnesses k at 0 (omega (arith, w .many))
 
-    here : (j : ℕ) → j ≡ k → (a : List ℕ) → holds a (getD list (getD (set witnesses k at) j 0) (pos 0)) ≡ true → satisfied a (getD (clauses list) j []) ≡ true
+    here : (j : ℕ) → j ≡ k → (a : List ℕ) → holds a (getD rules (getD (set witnesses k at) j 0) (pos 0)) ≡ true → satisfied a (getD (clauses rules) j []) ≡ true
     here j e a t =
-        ap (λ (i : ℕ). satisfied a (getD (clauses list) i [])) e
+        ap (λ (i : ℕ). satisfied a (getD (clauses rules) i [])) e
         ∙ ap (satisfied a) (sym (begins-clause h k l))
-        ∙ held-satisfies list (getD begins k 0) at after inside (begins-inside h k l) a (sym (ap (λ (i : ℕ). holds a (getD list i (pos 0))) (stored j e)) ∙ t)
+        ∙ held-satisfies rules (getD begins k 0) at after inside (begins-inside h k l) a (sym (ap (λ (i : ℕ). holds a (getD rules i (pos 0))) (stored j e)) ∙ t)

@@ -9,7 +9,7 @@ use Rattle.literal.specs.Literal.{holds}
 use Rattle.formula.specs.Formula.{clauses, satisfied}
 
 -- each clause has one, and in any assignment in which it holds the clause is satisfied
-pub record Witnesses (list : List ℤ) (witnesses : List ℕ) : Type 0 where
-  pub many : length witnesses ≡ length (clauses list)
-  pub inside : (k : ℕ) → k < length (clauses list) → getD witnesses k 0 < length list
-  pub satisfies : (k : ℕ) → k < length (clauses list) → (a : List ℕ) → holds a (getD list (getD witnesses k 0) (pos 0)) ≡ true → satisfied a (getD (clauses list) k []) ≡ true
+pub record Witnesses (rules : List ℤ) (witnesses : List ℕ) : Type 0 where
+  pub many : length witnesses ≡ length (clauses rules)
+  pub inside : (k : ℕ) → k < length (clauses rules) → getD witnesses k 0 < length rules
+  pub satisfies : (k : ℕ) → k < length (clauses rules) → (a : List ℕ) → holds a (getD rules (getD witnesses k 0) (pos 0)) ≡ true → satisfied a (getD (clauses rules) k []) ≡ true

@@ -13,10 +13,10 @@ use Rattle.formula.proofs.clause_end.Statement.{statement}
 use Rattle.formula.proofs.clause_end.Tie as tie
 
 abbrev Inv-loop : tie.InvT-loop
-Inv-loop list from i₀ i = (from ≤ i) × (from + clauseLength (drop from list) ≡ i + clauseLength (drop i list))
+Inv-loop rules from i₀ i = (from ≤ i) × (from + clauseLength (drop from rules) ≡ i + clauseLength (drop i rules))
 
 abbrev μ-loop : tie.MeasureT-loop
-μ-loop list from i₀ i = length list - i
+μ-loop rules from i₀ i = length rules - i
 
 loop-holds : tie.Need-loop-holds Inv-loop μ-loop
 loop-holds c = search needs
@@ -32,14 +32,14 @@ closes-requires c κs = search needs
 
 -- the test was made on the list's element
 tested : (c : tie.After-closes Inv-loop μ-loop)
-    → c .closes .result ≡ closes (getD (c .before .before .before .before .args .list .now) (c .before .before .before .loop .i) (pos 0))
+    → c .closes .result ≡ closes (getD (c .before .before .before .before .args .rules .now) (c .before .before .before .loop .i) (pos 0))
 tested c =
     c .closes .ensures
-    ∙ ap closes (as-read (getD (c .before .before .before .before .args .list .now) (c .before .before .before .loop .i) (pos 0)) (c .before .closes-arg .given))
+    ∙ ap closes (as-read (getD (c .before .before .before .before .args .rules .now) (c .before .before .before .loop .i) (pos 0)) (c .before .closes-arg .given))
 
 returns : tie.Need-returns Inv-loop μ-loop
 returns c =
-    let l = c .before .before .before .before .before .args .list .now in
+    let l = c .before .before .before .before .before .args .rules .now in
     let i = c .before .before .before .before .loop .i in
     omega (arith, length-closed l i (c .before .before .before .loop-test .taken) (sym (tested (c .before)) ∙ c .if1 .taken))
 
@@ -51,12 +51,12 @@ loop-less c = search needs
 
 loop-again : tie.Need-loop-again Inv-loop μ-loop
 loop-again c =
-    let l = c .before .before .before .before .before .args .list .now in
+    let l = c .before .before .before .before .before .args .rules .now in
     let i = c .before .before .before .before .loop .i in
     omega (arith, length-literal l i (c .before .before .before .loop-test .taken) (sym (tested (c .before)) ∙ c .if1 .left))
 
 returns-2 : tie.Need-returns-2 Inv-loop μ-loop
-returns-2 c = omega (arith, length-past (c .before .before .args .list .now) (c .before .loop .i) (c .loop-test .left))
+returns-2 c = omega (arith, length-past (c .before .before .args .rules .now) (c .before .loop .i) (c .loop-test .left))
 
 pub clause-end-spec : {M : Type 1} → statement M
 clause-end-spec =

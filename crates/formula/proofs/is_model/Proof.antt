@@ -12,10 +12,10 @@ use Rattle.formula.proofs.is_model.Statement.{statement}
 use Rattle.formula.proofs.is_model.Tie as tie
 
 abbrev Inv-loop : tie.InvT-loop
-Inv-loop list assignment from₀ from = models assignment (clauses list) ≡ models assignment (clauses (drop from list))
+Inv-loop rules assignment from₀ from = models assignment (clauses rules) ≡ models assignment (clauses (drop from rules))
 
 abbrev μ-loop : tie.MeasureT-loop
-μ-loop list assignment from₀ from = length list - from
+μ-loop rules assignment from₀ from = length rules - from
 
 loop-holds : tie.Need-loop-holds Inv-loop μ-loop
 loop-holds c = search needs
@@ -33,7 +33,7 @@ part-satisfied-by-start : tie.Need-part-satisfied-by-start Inv-loop μ-loop
 part-satisfied-by-start c = search needs
 
 part-satisfied-by-end : tie.Need-part-satisfied-by-end Inv-loop μ-loop
-part-satisfied-by-end c = end-inside (c .before .before .before .before .args .list .now) (c .before .before .loop .from) (c .clause-end .result) (omega arith) (c .clause-end .ensures)
+part-satisfied-by-end c = end-inside (c .before .before .before .before .args .rules .now) (c .before .before .loop .from) (c .clause-end .result) (omega arith) (c .clause-end .ensures)
 
 satisfied-by-requires : tie.Need-satisfied-by-requires Inv-loop μ-loop
 satisfied-by-requires c κs = search needs
@@ -42,15 +42,15 @@ satisfied-by-requires c κs = search needs
 abbrev rest : (c : tie.After-satisfied-by Inv-loop μ-loop) → Bool
 rest c =
     models (c .before .before .before .before .before .before .args .assignment .now)
-    (clauses (drop (c .before .before .clause-end .result + 1) (c .before .before .before .before .before .before .args .list .now)))
+    (clauses (drop (c .before .before .clause-end .result + 1) (c .before .before .before .before .before .before .args .rules .now)))
 
 step : (c : tie.After-satisfied-by Inv-loop μ-loop) (b : Bool) → c .satisfied-by .result ≡ b
-    → models (c .before .before .before .before .before .before .args .assignment .now) (clauses (c .before .before .before .before .before .before .args .list .now))
+    → models (c .before .before .before .before .before .before .args .assignment .now) (clauses (c .before .before .before .before .before .before .args .rules .now))
     ≡ b && rest c
 step c b q =
     let args = c .before .before .before .before .before .before .args in
     c .before .before .before .before .loop .inv
-    ∙ models-step (args .assignment .now) (args .list .now) (c .before .before .before .before .loop .from) (c .before .before .clause-end .result) (c .satisfied-by .result) (c .before .before .before .loop-test .taken) (c .before .before .clause-end .ensures) (c .satisfied-by .ensures)
+    ∙ models-step (args .assignment .now) (args .rules .now) (c .before .before .before .before .loop .from) (c .before .before .clause-end .result) (c .satisfied-by .result) (c .before .before .before .loop-test .taken) (c .before .before .clause-end .ensures) (c .satisfied-by .ensures)
     ∙ ap (λ (t : Bool). t && rest c) q
 
 returns : tie.Need-returns Inv-loop μ-loop
@@ -58,7 +58,7 @@ returns c = sym (step (c .before) false (not-true _ (c .if1 .taken)))
 
 add-from : tie.Need-add-from Inv-loop μ-loop
 add-from c =
-    let l = c .before .before .before .before .before .before .before .args .list .now in
+    let l = c .before .before .before .before .before .before .before .args .rules .now in
     omega (arith, end-inside l (c .before .before .before .before .before .loop .from) (c .before .before .before .clause-end .result) (omega arith) (c .before .before .before .clause-end .ensures))
 
 loop-less : tie.Need-loop-less Inv-loop μ-loop
@@ -68,7 +68,7 @@ loop-again : tie.Need-loop-again Inv-loop μ-loop
 loop-again c = step (c .before) true (not-false _ (c .if1 .left))
 
 returns-2 : tie.Need-returns-2 Inv-loop μ-loop
-returns-2 c = sym (c .before .loop .inv ∙ models-past (c .before .before .before .args .assignment .now) (c .before .before .before .args .list .now) (c .before .loop .from) (c .loop-test .left))
+returns-2 c = sym (c .before .loop .inv ∙ models-past (c .before .before .before .args .assignment .now) (c .before .before .before .args .rules .now) (c .before .loop .from) (c .loop-test .left))
 
 pub is-model-spec : {M : Type 1} → statement M
 is-model-spec =

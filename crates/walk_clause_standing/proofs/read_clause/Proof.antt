@@ -13,10 +13,10 @@ use Rattle.walk_clause_standing.proofs.read_clause.Statement.{statement
 use Rattle.walk_clause_standing.proofs.read_clause.Tie as tie
 
 abbrev Inv-loop : tie.InvT-loop
-Inv-loop list from assignment count₀ i₀ count i = Reads assignment list from i count
+Inv-loop rules from assignment count₀ i₀ count i = Reads assignment rules from i count
 
 abbrev μ-loop : tie.MeasureT-loop
-μ-loop list from assignment count₀ i₀ count i = length list - i
+μ-loop rules from assignment count₀ i₀ count i = length rules - i
 
 -- Points of the program: the entry; the loop's head; the number there tested for the closing 0; the literal tested for holding; and for being unassigned.
 abbrev entry : tie.At-loop Inv-loop μ-loop → tie.Start Inv-loop μ-loop
@@ -32,7 +32,7 @@ abbrev asked : tie.After-is-unassigned Inv-loop μ-loop → tie.After-holds-in I
 asked c = c .before .before .before
 
 loop-holds : tie.Need-loop-holds Inv-loop μ-loop
-loop-holds c = reads-start (c .before .args .assignment .now) (c .before .args .list .now) (c .before .args .from)
+loop-holds c = reads-start (c .before .args .assignment .now) (c .before .args .rules .now) (c .before .args .from)
 
 mul-closes : tie.Need-mul-closes Inv-loop μ-loop
 mul-closes c = search needs
@@ -44,17 +44,17 @@ closes-requires : tie.Need-closes-requires Inv-loop μ-loop
 closes-requires c κs = search needs
 
 -- the callees' answers are about the list's number
-number : (c : tie.After-closes Inv-loop μ-loop) → c .closes .result ≡ closes (getD (entry (head c) .args .list .now) (head c .loop .i) (pos 0))
+number : (c : tie.After-closes Inv-loop μ-loop) → c .closes .result ≡ closes (getD (entry (head c) .args .rules .now) (head c .loop .i) (pos 0))
 number c =
     c .closes .ensures
-    ∙ ap closes (as-read (getD (entry (head c) .args .list .now) (head c .loop .i) (pos 0)) (c .before .closes-arg .given))
+    ∙ ap closes (as-read (getD (entry (head c) .args .rules .now) (head c .loop .i) (pos 0)) (c .before .closes-arg .given))
 
 returns : tie.Need-returns Inv-loop μ-loop
 returns c =
     let now = c .before in
     let top = head now in
     let args = entry top .args in
-    reads-closed (args .assignment .now) (args .list .now) (args .from) (top .loop .i) (top .loop .count) (top .loop .inv) (now .before .before .loop-test .taken) (sym (number now) ∙ c .if1 .taken)
+    reads-closed (args .assignment .now) (args .rules .now) (args .from) (top .loop .i) (top .loop .count) (top .loop .inv) (now .before .before .loop-test .taken) (sym (number now) ∙ c .if1 .taken)
 
 mul-holds-in : tie.Need-mul-holds-in Inv-loop μ-loop
 mul-holds-in c = search needs
@@ -65,11 +65,11 @@ shared-slice-copy-out-holds-in c = search needs
 holds-in-requires : tie.Need-holds-in-requires Inv-loop μ-loop
 holds-in-requires c κs = search needs
 
-held : (c : tie.After-holds-in Inv-loop μ-loop) → c .holds-in .result ≡ holds (entry (head (told c)) .args .assignment .now) (getD (entry (head (told c)) .args .list .now) (head (told c) .loop .i) (pos 0))
+held : (c : tie.After-holds-in Inv-loop μ-loop) → c .holds-in .result ≡ holds (entry (head (told c)) .args .assignment .now) (getD (entry (head (told c)) .args .rules .now) (head (told c) .loop .i) (pos 0))
 held c =
     let top = head (told c) in
     let args = entry top .args in
-    c .holds-in .ensures ∙ ap (holds (args .assignment .now)) (as-read (getD (args .list .now) (top .loop .i) (pos 0)) (c .before .holds-in-arg .given))
+    c .holds-in .ensures ∙ ap (holds (args .assignment .now)) (as-read (getD (args .rules .now) (top .loop .i) (pos 0)) (c .before .holds-in-arg .given))
 
 returns-2 : tie.Need-returns-2 Inv-loop μ-loop
 returns-2 c =
@@ -77,7 +77,7 @@ returns-2 c =
     let now = told tested in
     let top = head now in
     let args = entry top .args in
-    reads-satisfied (args .assignment .now) (args .list .now) (args .from) (top .loop .i) (top .loop .count) (top .loop .inv) (now .before .before .loop-test .taken) (sym (number now) ∙ tested .before .before .if1 .left)
+    reads-satisfied (args .assignment .now) (args .rules .now) (args .from) (top .loop .i) (top .loop .count) (top .loop .inv) (now .before .before .loop-test .taken) (sym (number now) ∙ tested .before .before .if1 .left)
     (sym (held tested) ∙ c .if2 .taken)
 
 mul-is-unassigned : tie.Need-mul-is-unassigned Inv-loop μ-loop
@@ -90,11 +90,11 @@ is-unassigned-requires : tie.Need-is-unassigned-requires Inv-loop μ-loop
 is-unassigned-requires c κs = search needs
 
 free : (c : tie.After-is-unassigned Inv-loop μ-loop)
-    → c .is-unassigned .result ≡ isUnassigned (entry (head (told (asked c))) .args .assignment .now) (getD (entry (head (told (asked c))) .args .list .now) (head (told (asked c)) .loop .i) (pos 0))
+    → c .is-unassigned .result ≡ isUnassigned (entry (head (told (asked c))) .args .assignment .now) (getD (entry (head (told (asked c))) .args .rules .now) (head (told (asked c)) .loop .i) (pos 0))
 free c =
     let top = head (told (asked c)) in
     let args = entry top .args in
-    c .is-unassigned .ensures ∙ ap (isUnassigned (args .assignment .now)) (as-read (getD (args .list .now) (top .loop .i) (pos 0)) (c .before .is-unassigned-arg .given))
+    c .is-unassigned .ensures ∙ ap (isUnassigned (args .assignment .now)) (as-read (getD (args .rules .now) (top .loop .i) (pos 0)) (c .before .is-unassigned-arg .given))
 
 add-count : tie.Need-add-count Inv-loop μ-loop
 add-count c = search needs
@@ -113,7 +113,7 @@ loop-again c =
     let top = head now in
     let args = entry top .args in
     let a = args .assignment .now in
-    let l = args .list .now in
+    let l = args .rules .now in
     let inside = now .before .before .loop-test .taken in
     let literal = sym (number now) ∙ tested .before .before .if1 .left in
     let fails = sym (held tested) ∙ last-test .before .before .if2 .left in
@@ -126,7 +126,7 @@ returns-3 : tie.Need-returns-3 Inv-loop μ-loop
 returns-3 c =
     let top = c .before in
     let args = entry top .args in
-    reads-past (args .assignment .now) (args .list .now) (args .from) (top .loop .i) (top .loop .count) (top .loop .inv) (c .loop-test .left)
+    reads-past (args .assignment .now) (args .rules .now) (args .from) (top .loop .i) (top .loop .count) (top .loop .inv) (c .loop-test .left)
 
 pub read-clause-spec : {M : Type 1} → statement M
 read-clause-spec =

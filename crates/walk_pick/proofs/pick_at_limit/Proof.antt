@@ -26,8 +26,8 @@ abbrev alive : tie.After-best-branch-arg → tie.Else1
 alive c = c .before
 
 -- a sound list can be weighed with the lent numbers
-weighable : (c : tie.Start) → WeighableList (length (c .args .a .now)) (c .args .list .now) (c .args .weights .now)
-weighable c = sound-weighable (length (c .args .a .now)) (c .args .list .now) (c .args .weights .now) (c .pre .0) (c .pre .1 .0)
+weighable : (c : tie.Start) → WeighableList (length (c .args .a .now)) (c .args .rules .now) (c .args .weights .now)
+weighable c = sound-weighable (length (c .args .a .now)) (c .args .rules .now) (c .args .weights .now) (c .pre .0) (c .pre .1 .0)
 
 -- the weights that the weighing leaves
 module _ (c : tie.After-weigh-list) where
@@ -50,13 +50,13 @@ returns : tie.Need-returns
 returns c =
     let told = weighed (c .before) in
     let args = entry told .args in
-    (spent-dead (clauses (args .list .now)) (args .row .now) (args .a .now) (sym (told .weigh-list .ensures .1 .0) ∙ c .if1 .taken), told .weigh-list .ensures .0)
+    (spent-dead (clauses (args .rules .now)) (args .row .now) (args .a .now) (sym (told .weigh-list .ensures .1 .0) ∙ c .if1 .taken), told .weigh-list .ensures .0)
 
 best-branch-requires : tie.Need-best-branch-requires
 best-branch-requires c κs =
     let told = weighed (alive c .before) in
     let args = entry told .args in
-    totals-scorable (args .row .now) (args .a .now) none (args .list .now) (args .weights .now) (weights-then told) (weighable (entry told)) (weights-kept told) (told .weigh-list .ensures .1 .1 (alive c .if1 .left))
+    totals-scorable (args .row .now) (args .a .now) none (args .rules .now) (args .weights .now) (weights-then told) (weighable (entry told)) (weights-kept told) (told .weigh-list .ensures .1 .1 (alive c .if1 .left))
 
 same-length-3 : tie.Need-same-length-3
 same-length-3 c = search needs
@@ -70,7 +70,7 @@ returns-2 c =
     let args = entry told .args in
     let row = args .row .now in
     let a = args .a .now in
-    let f = clauses (args .list .now) in
+    let f = clauses (args .rules .now) in
     let left = alive (c .before) .if1 .left in
     let none-opposed = sym (told .weigh-list .ensures .1 .0) ∙ left in (
       c .best-branch .ensures

@@ -38,8 +38,8 @@ abbrev weighed : tie.After-slice-known6 → tie.After-weigh-list
 weighed c = c .before .before .before .before
 
 -- a sound list can be weighed with the lent numbers
-weighable : (c : tie.Start) → WeighableList (length (c .args .a .now)) (c .args .list .now) (c .args .weights .now)
-weighable c = sound-weighable (length (c .args .a .now)) (c .args .list .now) (c .args .weights .now) (c .pre .0 .1) (c .pre .1 .0)
+weighable : (c : tie.Start) → WeighableList (length (c .args .a .now)) (c .args .rules .now) (c .args .weights .now)
+weighable c = sound-weighable (length (c .args .a .now)) (c .args .rules .now) (c .args .weights .now) (c .pre .0 .1) (c .pre .1 .0)
 
 -- the weights that the weighing leaves; below the limit it does not stop
 module _ (c : tie.After-weigh-list) where
@@ -52,7 +52,7 @@ module _ (c : tie.After-weigh-list) where
   weights-kept : length weights-then ≡ length (start .args .weights .now)
   weights-kept = c .weigh-list .kept .1 .1 .1 .1 .1 .1 .1 .0
 
-  totals : Totals (start .args .row .now) (start .args .a .now) (sizeOf (sized c .fewest-opposed .result)) (clauses (start .args .list .now)) weights-then
+  totals : Totals (start .args .row .now) (start .args .a .now) (sizeOf (sized c .fewest-opposed .result)) (clauses (start .args .rules .now)) weights-then
   totals = c .weigh-list .ensures .1 .1 (c .weigh-list .ensures .1 .0)
 
 pick-at-limit-requires : tie.Need-pick-at-limit-requires
@@ -70,7 +70,7 @@ returns c =
     let s = entry (limit .before) in
     let args = s .args in
     let told = decided c .pick-at-limit in
-    (told .ensures .0 ∙ pick-spent (clauses (args .list .now)) (args .row .now) (args .d) (args .a .now) (args .broken) (s .pre .0 .0) (limit .if1 .taken), told .ensures .1)
+    (told .ensures .0 ∙ pick-spent (clauses (args .rules .now)) (args .row .now) (args .d) (args .a .now) (args .broken) (s .pre .0 .0) (limit .if1 .taken), told .ensures .1)
 
 fewest-opposed-requires : tie.Need-fewest-opposed-requires
 fewest-opposed-requires c κs = search needs
@@ -82,7 +82,7 @@ best-branch-requires : tie.Need-best-branch-requires
 best-branch-requires c κs =
     let told = weighed (c .before) in
     let args = start told .args in
-    totals-scorable (args .row .now) (args .a .now) (sizeOf (sized told .fewest-opposed .result)) (args .list .now) (args .weights .now) (weights-then told) (weighable (start told)) (weights-kept told) (totals told)
+    totals-scorable (args .row .now) (args .a .now) (sizeOf (sized told .fewest-opposed .result)) (args .rules .now) (args .weights .now) (weights-then told) (weighable (start told)) (weights-kept told) (totals told)
 
 same-length-3 : tie.Need-same-length-3
 same-length-3 c = search needs
@@ -97,7 +97,7 @@ returns-2 c =
     let args = s .args in
     let row = args .row .now in
     let a = args .a .now in
-    let f = clauses (args .list .now) in
+    let f = clauses (args .rules .now) in
     let found = sized told .fewest-opposed in (
       c .best-branch .ensures
           ∙ ap (branchOn row (sizeOf (found .result))) (totals-branch row a (sizeOf (found .result)) f (weights-then told) (totals told) (found .ensures))

@@ -56,7 +56,7 @@ module _ (c : tie.After-settle-root) where
   n = length (entry c .args .a .now)
 
   abbrev f : List (List ℤ)
-  f = clauses (entry c .args .list .now)
+  f = clauses (entry c .args .rules .now)
 
   told-as : (r : Propagated) → c .settle-root .result ≡ r → SettledRoot n f (entry c .args .row .now) (entry c .args .d) (entry c .args .trail .now) (there c) (trail c) r
   told-as r e = subst (SettledRoot n f (entry c .args .row .now) (entry c .args .d) (entry c .args .trail .now) (there c) (trail c)) e (c .settle-root .ensures)
@@ -85,7 +85,7 @@ attempt-requires c κs =
     let at = trying c in
     let call = entry (settled at) in
     let s = told at .2 .searching in
-    let quiet = root-quiet (n (settled at)) (call .args .list .now) (call .pre .1 .sound) (call .args .row .now) (call .args .d) (told at) in
+    let quiet = root-quiet (n (settled at)) (call .args .rules .now) (call .pre .1 .sound) (call .args .row .now) (call .args .d) (told at) in
     (long-searching s, (ready-still (s .state .size) (call .pre .1 .witnessed) refl (call .pre .1), quiet-covers (f (settled at)) s quiet))
 
 same-length : tie.Need-same-length
@@ -97,7 +97,7 @@ same-length-2 c = search needs
 returns : tie.Need-returns
 returns c =
     let call = entry (dead c) in
-    (walk-dead (n (dead c)) (call .args .list .now) (call .pre .1 .sound) (call .args .row .now) (call .args .d) (told-as (dead c) _ (c .enum-told .given .1)) (there (dead c)), call .pre .1 .witnessed)
+    (walk-dead (n (dead c)) (call .args .rules .now) (call .pre .1 .sound) (call .args .row .now) (call .args .d) (told-as (dead c) _ (c .enum-told .given .1)) (there (dead c)), call .pre .1 .witnessed)
 
 same-length-3 : tie.Need-same-length-3
 same-length-3 c = search needs
@@ -116,7 +116,7 @@ returns-2 c =
     let at = tried c in
     let call = entry (settled (alive at)) in
     let said = at .attempt .ensures in (
-      walk-settled (n (settled (alive at))) (call .args .list .now) (call .pre .1 .sound) (call .args .row .now) (call .args .d) (told (alive at)) _ _ _ _ (last at) (at .attempt .result) (said .0),
+      walk-settled (n (settled (alive at))) (call .args .rules .now) (call .pre .1 .sound) (call .args .row .now) (call .args .d) (told (alive at)) _ _ _ _ (last at) (at .attempt .result) (said .0),
       said .1,
     )
 

@@ -14,7 +14,7 @@ use Rattle.walk_witnesses.proofs.is_witnessed.Tie as tie
 abbrev k : tie.Start → ℕ
 k c = c .args .number .0 - 1
 
-inside : (c : tie.Start) → getD (c .args .witnesses .now) (k c) 0 < length (c .args .list .now)
+inside : (c : tie.Start) → getD (c .args .witnesses .now) (k c) 0 < length (c .args .rules .now)
 inside c = c .pre .0 .inside (k c) (omega (arith, c .pre .1, c .pre .2))
 
 sub-k : tie.Need-sub-k
@@ -46,7 +46,7 @@ returns : tie.Need-returns
 returns c =
     let call = c .before .before .before .before .before .before in
     let args = call .args in
-    c .holds-in .ensures ∙ ap (holds (args .assignment .now)) (as-read (getD (args .list .now) (getD (args .witnesses .now) (k call) 0) (pos 0)) (c .before .holds-in-arg .given))
+    c .holds-in .ensures ∙ ap (holds (args .assignment .now)) (as-read (getD (args .rules .now) (getD (args .witnesses .now) (k call) 0) (pos 0)) (c .before .holds-in-arg .given))
 
 pub is-witnessed-spec : {M : Type 1} → statement M
 is-witnessed-spec =

@@ -12,11 +12,11 @@ use Rattle.nearest_core_scan.proofs.scan.find_cores.Statement.{statemen
 use Rattle.nearest_core_scan.proofs.scan.find_cores.Tie as tie
 
 abbrev Inv-loop : tie.InvT-loop
-Inv-loop list arrangement row tally a₀ trail₀ taken₀ assumed₀ progress₀ i₀ a trail taken assumed progress i =
-    Going list arrangement row tally a₀ trail₀ i progress a trail taken assumed × (length assumed ≡ length assumed₀)
+Inv-loop rules arrangement row tally a₀ trail₀ taken₀ assumed₀ progress₀ i₀ a trail taken assumed progress i =
+    Going rules arrangement row tally a₀ trail₀ i progress a trail taken assumed × (length assumed ≡ length assumed₀)
 
 abbrev μ-loop : tie.MeasureT-loop
-μ-loop list arrangement row tally a₀ trail₀ taken₀ assumed₀ progress₀ i₀ a trail taken assumed progress i = length a - i
+μ-loop rules arrangement row tally a₀ trail₀ taken₀ assumed₀ progress₀ i₀ a trail taken assumed progress i = length a - i
 
 -- The points of the program: the call; what is assigned is taken; the head of a turn; a wish is scanned; past the loop; the values set back.
 abbrev call : tie.After-take-assigned Inv-loop μ-loop → tie.Start Inv-loop μ-loop

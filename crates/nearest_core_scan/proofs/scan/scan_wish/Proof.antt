@@ -83,7 +83,7 @@ module _ (c : Assumed) where
   start = call (tested c)
 
   said : (r : Propagated) → c .assume .result ≡ r
-      → AssumedBy (length (start .args .a .now)) (clauses (start .args .list .now)) (start .args .row .now) (start .args .v .0) (start .args .progress .tally)
+      → AssumedBy (length (start .args .a .now)) (clauses (start .args .rules .now)) (start .args .row .now) (start .args .v .0) (start .args .progress .tally)
       (start .args .a .now) (start .args .trail .now) (c .assume .last .1 .1 .1 .1 .1 .0) (c .assume .last .1 .1 .1 .1 .1 .1 .0) r
   said r e = rw (sym e) (c .assume .ensures)
 

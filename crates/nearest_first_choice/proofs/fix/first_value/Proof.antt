@@ -79,7 +79,7 @@ returns-2 c =
     let call = on (asked (found c)) in
     let given = call .pre .0 in
     let n = length (call .args .a .now) in
-    let f = clauses (call .args .list .now) in
+    let f = clauses (call .args .rules .now) in
     let u : ℕ = call .args .i + 1 in
     let refined : Refining n f (call .args .row .now) (call .args .d) u (assign (call .args .a .now) u (valueAfter (decided .answer))) (handAfter (call .args .choice .now) (decided .answer))
     = refining-searched (given .0 .fixed .refining) u refl (omega (arith, given .1)) (given .2) (decided .answer) (decided .right) in (

@@ -62,12 +62,12 @@ module _ (c : tie.After-first-value) where
   n = length (call .args .a .now)
 
   abbrev f : List (List ℤ)
-  f = clauses (call .args .list .now)
+  f = clauses (call .args .rules .now)
 
   abbrev choice : List ℕ
   choice = c .first-value .last .1 .1 .1 .1 .1 .1 .1 .1 .1 .1 .0
 
-  fixed : Fixed (call .args .list .now) (call .args .row .now) (call .args .d) (call .args .i) (call .args .tally) (call .args .a .now) (call .args .trail .now) (call .args .choice .now)
+  fixed : Fixed (call .args .rules .now) (call .args .row .now) (call .args .d) (call .args .i) (call .args .tally) (call .args .a .now) (call .args .trail .now) (call .args .choice .now)
   fixed = call .pre .0 .0 .fixed
 
   forks : Forks n f (call .args .row .now) (call .args .a .now) (call .args .trail .now) (call .args .tally) (call .args .i + 1) (c .first-value .result)

@@ -51,7 +51,7 @@ module _ (c : tie.Start) where
   n = length (c .args .a .now)
 
   abbrev f : List (List ℤ)
-  f = clauses (c .args .list .now)
+  f = clauses (c .args .rules .now)
 
   forks : Forks n f (c .args .row .now) (c .args .a .now) (c .args .trail .now) (c .args .tally) (c .args .v .0) 0
   forks = record { state = c .pre .0 .0; branch = c .pre .0 .1; bit = lit< tt; quiet = c .pre .0 .2 }

@@ -89,7 +89,7 @@ module _ (c : tie.After-no-trail) where
   n = length (call .args .a .now)
 
   abbrev f : List (List ℤ)
-  f = clauses (call .args .list .now)
+  f = clauses (call .args .rules .now)
 
   abbrev first-space : List ℕ
   first-space = c .before .before .no-values .result
@@ -152,7 +152,7 @@ module _ (c : tie.After-copy-numbers) where
   abbrev Asks : List ℕ → List ℕ → Type 0
   Asks a trail =
       (Searching (length a) (given .args .row .now) a trail (given .args .tally .settled) (given .args .tally .broken) × Branches a (length a) (given .args .v .0) × NoneDue (f made) a)
-      × Ready (given .args .list .now) (given .args .arrangement .now) (given .args .witnesses .now) (length a) (length (given .args .weights .now))
+      × Ready (given .args .rules .now) (given .args .arrangement .now) (given .args .witnesses .now) (length a) (length (given .args .weights .now))
 
 -- after the search
 module _ (c : tie.After-search-off) where
@@ -191,7 +191,7 @@ module _ (c : tie.After-search-off) where
 
   right : Right (n space) (f space) (state .args .row .now) (state .args .d) from (reached .answer)
   right =
-      search-right (n space) (f space) (sound-fits (n space) (state .args .list .now) (state .pre .1 .0 .sound)) (state .args .row .now) (guide start) (guides start) (state .args .d) from
+      search-right (n space) (f space) (sound-fits (n space) (state .args .rules .now) (state .pre .1 .0 .sound)) (state .args .row .now) (guide start) (guides start) (state .args .d) from
       (branch-state (state .pre .0 .0 .state) (state .args .v .0) 0 (lit< tt))
 
   -- the choice is as long as the answer

@@ -53,7 +53,7 @@ returns c =
     let first = refined-choice done in
     sym
     (ap (λ (o : Option (List _)). choiceAfter none (withBroken (args .row .now) o) n (args .choice .now))
-    (first-within n (args .list .now) (args .row .now) (args .d) first .1 (done .refine .ensures)))
+    (first-within n (args .rules .now) (args .row .now) (args .d) first .1 (done .refine .ensures)))
 
 pub make-first-spec : {M : Type 1} → statement M
 make-first-spec =

@@ -15,12 +15,12 @@ use Rattle.nearest_first_choice.proofs.refine.refine.Statement.{stateme
 use Rattle.nearest_first_choice.proofs.refine.refine.Tie as tie
 
 abbrev Inv-loop : tie.InvT-loop
-Inv-loop list arrangement row d a₀ trail₀ witnesses₀ weights₀ choice₀ tally₀ i₀ a trail witnesses weights choice tally i =
+Inv-loop rules arrangement row d a₀ trail₀ witnesses₀ weights₀ choice₀ tally₀ i₀ a trail witnesses weights choice tally i =
     (i ≤ length a₀) × (length a ≡ length a₀) × (length trail ≡ length trail₀) × (length witnesses ≡ length witnesses₀) × (length weights ≡ length weights₀) × (length choice ≡ length choice₀)
-    × Fixing list row d i tally a trail choice × Ready list arrangement witnesses (length a) (length weights)
+    × Fixing rules row d i tally a trail choice × Ready rules arrangement witnesses (length a) (length weights)
 
 abbrev μ-loop : tie.MeasureT-loop
-μ-loop list arrangement row d a₀ trail₀ witnesses₀ weights₀ choice₀ tally₀ i₀ a trail witnesses weights choice tally i = length a₀ - i
+μ-loop rules arrangement row d a₀ trail₀ witnesses₀ weights₀ choice₀ tally₀ i₀ a trail witnesses weights choice tally i = length a₀ - i
 
 -- The points of the program: the call; the root settled; the head of a turn; its test passed; a variable fixed; and past the loop.
 abbrev call : tie.After-settle-first Inv-loop μ-loop → tie.Start Inv-loop μ-loop
@@ -50,8 +50,8 @@ settled-a c = c .settle-first .last .1 .1 .1 .1 .0
 
 -- no variable is fixed yet
 unfixed : (c : tie.Start Inv-loop μ-loop)
-    → Refining (length (c .args .a .now)) (clauses (c .args .list .now)) (c .args .row .now) (c .args .d) 0 (replicate (length (c .args .a .now)) 2) (c .args .choice .now)
-unfixed c = refining-start (length (c .args .a .now)) (clauses (c .args .list .now)) (c .args .row .now) (c .args .d) (c .args .choice .now) (c .pre .1 .0) (c .pre .1 .1)
+    → Refining (length (c .args .a .now)) (clauses (c .args .rules .now)) (c .args .row .now) (c .args .d) 0 (replicate (length (c .args .a .now)) 2) (c .args .choice .now)
+unfixed c = refining-start (length (c .args .a .now)) (clauses (c .args .rules .now)) (c .args .row .now) (c .args .d) (c .args .choice .now) (c .pre .1 .0) (c .pre .1 .1)
 
 -- as many variables as before
 still : (c : tie.After-settle-first Inv-loop μ-loop) → length (settled-a c) ≡ length (call c .args .a .now)
@@ -129,7 +129,7 @@ returns c =
     let root = rooted (c .before) in
     let args = call root .args in
     let inv = head .inv in
-    subst (λ (k : ℕ). FirstWithin k (clauses (args .list .now)) (args .row .now) (args .d) (head .choice)) (inv .1 ∙ still root)
+    subst (λ (k : ℕ). FirstWithin k (clauses (args .rules .now)) (args .row .now) (args .d) (head .choice)) (inv .1 ∙ still root)
     (refining-end (inv .6 .fixed .refining) (omega (arith, inv .0, inv .1, c .loop-test .left)))
 
 pub refine-spec : {M : Type 1} → statement M

@@ -41,7 +41,7 @@ module _ (c : tie.After-propagate-units) where
   n = length (call .args .a .now)
 
   abbrev f : List (List ℤ)
-  f = clauses (call .args .list .now)
+  f = clauses (call .args .rules .now)
 
   abbrev a : List ℕ
   a = c .propagate-units .last .1 .1 .1 .1 .1 .1 .0

@@ -32,9 +32,9 @@ settled-trail c = c .settle-root .last .1 .1 .1 .1 .1 .0
 
 -- what propagation came to
 told-as : (c : tie.After-settle-root) (r : Propagated) → c .settle-root .result ≡ r
-    → SettledRoot (length (call c .args .a .now)) (clauses (call c .args .list .now)) (call c .args .row .now) (call c .args .d) (call c .args .trail .now) (settled-a c) (settled-trail c) r
+    → SettledRoot (length (call c .args .a .now)) (clauses (call c .args .rules .now)) (call c .args .row .now) (call c .args .d) (call c .args .trail .now) (settled-a c) (settled-trail c) r
 told-as c r e =
-    subst (SettledRoot (length (call c .args .a .now)) (clauses (call c .args .list .now)) (call c .args .row .now) (call c .args .d) (call c .args .trail .now) (settled-a c) (settled-trail c)) e (c .settle-root .ensures)
+    subst (SettledRoot (length (call c .args .a .now)) (clauses (call c .args .rules .now)) (call c .args .row .now) (call c .args .d) (call c .args .trail .now) (settled-a c) (settled-trail c)) e (c .settle-root .ensures)
 
 settle-root-requires : tie.Need-settle-root-requires
 settle-root-requires c κs = search needs

@@ -64,13 +64,13 @@ module _ (c : tie.After-narrow-on) where
   last-order-kept = c .narrow-on .kept .1 .1 .1 .1 .1 .1 .1 .0
 
 -- the state as it was lent
-start : (s : tie.Start) → Narrowing (length (s .args .a .now)) (clauses (s .args .list .now)) (s .args .row .now) (s .args .d) (s .args .tally) (s .args .a .now) (s .args .trail .now) (s .args .from) (s .args .tally) (s .args .a .now) (s .args .trail .now)
-start s = narrowing-start (clauses (s .args .list .now)) (s .args .d) (s .pre .0 .looking .searching) (s .pre .1) (s .pre .2)
+start : (s : tie.Start) → Narrowing (length (s .args .a .now)) (clauses (s .args .rules .now)) (s .args .row .now) (s .args .d) (s .args .tally) (s .args .a .now) (s .args .trail .now) (s .args .from) (s .args .tally) (s .args .a .now) (s .args .trail .now)
+start s = narrowing-start (clauses (s .args .rules .now)) (s .args .d) (s .pre .0 .looking .searching) (s .pre .1) (s .pre .2)
 
 -- what the first round came to
 module _ (c : tie.After-narrow-round) where
   abbrev Says : Round → Type 0
-  Says = RoundBy (length (call c .args .a .now)) (clauses (call c .args .list .now)) (call c .args .row .now) (call c .args .d) (call c .args .tally) (call c .args .a .now) (call c .args .trail .now) (values c) (order c)
+  Says = RoundBy (length (call c .args .a .now)) (clauses (call c .args .rules .now)) (call c .args .row .now) (call c .args .d) (call c .args .tally) (call c .args .a .now) (call c .args .trail .now) (values c) (order c)
 
   said : (r : Round) → c .narrow-round .result ≡ r → Says r
   said r e = subst Says e (c .narrow-round .ensures)
@@ -80,7 +80,7 @@ module _ (c : tie.After-known-told3) where
   abbrev s : tie.Start
   s = call (going c)
 
-  kept : Narrowing (length (s .args .a .now)) (clauses (s .args .list .now)) (s .args .row .now) (s .args .d) (s .args .tally) (s .args .a .now) (s .args .trail .now) (c .before .place .given .0 .0) (c .before .place .given .0 .1 .0) (values (going c)) (order (going c))
+  kept : Narrowing (length (s .args .a .now)) (clauses (s .args .rules .now)) (s .args .row .now) (s .args .d) (s .args .tally) (s .args .a .now) (s .args .trail .now) (c .before .place .given .0 .0) (c .before .place .given .0 .1 .0) (values (going c)) (order (going c))
   kept = narrowing-next (start s) (said (going c) (Kept (c .before .place .given .0 .0) (c .before .place .given .0 .1 .0)) (c .before .place .given .1))
 
 narrow-round-requires : tie.Need-narrow-round-requires
@@ -134,7 +134,7 @@ returns-3 c =
     let went = on (told .before) in
     let args = s went .args in
     narrowing-on (kept went) (last-values told) (last-order told) (told .narrow-on .result)
-    (subst (λ (n : ℕ). ComesTo n (args .row .now) (narrowOf (clauses (args .list .now)) (args .row .now) (args .d) (values (going went))) (went .before .place .given .0 .1 .0) (values (going went)) (order (going went)) (last-values told) (last-order told) (told .narrow-on .result))
+    (subst (λ (n : ℕ). ComesTo n (args .row .now) (narrowOf (clauses (args .rules .now)) (args .row .now) (args .d) (values (going went))) (went .before .place .given .0 .1 .0) (values (going went)) (order (going went)) (last-values told) (last-order told) (told .narrow-on .result))
     (values-kept (going went)) (told .narrow-on .ensures))
 
 pub narrow-spec : {M : Type 1} → statement M

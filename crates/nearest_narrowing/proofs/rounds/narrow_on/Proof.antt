@@ -15,11 +15,11 @@ use Rattle.nearest_narrowing.proofs.rounds.narrow_on.Statement.{stateme
 use Rattle.nearest_narrowing.proofs.rounds.narrow_on.Tie as tie
 
 abbrev Inv-loop : tie.InvT-loop
-Inv-loop list arrangement row d from a₀ trail₀ present₀ head₀ a trail present head = Narrowing (length a₀) (clauses list) row d present₀ a₀ trail₀ head present a trail
+Inv-loop rules arrangement row d from a₀ trail₀ present₀ head₀ a trail present head = Narrowing (length a₀) (clauses rules) row d present₀ a₀ trail₀ head present a trail
 
 -- what is unassigned
 abbrev μ-loop : tie.MeasureT-loop
-μ-loop list arrangement row d from a₀ trail₀ present₀ head₀ a trail present head = length a₀ - present .settled
+μ-loop rules arrangement row d from a₀ trail₀ present₀ head₀ a trail present head = length a₀ - present .settled
 
 -- The points of the program: the call; the head of a turn; after a round; and with a dead end, narrowed, or with wishes kept.
 abbrev Turn : Type 0
@@ -68,18 +68,18 @@ module _ (c : Rounded) where
   trail-still = c .narrow-round .kept .1 .1 .1 .1 .1 .1 .1 .0 ∙ trail-long (turn c)
 
   said : (r : Round) → c .narrow-round .result ≡ r
-      → RoundBy (length (call (turn c) .args .a .now)) (clauses (call (turn c) .args .list .now)) (call (turn c) .args .row .now) (call (turn c) .args .d) (turn c .loop .present) (turn c .loop .a) (turn c .loop .trail) values order r
+      → RoundBy (length (call (turn c) .args .a .now)) (clauses (call (turn c) .args .rules .now)) (call (turn c) .args .row .now) (call (turn c) .args .d) (turn c .loop .present) (turn c .loop .a) (turn c .loop .trail) values order r
   said r e =
       let args = call (turn c) .args in
       let now = turn c .loop in
-      subst (λ (n : ℕ). RoundBy n (clauses (args .list .now)) (args .row .now) (args .d) (now .present) (now .a) (now .trail) values order r) (a-long (turn c))
-      (subst (λ (q : Round). RoundBy (length (now .a)) (clauses (args .list .now)) (args .row .now) (args .d) (now .present) (now .a) (now .trail) values order q) e (c .narrow-round .ensures))
+      subst (λ (n : ℕ). RoundBy n (clauses (args .rules .now)) (args .row .now) (args .d) (now .present) (now .a) (now .trail) values order r) (a-long (turn c))
+      (subst (λ (q : Round). RoundBy (length (now .a)) (clauses (args .rules .now)) (args .row .now) (args .d) (now .present) (now .a) (now .trail) values order q) e (c .narrow-round .ensures))
 
 loop-holds : tie.Need-loop-holds Inv-loop μ-loop
 loop-holds c =
     let call = begun c in
     let pre = call .pre in
-    narrowing-start (clauses (call .args .list .now)) (call .args .d) (pre .0 .looking .searching) (pre .1) (pre .2)
+    narrowing-start (clauses (call .args .rules .now)) (call .args .d) (pre .0 .looking .searching) (pre .1) (pre .2)
 
 narrow-round-requires : tie.Need-narrow-round-requires Inv-loop μ-loop
 narrow-round-requires c κs =
@@ -120,7 +120,7 @@ enum-known-place c = search needs
 
 -- wishes were kept
 kept : (c : tie.After-known-told3 Inv-loop μ-loop)
-    → RoundBy (length (call (turn (going c)) .args .a .now)) (clauses (call (turn (going c)) .args .list .now)) (call (turn (going c)) .args .row .now) (call (turn (going c)) .args .d)
+    → RoundBy (length (call (turn (going c)) .args .a .now)) (clauses (call (turn (going c)) .args .rules .now)) (call (turn (going c)) .args .row .now) (call (turn (going c)) .args .d)
     (turn (going c) .loop .present) (turn (going c) .loop .a) (turn (going c) .loop .trail) (values (going c)) (order (going c)) (Kept (c .before .place .given .0 .0) (c .before .place .given .0 .1 .0))
 kept c = said (going c) (Kept (c .before .place .given .0 .0) (c .before .place .given .0 .1 .0)) (c .before .place .given .1)
 

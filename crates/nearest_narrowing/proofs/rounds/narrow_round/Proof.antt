@@ -72,7 +72,7 @@ module _ (c : tie.Start) where
   n = length (c .args .a .now)
 
   abbrev f : List (List ℤ)
-  f = clauses (c .args .list .now)
+  f = clauses (c .args .rules .now)
 
   given : Searching n (c .args .row .now) (c .args .a .now) (c .args .trail .now) (c .args .tally .settled) (c .args .tally .broken)
   given = c .pre .0 .looking .searching

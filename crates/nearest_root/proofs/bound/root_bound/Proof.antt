@@ -61,8 +61,8 @@ module _ (c : tie.After-known-told) where
   abbrev tally : Tally
   tally = c .before .t .given .0 .0
 
-  told : SettledRoot n (clauses (call .args .list .now)) (call .args .row .now) noLimit (call .args .trail .now) (there (settled c)) (trail (settled c)) (Settled tally)
-  told = subst (SettledRoot n (clauses (call .args .list .now)) (call .args .row .now) noLimit (call .args .trail .now) (there (settled c)) (trail (settled c))) (c .before .t .given .1) (settled c .settle-root .ensures)
+  told : SettledRoot n (clauses (call .args .rules .now)) (call .args .row .now) noLimit (call .args .trail .now) (there (settled c)) (trail (settled c)) (Settled tally)
+  told = subst (SettledRoot n (clauses (call .args .rules .now)) (call .args .row .now) noLimit (call .args .trail .now) (there (settled c)) (trail (settled c))) (c .before .t .given .1) (settled c .settle-root .ensures)
 
   size : length (there (settled c)) ≡ n
   size = told .2 .searching .state .size
@@ -98,7 +98,7 @@ find-cores-requires : tie.Need-find-cores-requires
 find-cores-requires c κs =
     let at = with-assumed c in
     let given = call at .pre in
-    let quiet = root-quiet (n at) (call at .args .list .now) (given .1) (call at .args .row .now) noLimit (told at) in
+    let quiet = root-quiet (n at) (call at .args .rules .now) (given .1) (call at .args .row .now) noLimit (told at) in
     ((following (given .0) (given .1) (given .2) (told at .2 .searching), quiet), (taken-long at ∙ sym (size at), omega (arith, size at, given .0, wishes (settled at) .no-assumed .ensures)))
 
 same-length : tie.Need-same-length
@@ -120,7 +120,7 @@ returns-2 : tie.Need-returns-2
 returns-2 c = λ x m.
     let at = alive (bounded c) in
     let given = call at in
-    omega (arith, bounded c .find-cores .ensures .0, root-bounded (n at) (given .args .list .now) (given .pre .1) (given .args .row .now) noLimit (told at) x m)
+    omega (arith, bounded c .find-cores .ensures .0, root-bounded (n at) (given .args .rules .now) (given .pre .1) (given .args .row .now) noLimit (told at) x m)
 
 pub root-bound-spec : {M : Type 1} → statement M
 root-bound-spec =

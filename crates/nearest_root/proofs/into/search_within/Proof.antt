@@ -88,7 +88,7 @@ write-guide-requires : tie.Need-write-guide-requires
 write-guide-requires c κs =
     let call = entry (made c) in
     let given = call .pre .1 in
-    (omega (arith, guide-long (made c), given .0), λ i h. front-bytes (n (made c)) (clauses (call .args .list .now)) (call .args .choice .now) (given .1) i (omega (arith, guide-long (made c))))
+    (omega (arith, guide-long (made c), given .0), λ i h. front-bytes (n (made c)) (clauses (call .args .rules .now)) (call .args .choice .now) (given .1) i (omega (arith, guide-long (made c))))
 
 array-share-prefix-guide : tie.Need-array-share-prefix-guide
 array-share-prefix-guide c = omega (arith, length-append (written (guided c)) (rest (guided c)), size (guided c))
@@ -135,7 +135,7 @@ returns c =
     let at = found (told end) in
     let args = entry (table (begun at)) .args in
     let said = at .search-from-root .ensures in
-    (within-found (n (table (begun at))) (clauses (args .list .now)) (args .row .now) (args .d) (args .choice .now) (last at) _ (at .search-from-root .result) (told end .enum-told .given .1) (said .0) (end .copy-to .ensures), said .1)
+    (within-found (n (table (begun at))) (clauses (args .rules .now)) (args .row .now) (args .d) (args .choice .now) (last at) _ (at .search-from-root .result) (told end .enum-told .given .1) (said .0) (end .copy-to .ensures), said .1)
 
 same-length-6 : tie.Need-same-length-6
 same-length-6 c = search needs
@@ -157,7 +157,7 @@ returns-2 c =
     let at = nothing c in
     let args = entry (table (begun at)) .args in
     let said = at .search-from-root .ensures in
-    (within-nothing (n (table (begun at))) (clauses (args .list .now)) (args .row .now) (args .d) (args .choice .now) (last at) (at .search-from-root .result) (c .enum-told2 .given .1) (said .0), said .1)
+    (within-nothing (n (table (begun at))) (clauses (args .rules .now)) (args .row .now) (args .d) (args .choice .now) (last at) (at .search-from-root .result) (c .enum-told2 .given .1) (said .0), said .1)
 
 pub search-within-spec : {M : Type 1} → statement M
 search-within-spec =

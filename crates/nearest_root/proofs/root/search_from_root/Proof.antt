@@ -54,7 +54,7 @@ module _ (c : tie.After-settle-root) where
   n = length (entry c .args .a .now)
 
   abbrev f : List (List ℤ)
-  f = clauses (entry c .args .list .now)
+  f = clauses (entry c .args .rules .now)
 
   told-as : (r : Propagated) → c .settle-root .result ≡ r → SettledRoot n f (entry c .args .row .now) (entry c .args .d) (entry c .args .trail .now) (there c) (trail c) r
   told-as r e = subst (SettledRoot n f (entry c .args .row .now) (entry c .args .d) (entry c .args .trail .now) (there c) (trail c)) e (c .settle-root .ensures)
@@ -82,7 +82,7 @@ attempt-requires c κs =
     let call = entry (settled at) in
     let ready = call .pre .0 .1 in
     let s = told at .2 .searching in
-    let quiet = root-quiet (n (settled at)) (call .args .list .now) (ready .sound) (call .args .row .now) (call .args .d) (told at) in
+    let quiet = root-quiet (n (settled at)) (call .args .rules .now) (ready .sound) (call .args .row .now) (call .args .d) (told at) in
     (long-searching s, (ready-still (s .state .size) (ready .witnessed) refl ready, (omega arith, quiet-covers (f (settled at)) (there (settled at)) (trail (settled at)) (tally at) quiet)))
 
 same-length : tie.Need-same-length
@@ -94,7 +94,7 @@ same-length-2 c = search needs
 returns : tie.Need-returns
 returns c =
     let call = entry (dead c) in
-    (root-dead (n (dead c)) (call .args .list .now) (call .pre .0 .1 .sound) (call .args .row .now) (call .args .d) (told-as (dead c) _ (c .enum-told .given .1)), call .pre .0 .1 .witnessed)
+    (root-dead (n (dead c)) (call .args .rules .now) (call .pre .0 .1 .sound) (call .args .row .now) (call .args .d) (told-as (dead c) _ (c .enum-told .given .1)), call .pre .0 .1 .witnessed)
 
 same-length-3 : tie.Need-same-length-3
 same-length-3 c = search needs
@@ -113,7 +113,7 @@ returns-2 c =
     let at = tried c in
     let call = entry (settled (alive at)) in
     let said = at .attempt .ensures in (
-      root-tried (n (settled (alive at))) (call .args .list .now) (call .pre .0 .1 .sound) (call .args .row .now) (call .args .d) (told (alive at)) (call .pre .1) _ _ _ _ (last at) (at .attempt .result) (said .0),
+      root-tried (n (settled (alive at))) (call .args .rules .now) (call .pre .0 .1 .sound) (call .args .row .now) (call .args .d) (told (alive at)) (call .pre .1) _ _ _ _ (last at) (at .attempt .result) (said .0),
       said .1,
     )
 

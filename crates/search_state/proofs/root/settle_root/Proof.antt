@@ -46,7 +46,7 @@ returns c =
     let start = cleared (settled c) in
     let call = entry start in
     let n = length (call .args .a .now) in
-    settled-root n (call .args .list .now) (call .pre .1) (call .args .row .now) (call .args .d) (unassigned start) (call .args .trail .now) _ _ (settled c .propagate-all .result) (start .unassign-all .kept .0)
+    settled-root n (call .args .rules .now) (call .pre .1) (call .args .row .now) (call .args .d) (unassigned start) (call .args .trail .now) _ _ (settled c .propagate-all .result) (start .unassign-all .kept .0)
     (start .unassign-all .ensures) (settled c .propagate-all .ensures)
 
 pub settle-root-spec : {M : Type 1} → statement M

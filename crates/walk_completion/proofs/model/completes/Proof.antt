@@ -15,10 +15,10 @@ use Rattle.walk_completion.proofs.model.completes.Statement.{statement}
 use Rattle.walk_completion.proofs.model.completes.Tie as tie
 
 abbrev Inv-loop : tie.InvT-loop
-Inv-loop list row assignment from₀ from = models (complete row assignment) (clauses list) ≡ models (complete row assignment) (clauses (drop from list))
+Inv-loop rules row assignment from₀ from = models (complete row assignment) (clauses rules) ≡ models (complete row assignment) (clauses (drop from rules))
 
 abbrev μ-loop : tie.MeasureT-loop
-μ-loop list row assignment from₀ from = length list - from
+μ-loop rules row assignment from₀ from = length rules - from
 
 -- Points of the program: the entry, and the loop's head before a clause is read.
 abbrev entry : tie.At-loop Inv-loop μ-loop → tie.Start Inv-loop μ-loop
@@ -39,10 +39,10 @@ read-completed-requires c κs = search needs
 
 -- a clause that was read: what is left of the formula is that clause, which b tells, and the rest
 step : (c : tie.After-read-completed Inv-loop μ-loop) (b : Bool) → c .read-completed .result .satisfied ≡ b
-    → models (filled (head c)) (clauses (entry (head c) .args .list .now)) ≡ b && models (filled (head c)) (clauses (drop (c .read-completed .result .end + 1) (entry (head c) .args .list .now)))
+    → models (filled (head c)) (clauses (entry (head c) .args .rules .now)) ≡ b && models (filled (head c)) (clauses (drop (c .read-completed .result .end + 1) (entry (head c) .args .rules .now)))
 step c b q =
     let top = head c in
-    let l = entry top .args .list .now in
+    let l = entry top .args .rules .now in
     let read = c .read-completed in
     top .loop .inv
     ∙ tested-models (filled top) l (top .loop .from) (read .result .end) (read .result .satisfied) (read .ensures) (c .before .loop-test .taken)
@@ -55,7 +55,7 @@ add-from : tie.Need-add-from Inv-loop μ-loop
 add-from c =
     let read = c .before .before .before in
     let top = head read in
-    omega (arith, end-inside (entry top .args .list .now) (top .loop .from) (read .read-completed .result .end) (omega arith) (read .read-completed .ensures .ends))
+    omega (arith, end-inside (entry top .args .rules .now) (top .loop .from) (read .read-completed .result .end) (omega arith) (read .read-completed .ensures .ends))
 
 loop-less : tie.Need-loop-less Inv-loop μ-loop
 loop-less c =
@@ -68,7 +68,7 @@ loop-again c = step (c .before .before .before) true (not-false _ (c .before .if
 returns-2 : tie.Need-returns-2 Inv-loop μ-loop
 returns-2 c =
     let top = c .before in
-    sym (top .loop .inv ∙ models-past (filled top) (entry top .args .list .now) (top .loop .from) (c .loop-test .left))
+    sym (top .loop .inv ∙ models-past (filled top) (entry top .args .rules .now) (top .loop .from) (c .loop-test .left))
 
 pub completes-spec : {M : Type 1} → statement M
 completes-spec =

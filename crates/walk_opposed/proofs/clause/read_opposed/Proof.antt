@@ -14,10 +14,10 @@ use Rattle.walk_opposed.proofs.clause.read_opposed.Statement.{statement
 use Rattle.walk_opposed.proofs.clause.read_opposed.Tie as tie
 
 abbrev Inv-loop : tie.InvT-loop
-Inv-loop list from row assignment i₀ i = Passing (spares row assignment) list from i
+Inv-loop rules from row assignment i₀ i = Passing (spares row assignment) rules from i
 
 abbrev μ-loop : tie.MeasureT-loop
-μ-loop list from row assignment i₀ i = length list - i
+μ-loop rules from row assignment i₀ i = length rules - i
 
 -- Points of the program: the entry; the loop's head; the number there tested for the closing 0; the literal tested.
 abbrev entry : tie.At-loop Inv-loop μ-loop → tie.Start Inv-loop μ-loop
@@ -32,7 +32,7 @@ told c = c .before .before .before
 loop-holds : tie.Need-loop-holds Inv-loop μ-loop
 loop-holds c =
     let args = c .before .before .args in
-    passing-start (spares (args .row .now) (args .assignment .now)) (args .list .now) (args .from)
+    passing-start (spares (args .row .now) (args .assignment .now)) (args .rules .now) (args .from)
 
 mul-closes : tie.Need-mul-closes Inv-loop μ-loop
 mul-closes c = search needs
@@ -44,10 +44,10 @@ closes-requires : tie.Need-closes-requires Inv-loop μ-loop
 closes-requires c κs = search needs
 
 -- the callees' answers are about the list's number
-number : (c : tie.After-closes Inv-loop μ-loop) → c .closes .result ≡ closes (getD (entry (head c) .args .list .now) (head c .loop .i) (pos 0))
+number : (c : tie.After-closes Inv-loop μ-loop) → c .closes .result ≡ closes (getD (entry (head c) .args .rules .now) (head c .loop .i) (pos 0))
 number c =
     c .closes .ensures
-    ∙ ap closes (as-read (getD (entry (head c) .args .list .now) (head c .loop .i) (pos 0)) (c .before .closes-arg .given))
+    ∙ ap closes (as-read (getD (entry (head c) .args .rules .now) (head c .loop .i) (pos 0)) (c .before .closes-arg .given))
 
 returns : tie.Need-returns Inv-loop μ-loop
 returns c =
@@ -56,7 +56,7 @@ returns c =
     let args = entry top .args in
     let row = args .row .now in
     let a = args .assignment .now in
-    let l = args .list .now in
+    let l = args .rules .now in
     let i = top .loop .i in
     read-opposed row a l (args .from) i false
     (passing-closed (spares row a) l (args .from) i (top .loop .inv) (now .before .before .loop-test .taken) (sym (number now) ∙ c .if1 .taken))
@@ -71,12 +71,12 @@ is-opposing-requires : tie.Need-is-opposing-requires Inv-loop μ-loop
 is-opposing-requires c κs = search needs
 
 tested : (c : tie.After-is-opposing Inv-loop μ-loop)
-    → c .is-opposing .result ≡ opposes (entry (head (told c)) .args .row .now) (entry (head (told c)) .args .assignment .now) (getD (entry (head (told c)) .args .list .now) (head (told c) .loop .i) (pos 0))
+    → c .is-opposing .result ≡ opposes (entry (head (told c)) .args .row .now) (entry (head (told c)) .args .assignment .now) (getD (entry (head (told c)) .args .rules .now) (head (told c) .loop .i) (pos 0))
 tested c =
     let top = head (told c) in
     let args = entry top .args in
     c .is-opposing .ensures
-    ∙ ap (opposes (args .row .now) (args .assignment .now)) (as-read (getD (args .list .now) (top .loop .i) (pos 0)) (c .before .is-opposing-arg .given))
+    ∙ ap (opposes (args .row .now) (args .assignment .now)) (as-read (getD (args .rules .now) (top .loop .i) (pos 0)) (c .before .is-opposing-arg .given))
 
 add-clause-end : tie.Need-add-clause-end Inv-loop μ-loop
 add-clause-end c = search needs
@@ -92,7 +92,7 @@ returns-2 c =
     let args = entry top .args in
     let row = args .row .now in
     let a = args .assignment .now in
-    let l = args .list .now in
+    let l = args .rules .now in
     let end = c .clause-end .result in
     read-opposed row a l (args .from) end true
     (passing-found (spares row a) l (args .from) (top .loop .i) (top .loop .inv) (now .before .before .loop-test .taken) (sym (number now) ∙ asked .before .before .if1 .left)
@@ -110,7 +110,7 @@ loop-again c =
     let now = told asked in
     let top = head now in
     let args = entry top .args in
-    passing-next (spares (args .row .now) (args .assignment .now)) (args .list .now) (args .from) (top .loop .i) (top .loop .inv) (now .before .before .loop-test .taken) (sym (number now) ∙ asked .before .before .if1 .left)
+    passing-next (spares (args .row .now) (args .assignment .now)) (args .rules .now) (args .from) (top .loop .i) (top .loop .inv) (now .before .before .loop-test .taken) (sym (number now) ∙ asked .before .before .if1 .left)
     (ap not (sym (tested asked)) ∙ c .if2 .left)
 
 returns-3 : tie.Need-returns-3 Inv-loop μ-loop
@@ -119,7 +119,7 @@ returns-3 c =
     let args = entry top .args in
     let row = args .row .now in
     let a = args .assignment .now in
-    let l = args .list .now in
+    let l = args .rules .now in
     let i = top .loop .i in
     read-opposed row a l (args .from) i false (passing-past (spares row a) l (args .from) i (top .loop .inv) (c .loop-test .left))
 

@@ -23,15 +23,15 @@ enum-known-from c = search needs
 
 -- where an opposed clause was found to begin
 first : (c : tie.After-known-told)
-    → KeepsShortest (c .before .before .before .before .before .before .args .row .now) (c .before .before .before .before .before .before .args .assignment .now) (c .before .before .before .before .before .before .args .list .now) (At (c .before .from .given .0 .0))
+    → KeepsShortest (c .before .before .before .before .before .before .args .row .now) (c .before .before .before .before .before .before .args .assignment .now) (c .before .before .before .before .before .before .args .rules .now) (At (c .before .from .given .0 .0))
 first c =
     let args = c .before .before .before .before .before .before .args in
-    subst (KeepsShortest (args .row .now) (args .assignment .now) (args .list .now)) (c .before .from .given .1) (c .before .before .before .find-opposed .ensures)
+    subst (KeepsShortest (args .row .now) (args .assignment .now) (args .rules .now)) (c .before .from .given .1) (c .before .before .before .find-opposed .ensures)
 
 shortest-opposed-requires : tie.Need-shortest-opposed-requires
 shortest-opposed-requires c κs =
     let start = c .before .before .before .before .before .before in
-    let l = start .args .list .now in
+    let l = start .args .rules .now in
     ((first c .0, first c .1), none-short-same (start .args .row .now) (start .args .assignment .now) (clauses l) (clauses (drop (c .before .from .given .0 .0) l)) (first c .2) (start .pre))
 
 unassigned-in-requires : tie.Need-unassigned-in-requires
@@ -41,7 +41,7 @@ returns : tie.Need-returns
 returns c =
     let args = c .before .before .before .before .before .args in
     let a = args .assignment .now in
-    sym (ap (Option·map (unassignedIn a)) (subst (KeepsShortest (args .row .now) a (args .list .now)) (c .enum-told .given .1) (c .before .before .find-opposed .ensures)))
+    sym (ap (Option·map (unassignedIn a)) (subst (KeepsShortest (args .row .now) a (args .rules .now)) (c .enum-told .given .1) (c .before .before .find-opposed .ensures)))
 
 returns-2 : tie.Need-returns-2
 returns-2 c =

@@ -13,10 +13,10 @@ use Rattle.walk_opposed.proofs.shortest.find_opposed.Statement.{stateme
 use Rattle.walk_opposed.proofs.shortest.find_opposed.Tie as tie
 
 abbrev Inv-loop : tie.InvT-loop
-Inv-loop list row assignment from₀ from = shortest row assignment (clauses list) ≡ shortest row assignment (clauses (drop from list))
+Inv-loop rules row assignment from₀ from = shortest row assignment (clauses rules) ≡ shortest row assignment (clauses (drop from rules))
 
 abbrev μ-loop : tie.MeasureT-loop
-μ-loop list row assignment from₀ from = length list - from
+μ-loop rules row assignment from₀ from = length rules - from
 
 -- Points of the program: the entry; the loop's head, before the clause there was read.
 abbrev entry : tie.At-loop Inv-loop μ-loop → tie.Start Inv-loop μ-loop
@@ -40,7 +40,7 @@ add-from : tie.Need-add-from Inv-loop μ-loop
 add-from c =
     let called = c .before in
     let here = head called in
-    omega (arith, end-inside (entry here .args .list .now) (here .loop .from) (called .read-opposed .result .end) (omega arith) (called .read-opposed .ensures .0))
+    omega (arith, end-inside (entry here .args .rules .now) (here .loop .from) (called .read-opposed .result .end) (omega arith) (called .read-opposed .ensures .0))
 
 loop-less : tie.Need-loop-less Inv-loop μ-loop
 loop-less c = search needs
@@ -50,7 +50,7 @@ loop-again c =
     let called = c .before in
     let here = head called in
     let args = entry here .args in
-    let l = args .list .now in
+    let l = args .rules .now in
     let from = here .loop .from in
     let end = called .read-opposed .result .end in
     here .loop .inv
@@ -60,7 +60,7 @@ loop-again c =
 returns-2 : tie.Need-returns-2 Inv-loop μ-loop
 returns-2 c =
     let args = entry (c .before) .args in
-    c .before .loop .inv ∙ shortest-past (args .row .now) (args .assignment .now) (args .list .now) (c .before .loop .from) (c .loop-test .left)
+    c .before .loop .inv ∙ shortest-past (args .row .now) (args .assignment .now) (args .rules .now) (c .before .loop .from) (c .loop-test .left)
 
 pub find-opposed-spec : {M : Type 1} → statement M
 find-opposed-spec =

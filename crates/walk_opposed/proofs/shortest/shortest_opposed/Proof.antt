@@ -19,11 +19,11 @@ use Rattle.walk_opposed.proofs.shortest.shortest_opposed.Statement.{sta
 use Rattle.walk_opposed.proofs.shortest.shortest_opposed.Tie as tie
 
 abbrev Inv-loop : tie.InvT-loop
-Inv-loop list first row assignment first-end kept₀ size₀ from₀ kept size from =
-    (shortest row assignment (clauses (drop first list)) ≡ some (shorterOf assignment kept (shortest row assignment (clauses (drop from list))))) × (size ≡ unassignedIn assignment kept)
+Inv-loop rules first row assignment first-end kept₀ size₀ from₀ kept size from =
+    (shortest row assignment (clauses (drop first rules)) ≡ some (shorterOf assignment kept (shortest row assignment (clauses (drop from rules))))) × (size ≡ unassignedIn assignment kept)
 
 abbrev μ-loop : tie.MeasureT-loop
-μ-loop list first row assignment first-end kept₀ size₀ from₀ kept size from = length list - from
+μ-loop rules first row assignment first-end kept₀ size₀ from₀ kept size from = length rules - from
 
 -- Points of the program: the entry; the loop's head, before the clause there was read.
 abbrev entry : tie.At-loop Inv-loop μ-loop → tie.Start Inv-loop μ-loop
@@ -47,7 +47,7 @@ part-kept-start c = search needs
 part-kept-end : tie.Need-part-kept-end Inv-loop μ-loop
 part-kept-end c =
     let start = c .before .before .before in
-    end-inside (start .args .list .now) (start .args .first) (c .clause-end .result) (omega (arith, start .pre .0 .0)) (c .clause-end .ensures)
+    end-inside (start .args .rules .now) (start .args .first) (c .clause-end .result) (omega (arith, start .pre .0 .0)) (c .clause-end .ensures)
 
 unassigned-in-requires : tie.Need-unassigned-in-requires Inv-loop μ-loop
 unassigned-in-requires c κs = search needs
@@ -55,14 +55,14 @@ unassigned-in-requires c κs = search needs
 add-from : tie.Need-add-from Inv-loop μ-loop
 add-from c =
     let start = c .before .before .before .before .before in
-    omega (arith, end-inside (start .args .list .now) (start .args .first) (c .before .before .clause-end .result) (omega (arith, start .pre .0 .0)) (c .before .before .clause-end .ensures))
+    omega (arith, end-inside (start .args .rules .now) (start .args .first) (c .before .before .clause-end .result) (omega (arith, start .pre .0 .0)) (c .before .before .clause-end .ensures))
 
 loop-holds : tie.Need-loop-holds Inv-loop μ-loop
 loop-holds c =
     let start = c .before .before .before .before .before in
     let row = start .args .row .now in
     let a = start .args .assignment .now in
-    let l = start .args .list .now in
+    let l = start .args .rules .now in
     let first = start .args .first in
     let ended = c .before .before .clause-end in (
       ap (shortest row a) (clauses-step l first (ended .result) (start .pre .0 .0) (ended .ensures))
@@ -77,7 +77,7 @@ returns c =
     let start = entry here in
     let row = start .args .row .now in
     let a = start .args .assignment .now in
-    let l = start .args .list .now in
+    let l = start .args .rules .now in
     sym (kept-two row a (clauses (drop (start .args .first) l)) (start .pre .1) (here .loop .kept .now) (shortest row a (clauses (drop (here .loop .from) l))) (here .loop .inv .0) (omega (arith, here .loop .inv .1, c .if1 .taken)))
 
 read-opposed-requires : tie.Need-read-opposed-requires Inv-loop μ-loop
@@ -94,15 +94,15 @@ part-shorter-start c = search needs
 
 -- a clause that was read ends inside the list, and its part of the list is opposed if it is
 module _ (c : tie.After-read-opposed Inv-loop μ-loop) where
-  inside : c .read-opposed .result .end ≤ length (entry (head c) .args .list .now)
+  inside : c .read-opposed .result .end ≤ length (entry (head c) .args .rules .now)
   inside =
-      end-inside (entry (head c) .args .list .now) (head c .loop .from) (c .read-opposed .result .end) (omega (arith, c .before .before .loop-test .taken)) (c .read-opposed .ensures .0)
+      end-inside (entry (head c) .args .rules .now) (head c .loop .from) (c .read-opposed .result .end) (omega (arith, c .before .before .loop-test .taken)) (c .read-opposed .ensures .0)
 
-  told : c .read-opposed .result .opposed ≡ isOpposed (entry (head c) .args .row .now) (entry (head c) .args .assignment .now) (take (c .read-opposed .result .end - head c .loop .from) (drop (head c .loop .from) (entry (head c) .args .list .now)))
+  told : c .read-opposed .result .opposed ≡ isOpposed (entry (head c) .args .row .now) (entry (head c) .args .assignment .now) (take (c .read-opposed .result .end - head c .loop .from) (drop (head c .loop .from) (entry (head c) .args .rules .now)))
   told =
       let args = entry (head c) .args in
       c .read-opposed .ensures .1
-      ∙ sym (ap (isOpposed (args .row .now) (args .assignment .now)) (clause-at (args .list .now) (head c .loop .from) (c .read-opposed .result .end) (c .read-opposed .ensures .0)))
+      ∙ sym (ap (isOpposed (args .row .now) (args .assignment .now)) (clause-at (args .rules .now) (head c .loop .from) (c .read-opposed .result .end) (c .read-opposed .ensures .0)))
 
 part-shorter-end : tie.Need-part-shorter-end Inv-loop μ-loop
 part-shorter-end c = inside (c .before)
@@ -126,7 +126,7 @@ loop-again c =
     let args = entry here .args in
     let row = args .row .now in
     let a = args .assignment .now in
-    let l = args .list .now in
+    let l = args .rules .now in
     let from = here .loop .from in
     let end = called .read-opposed .result .end in
     let kept = here .loop .kept .now in
@@ -147,7 +147,7 @@ returns-2 c =
     let here = c .before in
     let args = entry here .args in
     sym (here .loop .inv .0
-    ∙ ap (λ (o : Option (List ℤ)). some (shorterOf (args .assignment .now) (here .loop .kept .now) o)) (shortest-past (args .row .now) (args .assignment .now) (args .list .now) (here .loop .from) (c .loop-test .left)))
+    ∙ ap (λ (o : Option (List ℤ)). some (shorterOf (args .assignment .now) (here .loop .kept .now) o)) (shortest-past (args .row .now) (args .assignment .now) (args .rules .now) (here .loop .from) (c .loop-test .left)))
 
 pub shortest-opposed-spec : {M : Type 1} → statement M
 shortest-opposed-spec =

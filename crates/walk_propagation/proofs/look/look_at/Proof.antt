@@ -56,12 +56,12 @@ unit-at-requires c κs = search needs
 
 -- what the clause asks for
 abbrev clause : Read → List ℤ
-clause c = getD (clauses (call c .args .list .now)) (call c .args .number .0 - 1) []
+clause c = getD (clauses (call c .args .rules .now)) (call c .args .number .0 - 1) []
 
 said : (c : Read) → c .unit-at .result ≡ asks (call c .args .a .now) (clause c)
 said c =
     c .unit-at .ensures
-    ∙ ap (λ (k : ℕ). asks (call c .args .a .now) (clauseAt k (call c .args .list .now))) (begun c .begin-of .ensures)
+    ∙ ap (λ (k : ℕ). asks (call c .args .a .now) (clauseAt k (call c .args .rules .now))) (begun c .begin-of .ensures)
     ∙ ap (asks (call c .args .a .now)) (call c .pre .0 .located .clause (call c .args .number .0) (call c .pre .1 .0) (call c .pre .1 .1))
 
 -- its literal

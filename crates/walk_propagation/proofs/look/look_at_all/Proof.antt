@@ -17,10 +17,10 @@ use Rattle.walk_propagation.proofs.look.look_at_all.Statement.{statemen
 use Rattle.walk_propagation.proofs.look.look_at_all.Tie as tie
 
 abbrev Inv-loop : tie.InvT-loop
-Inv-loop list arrangement numbers row d a₀ trail₀ present₀ i₀ a trail present i = Passing (length a₀) (clauses list) row d numbers present₀ a₀ trail₀ i present a trail
+Inv-loop rules arrangement numbers row d a₀ trail₀ present₀ i₀ a trail present i = Passing (length a₀) (clauses rules) row d numbers present₀ a₀ trail₀ i present a trail
 
 abbrev μ-loop : tie.MeasureT-loop
-μ-loop list arrangement numbers row d a₀ trail₀ present₀ i₀ a trail present i = length numbers - i
+μ-loop rules arrangement numbers row d a₀ trail₀ present₀ i₀ a trail present i = length numbers - i
 
 -- The points of the program: the call, the head of a turn, its test passed, after a clause is looked at, and after a dead end or none.
 abbrev Call : Type 0
@@ -70,7 +70,7 @@ module _ (c : Looked) where
 
   abbrev outcome : ℕ → Option Pending
   outcome head =
-      look (call from .args .row .now) (call from .args .d) (pending head (from .loop .present) (from .loop .a) (from .loop .trail)) (getD (clauses (call from .args .list .now)) (getD (call from .args .numbers .now) (from .loop .i) 0 - 1) [])
+      look (call from .args .row .now) (call from .args .d) (pending head (from .loop .present) (from .loop .a) (from .loop .trail)) (getD (clauses (call from .args .rules .now)) (getD (call from .args .numbers .now) (from .loop .i) 0 - 1) [])
 
   said : (r : Propagated) → c .look-at .result ≡ r → LookedBy (length (call from .args .a .now)) (call from .args .row .now) outcome (from .loop .present) (from .loop .a) (from .loop .trail) values order r
   said r e =
@@ -80,7 +80,7 @@ module _ (c : Looked) where
 loop-holds : tie.Need-loop-holds Inv-loop μ-loop
 loop-holds c =
     let call = begun c in
-    passing-start (clauses (call .args .list .now)) (call .args .d) (call .args .numbers .now) (call .pre .0 .searching)
+    passing-start (clauses (call .args .rules .now)) (call .args .d) (call .args .numbers .now) (call .pre .0 .searching)
 
 mul-t14 : tie.Need-mul-t14 Inv-loop μ-loop
 mul-t14 c = search needs

@@ -61,7 +61,7 @@ call c = begun (within (named c))
 -- the call: its clauses, and what looking at them all gives
 module _ (c : Call) where
   abbrev f : List (List ℤ)
-  f = clauses (c .args .list .now)
+  f = clauses (c .args .rules .now)
 
   abbrev outcome : ℕ → Option Pending
   outcome head = lookAt f (c .args .row .now) (c .args .d) (pending head (c .args .tally) (c .args .a .now) (c .args .trail .now)) (filledClauses f ++ emptyClauses f)

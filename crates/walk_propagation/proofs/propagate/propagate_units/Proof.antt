@@ -24,7 +24,7 @@ returns : tie.Need-returns
 returns c =
     let call = above c in
     let args = call .args in
-    over-limit (call .pre .0 .looking .searching) (args .d) (drain (clauses (args .list .now)) (args .row .now) (args .d) (pending (args .from) (args .tally) (args .a .now) (args .trail .now))) (c .if1 .taken)
+    over-limit (call .pre .0 .looking .searching) (args .d) (drain (clauses (args .rules .now)) (args .row .now) (args .d) (pending (args .from) (args .tally) (args .a .now) (args .trail .now))) (c .if1 .taken)
 
 follow-queue-requires : tie.Need-follow-queue-requires
 follow-queue-requires c κs = search needs
@@ -41,7 +41,7 @@ returns-2 c =
     let limited = limited followed in
     let call = within limited in
     let args = call .args in
-    rw (in-limit (call .pre .0 .looking .searching) (args .d) (drain (clauses (args .list .now)) (args .row .now) (args .d) (pending (args .from) (args .tally) (args .a .now) (args .trail .now))) (limited .if1 .left)) (followed .follow-queue .ensures)
+    rw (in-limit (call .pre .0 .looking .searching) (args .d) (drain (clauses (args .rules .now)) (args .row .now) (args .d) (pending (args .from) (args .tally) (args .a .now) (args .trail .now))) (limited .if1 .left)) (followed .follow-queue .ensures)
 
 pub propagate-units-spec : {M : Type 1} → statement M
 propagate-units-spec =

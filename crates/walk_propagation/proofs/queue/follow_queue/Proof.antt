@@ -21,10 +21,10 @@ use Rattle.walk_propagation.proofs.queue.follow_queue.Statement.{statem
 use Rattle.walk_propagation.proofs.queue.follow_queue.Tie as tie
 
 abbrev Inv-loop : tie.InvT-loop
-Inv-loop list arrangement row d from a₀ trail₀ present₀ head₀ a trail present head = Draining (length a₀) (clauses list) row d head₀ present₀ a₀ trail₀ head present a trail
+Inv-loop rules arrangement row d from a₀ trail₀ present₀ head₀ a trail present head = Draining (length a₀) (clauses rules) row d head₀ present₀ a₀ trail₀ head present a trail
 
 abbrev μ-loop : tie.MeasureT-loop
-μ-loop list arrangement row d from a₀ trail₀ present₀ head₀ a trail present head = length a₀ - head
+μ-loop rules arrangement row d from a₀ trail₀ present₀ head₀ a trail present head = length a₀ - head
 
 -- The points of the program: the call; the head of a turn; with a variable in the queue; with the clauses of its false literal; after they are looked at; and after a dead end or none.
 abbrev Turn : Type 0
@@ -102,7 +102,7 @@ module _ (c : Parted) where
   abbrev numbers : List ℕ
   numbers = partAt (call now .args .arrangement .now) (2 * v now + other (waiting c))
 
-  false-clauses : numbers ≡ falseIn (clauses (call now .args .list .now)) (now .loop .a) (v now)
+  false-clauses : numbers ≡ falseIn (clauses (call now .args .rules .now)) (now .loop .a) (v now)
   false-clauses = part-holding (call now .pre .0 .beside) (v now) (other (waiting c)) (first now (taken (waiting c)) .above) (other-bit (waiting c)) (low (waiting c))
 
 -- they are looked at: the values and the trail after that, and what it came to
@@ -120,10 +120,10 @@ module _ (c : Looked) where
   order = c .look-at-all .last .1 .1 .1 .1 .1 .1 .1 .0
 
   abbrev outcome : List ℕ → ℕ → Option Pending
-  outcome ks head = lookAt (clauses (call from .args .list .now)) (call from .args .row .now) (call from .args .d) (pending head (from .loop .present) (from .loop .a) (from .loop .trail)) ks
+  outcome ks head = lookAt (clauses (call from .args .rules .now)) (call from .args .row .now) (call from .args .d) (pending head (from .loop .present) (from .loop .a) (from .loop .trail)) ks
 
   said : (r : Propagated) → c .look-at-all .result ≡ r
-      → LookedBy (length (call from .args .a .now)) (call from .args .row .now) (outcome (falseIn (clauses (call from .args .list .now)) (from .loop .a) (v from))) (from .loop .present) (from .loop .a) (from .loop .trail) values order r
+      → LookedBy (length (call from .args .a .now)) (call from .args .row .now) (outcome (falseIn (clauses (call from .args .rules .now)) (from .loop .a) (v from))) (from .loop .present) (from .loop .a) (from .loop .trail) values order r
   said r e =
       subst (λ (ks : List ℕ). LookedBy (length (call from .args .a .now)) (call from .args .row .now) (outcome ks) (from .loop .present) (from .loop .a) (from .loop .trail) values order r)
       (parted c .false-part .ensures ∙ false-clauses (parted c))
@@ -132,7 +132,7 @@ module _ (c : Looked) where
 loop-holds : tie.Need-loop-holds Inv-loop μ-loop
 loop-holds c =
     let call = begun c in
-    draining-start (clauses (call .args .list .now)) (call .args .d) (call .args .from) (call .pre .0 .looking .searching) (call .pre .1)
+    draining-start (clauses (call .args .rules .now)) (call .args .d) (call .args .from) (call .pre .0 .looking .searching) (call .pre .1)
 
 mul-t16 : tie.Need-mul-t16 Inv-loop μ-loop
 mul-t16 c = search needs

@@ -18,15 +18,15 @@ use Rattle.walk_propagation.proofs.unit.unit_at.Statement.{statement}
 use Rattle.walk_propagation.proofs.unit.unit_at.Tie as tie
 
 abbrev Inv-loop : tie.InvT-loop
-Inv-loop list from a count₀ found₀ i₀ count found i = asks a (clauseAt from list) ≡ asksAfter a count (toZ w32 found) (clauseAt i list)
+Inv-loop rules from a count₀ found₀ i₀ count found i = asks a (clauseAt from rules) ≡ asksAfter a count (toZ w32 found) (clauseAt i rules)
 
 abbrev μ-loop : tie.MeasureT-loop
-μ-loop list from a count₀ found₀ i₀ count found i = length list - i
+μ-loop rules from a count₀ found₀ i₀ count found i = length rules - i
 
 loop-holds : tie.Need-loop-holds Inv-loop μ-loop
 loop-holds c =
     let args = c .before .args in
-    sym (asks-all (args .a .now) (toZ w32 0) (clauseAt (args .from) (args .list .now)))
+    sym (asks-all (args .a .now) (toZ w32 0) (clauseAt (args .from) (args .rules .now)))
 
 mul-x : tie.Need-mul-x Inv-loop μ-loop
 mul-x c = search needs
@@ -62,7 +62,7 @@ module _ (c : Turn) where
   a = c .before .before .args .a .now
 
   abbrev l : List ℤ
-  l = c .before .before .args .list .now
+  l = c .before .before .args .rules .now
 
   abbrev y : ℤ
   y = getD l (c .loop .i) (pos 0)

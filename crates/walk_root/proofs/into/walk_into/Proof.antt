@@ -98,7 +98,7 @@ module _ (c : tie.After-walk-from-root) where
   call = entry (prepared c)
 
   abbrev reached : Outcome
-  reached = walk (call .args .n) (clauses (call .args .list .now)) (call .args .row .now) (call .args .d)
+  reached = walk (call .args .n) (clauses (call .args .rules .now)) (call .args .row .now) (call .args .d)
 
   size : length (last c) ≡ call .args .n
   size = c .walk-from-root .kept .1 .1 .1 .1 .0 ∙ a-long (prepared c)
@@ -108,7 +108,7 @@ module _ (c : tie.After-walk-from-root) where
 
   says : RootSays reached (last c) (c .walk-from-root .result)
   says =
-      subst (λ (k : ℕ). RootSays (walk k (clauses (call .args .list .now)) (call .args .row .now) (call .args .d)) (last c) (c .walk-from-root .result))
+      subst (λ (k : ℕ). RootSays (walk k (clauses (call .args .rules .now)) (call .args .row .now) (call .args .d)) (last c) (c .walk-from-root .result))
       (a-long (prepared c)) (c .walk-from-root .ensures .0)
 
 no-arrangement-requires : tie.Need-no-arrangement-requires

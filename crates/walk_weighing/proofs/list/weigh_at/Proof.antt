@@ -26,8 +26,8 @@ use Rattle.walk_weighing.proofs.list.weigh_at.Tie as tie
 
 -- the clause, by its number
 module _ (s : tie.Start) where
-  abbrev list : List ℤ
-  list = s .args .list .now
+  abbrev rules : List ℤ
+  rules = s .args .rules .now
 
   abbrev row : List ℕ
   row = s .args .row .now
@@ -39,19 +39,19 @@ module _ (s : tie.Start) where
   abbrev k : ℕ
   k = s .args .number .0 - 1
 
-  less : k < length (clauses list)
+  less : k < length (clauses rules)
   less = omega (arith, s .pre .0 .2, s .pre .0 .3)
 
   abbrev clause : List ℤ
-  clause = getD (clauses list) k []
+  clause = getD (clauses rules) k []
 
   abbrev begin : ℕ
   begin = getD (beginsOf (s .args .arrangement .now)) k 0
 
-  begin-inside : begin < length list
+  begin-inside : begin < length rules
   begin-inside = begins-inside (s .pre .0 .0) k less
 
-  abbrev same : clauseAt begin list ≡ clause
+  abbrev same : clauseAt begin rules ≡ clause
   same = begins-clause (s .pre .0 .0) k less
 
   -- where it is satisfied, it makes no dead end, and weighing changes nothing
@@ -63,12 +63,12 @@ module _ (s : tie.Start) where
     unchanged = weighed-satisfied row a clause met (sizeOf (s .args .fewest)) (s .args .weights .now)
 
   -- read as open, it is the part of the list up to its end
-  module _ (end count : ℕ) (h : StandsOpen a list begin end count) where
-    ends-inside : end ≤ length list
-    ends-inside = end-inside list begin end (omega (arith, begin-inside)) (h .ends)
+  module _ (end count : ℕ) (h : StandsOpen a rules begin end count) where
+    ends-inside : end ≤ length rules
+    ends-inside = end-inside rules begin end (omega (arith, begin-inside)) (h .ends)
 
-    part : take (end - begin) (drop begin list) ≡ clause
-    part = clause-at list begin end (h .ends) ∙ same
+    part : take (end - begin) (drop begin rules) ≡ clause
+    part = clause-at rules begin end (h .ends) ∙ same
 
 -- Points of the program: its witness tested; with the place where it begins; the clause read; a literal of it found that holds, or its end and its count of unassigned literals; whether it makes a dead end; the clause weighed.
 abbrev start : tie.After-is-witnessed → tie.Start
@@ -96,16 +96,16 @@ abbrev weighed : tie.After-slice-known3 → tie.After-weigh-clause
 weighed c = c .before .before
 
 -- what was read is told of the place where the clause begins
-read-as : (c : tie.After-read-clause) (r : ReadClause) → c .read-clause .result ≡ r → IsRead (a (call c)) (list (call c)) (begin (call c)) r
+read-as : (c : tie.After-read-clause) (r : ReadClause) → c .read-clause .result ≡ r → IsRead (a (call c)) (rules (call c)) (begin (call c)) r
 read-as c r e =
     let s = call c in
-    subst (IsRead (a s) (list s) (begin s)) e (subst (λ (i : ℕ). IsRead (a s) (list s) i (c .read-clause .result)) (c .before .begin-of .ensures) (c .read-clause .ensures))
+    subst (IsRead (a s) (rules s) (begin s)) e (subst (λ (i : ℕ). IsRead (a s) (rules s) i (c .read-clause .result)) (c .before .begin-of .ensures) (c .read-clause .ensures))
 
 module _ (c : tie.After-known-told) where
   abbrev at : ℕ
   at = c .before .at .given .0 .0
 
-  held : HoldsAt (a (call (met c))) (list (call (met c))) (begin (call (met c))) at
+  held : HoldsAt (a (call (met c))) (rules (call (met c))) (begin (call (met c))) at
   held = read-as (met c) (Satisfied at) (c .before .at .given .1)
 
 module _ (c : tie.After-known-told2) where
@@ -115,7 +115,7 @@ module _ (c : tie.After-known-told2) where
   abbrev count : ℕ
   count = c .before .end .given .0 .1 .0
 
-  stands : StandsOpen (a (call (opened c))) (list (call (opened c))) (begin (call (opened c))) end count
+  stands : StandsOpen (a (call (opened c))) (rules (call (opened c))) (begin (call (opened c))) end count
   stands = read-as (opened c) (Open end count) (c .before .end .given .1)
 
   -- the part of the list that is read is the clause
@@ -125,8 +125,8 @@ module _ (c : tie.After-known-told2) where
   from-begin : from ≡ begin (call (opened c))
   from-begin = opened c .before .begin-of .ensures
 
-  read-part : take (end - from) (drop from (list (call (opened c)))) ≡ clause (call (opened c))
-  read-part = ap (λ (i : ℕ). take (end - i) (drop i (list (call (opened c))))) from-begin ∙ part (call (opened c)) end count stands
+  read-part : take (end - from) (drop from (rules (call (opened c)))) ≡ clause (call (opened c))
+  read-part = ap (λ (i : ℕ). take (end - i) (drop i (rules (call (opened c))))) from-begin ∙ part (call (opened c)) end count stands
 
 is-witnessed-requires : tie.Need-is-witnessed-requires
 is-witnessed-requires c κs = search needs
@@ -152,7 +152,7 @@ enum-known-at c = search needs
 cast-witnesses : tie.Need-cast-witnesses
 cast-witnesses c =
     let s = call (met c) in
-    let far = end-inside (list s) (begin s) (begin s + clauseLength (drop (begin s) (list s))) (omega (arith, begin-inside s)) refl in
+    let far = end-inside (rules s) (begin s) (begin s + clauseLength (drop (begin s) (rules s))) (omega (arith, begin-inside s)) refl in
     record { fits = omega (arith, held c .before, far, s .pre .0 .0 .short) }
 
 sub-witnesses : tie.Need-sub-witnesses
@@ -212,7 +212,7 @@ returns-3 : tie.Need-returns-3
 returns-3 c =
     let found = c .before in
     let s = call (met found) in
-    let satisfies = ap (satisfied (a s)) (sym (same s)) ∙ held-satisfies (list s) (begin s) (at found) (held found .after) (held found .before) (begin-inside s) (a s) (held found .held) in
+    let satisfies = ap (satisfied (a s)) (sym (same s)) ∙ held-satisfies (rules s) (begin s) (at found) (held found .after) (held found .before) (begin-inside s) (a s) (held found .held) in
     (new-witness (s .pre .0 .0) (s .pre .0 .1) (k s) (at found) (less s) (held found .after) (held found .before), (no-dead-end s satisfies, λ e. unchanged s satisfies))
 
 same-length-4 : tie.Need-same-length-4

@@ -16,10 +16,10 @@ use Rattle.walk_weighing.proofs.list.weigh_list.Statement.{statement}
 use Rattle.walk_weighing.proofs.list.weigh_list.Tie as tie
 
 abbrev Inv-loop : tie.InvT-loop
-Inv-loop list arrangement row assignment fewest spent witnesses₀ weights₀ k₀ witnesses weights k = Weighing row assignment (sizeOf fewest) spent list weights₀ witnesses weights k
+Inv-loop rules arrangement row assignment fewest spent witnesses₀ weights₀ k₀ witnesses weights k = Weighing row assignment (sizeOf fewest) spent rules weights₀ witnesses weights k
 
 abbrev μ-loop : tie.MeasureT-loop
-μ-loop list arrangement row assignment fewest spent witnesses₀ weights₀ k₀ witnesses weights k = length (clauses list) - k
+μ-loop rules arrangement row assignment fewest spent witnesses₀ weights₀ k₀ witnesses weights k = length (clauses rules) - k
 
 -- Points of the program: the entry; the numbers cleared; the loop's head; a clause weighed.
 abbrev cleared : tie.After-slice-known3 Inv-loop μ-loop → tie.After-clear Inv-loop μ-loop
@@ -62,11 +62,11 @@ module _ (c : tie.After-slice-known3 Inv-loop μ-loop) where
   zeros-kept : length zeros ≡ length (entry c .args .weights .now)
   zeros-kept = cleared c .clear .kept .0
 
-  weighable : WeighableList (length (entry c .args .assignment .now)) (entry c .args .list .now) zeros
-  weighable = weighable-kept (length (entry c .args .assignment .now)) (entry c .args .list .now) (entry c .args .weights .now) zeros (entry c .pre .0) zeros-kept
+  weighable : WeighableList (length (entry c .args .assignment .now)) (entry c .args .rules .now) zeros
+  weighable = weighable-kept (length (entry c .args .assignment .now)) (entry c .args .rules .now) (entry c .args .weights .now) zeros (entry c .pre .0) zeros-kept
 
 loop-holds : tie.Need-loop-holds Inv-loop μ-loop
-loop-holds c = weighing-start (entry c .args .row .now) (entry c .args .assignment .now) (sizeOf (entry c .args .fewest)) (entry c .args .spent) (entry c .args .list .now) (zeros c) (weighable c) (entry c .args .witnesses .now) (zeros c) (entry c .pre .1 .1) refl (cleared c .clear .ensures)
+loop-holds c = weighing-start (entry c .args .row .now) (entry c .args .assignment .now) (sizeOf (entry c .args .fewest)) (entry c .args .spent) (entry c .args .rules .now) (zeros c) (weighable c) (entry c .args .witnesses .now) (zeros c) (entry c .pre .1 .1) refl (cleared c .clear .ensures)
 
 -- at the loop's head
 module _ (c : tie.At-loop Inv-loop μ-loop) where
@@ -74,15 +74,15 @@ module _ (c : tie.At-loop Inv-loop μ-loop) where
   given = entry (c .before)
 
   abbrev clause : ℕ → List ℤ
-  clause j = getD (clauses (given .args .list .now)) j []
+  clause j = getD (clauses (given .args .rules .now)) j []
 
   -- there is a clause where the loop goes on
-  more : c .loop .k < length (c .loop .witnesses) → c .loop .k < length (clauses (given .args .list .now))
+  more : c .loop .k < length (c .loop .witnesses) → c .loop .k < length (clauses (given .args .rules .now))
   more h = omega (arith, h, c .loop .inv .known .many)
 
   -- it can be weighed
   able : c .loop .k < length (c .loop .witnesses) → Weighable (length (given .args .assignment .now)) (clause (c .loop .k)) (c .loop .weights)
-  able h = weighing-clause (given .args .row .now) (given .args .assignment .now) (sizeOf (given .args .fewest)) (given .args .spent) (given .args .list .now) (zeros (c .before)) (weighable (c .before)) (c .loop .witnesses) (c .loop .weights) (c .loop .k) (c .loop .inv) (more h)
+  able h = weighing-clause (given .args .row .now) (given .args .assignment .now) (sizeOf (given .args .fewest)) (given .args .spent) (given .args .rules .now) (zeros (c .before)) (weighable (c .before)) (c .loop .witnesses) (c .loop .weights) (c .loop .k) (c .loop .inv) (more h)
 
 -- its number is one more than k
 before-it : (k : ℕ) → k + 1 - 1 ≡ k
@@ -125,7 +125,7 @@ returns c =
     let args = given top .args in (
       told .weigh-at .ensures .0,
       (
-        sym (weighing-dead (args .row .now) (args .assignment .now) (sizeOf (args .fewest)) (args .spent) (args .list .now) (zeros (top .before)) (weighable (top .before)) (top .loop .witnesses) (top .loop .weights) (top .loop .k) (top .loop .inv) (more top (turn told .loop-test .taken)) (sym (told-dead told) ∙ c .if1 .taken)),
+        sym (weighing-dead (args .row .now) (args .assignment .now) (sizeOf (args .fewest)) (args .spent) (args .rules .now) (zeros (top .before)) (weighable (top .before)) (top .loop .witnesses) (top .loop .weights) (top .loop .k) (top .loop .inv) (more top (turn told .loop-test .taken)) (sym (told-dead told) ∙ c .if1 .taken)),
         λ e. absurd (true≢false e),
       ),
     )
@@ -141,7 +141,7 @@ loop-again c =
     let told = weighed (c .before) in
     let top = head told in
     let args = given top .args in
-    weighing-next (args .row .now) (args .assignment .now) (sizeOf (args .fewest)) (args .spent) (args .list .now) (zeros (top .before)) (weighable (top .before)) (top .loop .witnesses) (top .loop .weights) (top .loop .k) (top .loop .inv) (more top (turn told .loop-test .taken))
+    weighing-next (args .row .now) (args .assignment .now) (sizeOf (args .fewest)) (args .spent) (args .rules .now) (zeros (top .before)) (weighable (top .before)) (top .loop .witnesses) (top .loop .weights) (top .loop .k) (top .loop .inv) (more top (turn told .loop-test .taken))
     (witnesses-then told) (weights-then told) (told .weigh-at .ensures .0) (weights-kept told) (sym (told-dead told) ∙ c .if1 .left) (told-weighed told (c .if1 .left))
 
 same-length-3 : tie.Need-same-length-3 Inv-loop μ-loop
@@ -154,11 +154,11 @@ returns-2 : tie.Need-returns-2 Inv-loop μ-loop
 returns-2 c =
     let top = c .before in
     let args = given top .args in
-    let over : length (clauses (args .list .now)) ≤ top .loop .k = omega (arith, c .loop-test .left, top .loop .inv .known .many) in (
+    let over : length (clauses (args .rules .now)) ≤ top .loop .k = omega (arith, c .loop-test .left, top .loop .inv .known .many) in (
       top .loop .inv .known,
       (
-        sym (weighing-alive (args .row .now) (args .assignment .now) (sizeOf (args .fewest)) (args .spent) (args .list .now) (zeros (top .before)) (weighable (top .before)) (top .loop .witnesses) (top .loop .weights) (top .loop .k) (top .loop .inv) over),
-        λ e. weighing-end (args .row .now) (args .assignment .now) (sizeOf (args .fewest)) (args .spent) (args .list .now) (zeros (top .before)) (weighable (top .before)) (top .loop .witnesses) (top .loop .weights) (top .loop .k) (top .loop .inv) over,
+        sym (weighing-alive (args .row .now) (args .assignment .now) (sizeOf (args .fewest)) (args .spent) (args .rules .now) (zeros (top .before)) (weighable (top .before)) (top .loop .witnesses) (top .loop .weights) (top .loop .k) (top .loop .inv) over),
+        λ e. weighing-end (args .row .now) (args .assignment .now) (sizeOf (args .fewest)) (args .spent) (args .rules .now) (zeros (top .before)) (weighable (top .before)) (top .loop .witnesses) (top .loop .weights) (top .loop .k) (top .loop .inv) over,
       ),
     )
 

@@ -280,19 +280,19 @@ module _ (t : ℕ) where
     n = length (c .args .a .now)
 
     abbrev f : List (List ℤ)
-    f = clauses (c .args .list .now)
+    f = clauses (c .args .rules .now)
 
     given : Searching n (c .args .row .now) (c .args .a .now) (c .args .trail .now) (c .args .tally .settled) (c .args .tally .broken)
     given = c .pre .1 .0
 
-    ready : Ready (c .args .list .now) (c .args .arrangement .now) (c .args .witnesses .now) n (length (c .args .weights .now))
+    ready : Ready (c .args .rules .now) (c .args .arrangement .now) (c .args .witnesses .now) n (length (c .args .weights .now))
     ready = c .pre .1 .1 .0
 
     covers : (c .args .from ≤ c .args .tally .settled) × Covers f (pending (c .args .from) (c .args .tally) (c .args .a .now) (c .args .trail .now))
     covers = c .pre .1 .1 .1
 
     tries : laws.Tries n f (c .args .row .now) (c .args .from) (c .args .tally) (c .args .a .now) (c .args .trail .now)
-    tries = record { given = given; fit = sound-fits n (c .args .list .now) (ready .sound); inside = covers .0 }
+    tries = record { given = given; fit = sound-fits n (c .args .rules .now) (ready .sound); inside = covers .0 }
 
   -- after narrowing: the state a with its trail
   module _ (c : Narrowing) where
@@ -322,8 +322,8 @@ module _ (t : ℕ) where
     state = laws.narrowed lives
 
     -- what is lent serves the narrowed state too, while the table keeps its length
-    ready-there : {witnesses : List ℕ} {weights : ℕ} → Witnesses (start c .args .list .now) witnesses → weights ≡ length (start c .args .weights .now)
-        → Ready (start c .args .list .now) (start c .args .arrangement .now) witnesses (length (a (narrowing c))) weights
+    ready-there : {witnesses : List ℕ} {weights : ℕ} → Witnesses (start c .args .rules .now) witnesses → weights ≡ length (start c .args .weights .now)
+        → Ready (start c .args .rules .now) (start c .args .arrangement .now) witnesses (length (a (narrowing c))) weights
     ready-there w p = ready-still (state .state .size) w p (ready (start c))
 
   -- its completion is no model

@@ -182,7 +182,7 @@ module _ (t : ℕ) where
     n = length (c .args .a .now)
 
     abbrev f : List (List ℤ)
-    f = clauses (c .args .list .now)
+    f = clauses (c .args .rules .now)
 
     abbrev try : List ℕ → Outcome
     try = searchFrom f (c .args .row .now) (c .args .guide .now) (c .args .d)
@@ -190,7 +190,7 @@ module _ (t : ℕ) where
     given : Searching n (c .args .row .now) (c .args .a .now) (c .args .trail .now) (c .args .tally .settled) (c .args .tally .broken)
     given = c .pre .1 .0
 
-    ready : Ready (c .args .list .now) (c .args .arrangement .now) (c .args .witnesses .now) n (length (c .args .weights .now))
+    ready : Ready (c .args .rules .now) (c .args .arrangement .now) (c .args .witnesses .now) n (length (c .args .weights .now))
     ready = c .pre .1 .1 .0
 
     forks : laws.Forks n f (c .args .row .now) (c .args .a .now) (c .args .trail .now) (c .args .tally) (c .args .decision .variable .0) (c .args .decision .value)

@@ -301,19 +301,19 @@ module _ (t : ℕ) where
     n = length (c .args .a .now)
 
     abbrev f : List (List ℤ)
-    f = clauses (c .args .list .now)
+    f = clauses (c .args .rules .now)
 
     given : Searching n (c .args .row .now) (c .args .a .now) (c .args .trail .now) (c .args .tally .settled) (c .args .tally .broken)
     given = c .pre .1 .0
 
-    ready : Ready (c .args .list .now) (c .args .arrangement .now) (c .args .witnesses .now) n (length (c .args .weights .now))
+    ready : Ready (c .args .rules .now) (c .args .arrangement .now) (c .args .witnesses .now) n (length (c .args .weights .now))
     ready = c .pre .1 .1 .0
 
     covers : Covers f (pending (newest (c .args .tally)) (c .args .tally) (c .args .a .now) (c .args .trail .now))
     covers = c .pre .1 .1 .1
 
     fit : fits n f ≡ true
-    fit = sound-fits n (c .args .list .now) (ready .sound)
+    fit = sound-fits n (c .args .rules .now) (ready .sound)
 
   -- after propagation: the state a with its trail
   module _ (c : Propagation) where
@@ -353,8 +353,8 @@ module _ (t : ℕ) where
     state = laws.propagated lives
 
     -- what is lent serves the propagated state too, while the table keeps its length
-    ready-there : {witnesses : List ℕ} {weights : ℕ} → Witnesses (start c .args .list .now) witnesses → weights ≡ length (start c .args .weights .now)
-        → Ready (start c .args .list .now) (start c .args .arrangement .now) witnesses (length (a (propagation c))) weights
+    ready-there : {witnesses : List ℕ} {weights : ℕ} → Witnesses (start c .args .rules .now) witnesses → weights ≡ length (start c .args .weights .now)
+        → Ready (start c .args .rules .now) (start c .args .arrangement .now) witnesses (length (a (propagation c))) weights
     ready-there w p = ready-still (state .state .size) w p (ready (start c))
 
   -- its completion is no model
