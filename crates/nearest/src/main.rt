@@ -1,7 +1,7 @@
 // `nearest RULES WISH`, or `nearest` alone for `rules.cnf` and `wish.txt` of the current folder: prints
 // the least number of broken wishes and the first choice, or the line of a refusal. What is printed is
-// `nearestPrinted` in nearest_text/specs/Printed.antt, and what is said of a refusal on standard error
-// `diagnostic` in diagnostics/specs/Diagnostic.antt.
+// `nearestPrinted` in program_nearest_text/specs/Printed.antt, and what is said of a refusal on standard error
+// `diagnostic` in program_diagnostics/specs/Diagnostic.antt.
 use libc::STDERR_FILENO;
 use libc::STDOUT_FILENO;
 use program_input::FilesRead;

@@ -1,7 +1,7 @@
 // Reads `rules.cnf` and `wish.txt` of the current folder, and prints the rules, the wishes and the limit
 // as an OPB file, or the line of a refusal. What is printed is `opbPrinted` in
-// opb_text/specs/Printed.antt, and what is said of a refusal on standard error `diagnostic` in
-// diagnostics/specs/Diagnostic.antt.
+// program_opb_text/specs/Printed.antt, and what is said of a refusal on standard error `diagnostic` in
+// program_diagnostics/specs/Diagnostic.antt.
 use libc::STDOUT_FILENO;
 use program_input::FilesRead;
 use program_options::Asked;

@@ -1,4 +1,4 @@
--- What is wrong and what would be right, for each cause for which a program refuses two files (document 01, "Refusals"; 16 is document 02's, L2), by its number. That each refusal of a program has a sentence is `program-worded` in same_refusal/specs/Worded.antt.
+-- What is wrong and what would be right, for each cause for which a program refuses two files (document 01, "Refusals"; 16 is document 02's, L2), by its number. That each refusal of a program has a sentence is `program-worded` in program_same_refusal/specs/Worded.antt.
 use mathlib.Core.Bool.{Bool, cond}
 use mathlib.Core.List.{List, []}
 use Prim.Native.Nat.{ℕ}

@@ -1,6 +1,6 @@
 // Reads `rules.cnf` and `wish.txt` of the current folder, and prints the rule file of the rewritten
-// rules, or the line of a refusal. What is printed is `printed` in rewrite_text/specs/Printed.antt, and what
-// is said of a refusal on standard error `diagnostic` in diagnostics/specs/Diagnostic.antt.
+// rules, or the line of a refusal. What is printed is `printed` in program_rewrite_text/specs/Printed.antt, and what
+// is said of a refusal on standard error `diagnostic` in program_diagnostics/specs/Diagnostic.antt.
 use libc::STDOUT_FILENO;
 use program_input::FilesRead;
 use program_options::Asked;

@@ -1,5 +1,5 @@
 // The tokens of a rule file as a struct of the file and a kept offset. The functions over it are thin:
-// `rule_tokens` does the work, on the slice and the number.
+// `rule_file_tokens` does the work, on the slice and the number.
 use rule_file_tokens::NextToken;
 ghost use mathlib.Core.Path.{_≡_};
 ghost use Rattle.rule_file.specs.Tokens.{tokensFrom};
