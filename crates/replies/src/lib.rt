@@ -1,5 +1,5 @@
 // The answers that several calls share, one enum for each kind. What a search answers is in crate
-// `searches`.
+// `search_meaning`.
 use refusal::Refusal;
 
 // A call that writes a text: refused, or the text's length.
