@@ -33,7 +33,7 @@ pub fn admit_wishes(n: usize, rules: &[i32], row: &[u8], d: usize) -> Admission
     admission_steps::then_size(fitting, n)
 }
 
-// The same, where every rule Must have an entry.
+// The same, where every rule must have an entry.
 pub fn admit_export(n: usize, rules: &[i32], row: &[u8], d: usize) -> Admission
     ensures { result ≡ admission (exported_problem n rules.now row.now d) }
 {

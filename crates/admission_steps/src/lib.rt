@@ -15,7 +15,7 @@ use refusal_causes::RowScan;
 use rule_list::RuleScan;
 
 // How many clauses, literals and wishes were lent, and what the wishes weigh.
-#[derive(Drop)]
+#[derive(Clone, Copy)]
 pub struct Counts {
     pub clauses: usize,
     pub literals: usize,
@@ -24,7 +24,7 @@ pub struct Counts {
 }
 
 // Refused, or admitted with these counts.
-#[derive(Drop)]
+#[derive(Clone, Copy)]
 pub enum Admission {
     Refused(Refusal),
     Admitted(Counts),

@@ -1,4 +1,6 @@
 // The answer of any call as the struct that C takes.
+#![tactic(auto)]
+
 ghost use Rattle.std.specs.Prelude.{◌≡◌};
 ghost use Rattle.refusal.specs.Reply.{refusing, answering};
 ghost use Rattle.c_answers.specs.Answers.{answer_of};
@@ -8,7 +10,7 @@ use refusal::Refusal;
 // Document 01's number and place of a refusal, or the verdict and up to three values of an answer;
 // whatever is not used is 0.
 #[repr(C)]
-#[derive(Drop)]
+#[derive(Clone, Copy)]
 pub struct Answer {
     pub refusal: u64,
     pub place: u64,

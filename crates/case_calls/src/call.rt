@@ -41,7 +41,7 @@ pub const NUMBERS: usize = 2;
 
 // Which values a case of a call has, in this order, and what buffer after them. A file that is read
 // stands as a row.
-#[derive(Drop)]
+#[derive(Clone, Copy)]
 pub struct Form {
     pub n: bool,
     pub rules: bool,

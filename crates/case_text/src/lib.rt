@@ -4,6 +4,8 @@
 // Reading goes by places in a line. Where what is asked for does not stand at a place, the place
 // after it is past the line's end, and nothing can be read from there. So a case is read to its end
 // first, and one test then tells whether all of it was as asked.
+#![tactic(auto)]
+
 mod arrays;
 pub mod held;
 mod list;
@@ -23,14 +25,14 @@ const LINE_FEED: u8 = 10;
 const GREATEST: usize = 18446744073709551615;
 
 // A number, and the place after it.
-#[derive(Drop)]
+#[derive(Clone, Copy)]
 pub struct Number {
     pub value: usize,
     pub next: usize,
 }
 
 // A signed number, and the place after it.
-#[derive(Drop)]
+#[derive(Clone, Copy)]
 pub struct Signed {
     pub value: i32,
     pub next: usize,

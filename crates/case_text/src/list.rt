@@ -6,7 +6,7 @@ ghost use Rattle.case_text.specs.Prefix.{Prefix};
 use crate::arrays;
 
 // How far a list is filled, and the place in the line after it.
-#[derive(Drop)]
+#[derive(Clone, Copy)]
 pub struct Filled {
     pub end: usize,
     pub next: usize,
@@ -14,7 +14,7 @@ pub struct Filled {
 
 // The last element that was read, the place after it, and how many further elements a repeat still
 // has, each from how many places before.
-#[derive(Drop)]
+#[derive(Clone, Copy)]
 struct Element {
     value: i32,
     next: usize,

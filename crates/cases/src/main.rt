@@ -10,7 +10,7 @@ use case_calls::call;
 use case_text::{report, words};
 use libc::STDIN_FILENO;
 
-// The input Must be shorter than this.
+// The input must be shorter than this.
 const INPUT: usize = 1310720;
 
 fn input() -> [u8; 1310720]

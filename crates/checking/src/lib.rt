@@ -8,7 +8,7 @@ use admission_steps::Admission;
 use refusal::Refusal;
 
 // Refused, or every rule met or not, with the number of broken wishes.
-#[derive(Drop)]
+#[derive(Clone, Copy)]
 pub enum Checked {
     Refused(Refusal),
     Met(usize),

@@ -21,7 +21,7 @@ member_index z (y ∷ l) (Memᴰ.head e) = (0, (omega arith), sym e)
 member_index z (y ∷ l) (Memᴰ.tail m) = let r = member_index z l m in (suc r.0, (omega (arith, r.1)), r.2)
 
 -- a test that some member passes, and one that all pass
-pub any_at {ℓ} : {A : Type ℓ} (p : A → Bool) {l : List A} {x : A} → Memᴰ x l → p x ≡ true → any p l ≡ true
+pub any_at {ℓ} : {A : Type ℓ} (p : A → Bool) {x : A} {l : List A} → Memᴰ x l → p x ≡ true → any p l ≡ true
 any_at p (Memᴰ.head {xs = l} e) t = ap (λ (b : Bool). b || any p l) (sym (ap p e) ∙ t)
 any_at p (Memᴰ.tail {x = y} {xs = l} m) t = ap (λ (b : Bool). p y || b) (any_at p m t) ∙ or-true (p y)
 
@@ -35,14 +35,14 @@ any_member {A} p (y ∷ l) e = go (p y) refl e (λ q. any_member p l q)
     go false t q ih = let r = ih q in (r.0, Memᴰ.tail r.1, r.2)
 
 -- no member passes a test that the list fails
-pub any_false {ℓ} : {A : Type ℓ} (p : A → Bool) {l : List A} {x : A} → any p l ≡ false → Memᴰ x l → p x ≡ false
-any_false p {l} {x} e m = go (p x) refl
+pub any_false {ℓ} : {A : Type ℓ} (p : A → Bool) {x : A} {l : List A} → any p l ≡ false → Memᴰ x l → p x ≡ false
+any_false p {x} {l} e m = go (p x) refl
   where
     go : (b : Bool) → p x ≡ b → b ≡ false
     go true t = absurd (true≢false (sym (any_at p m t) ∙ e))
     go false t = refl
 
-pub all_at {ℓ} : {A : Type ℓ} (p : A → Bool) {l : List A} {x : A} → all p l ≡ true → Memᴰ x l → p x ≡ true
+pub all_at {ℓ} : {A : Type ℓ} (p : A → Bool) {x : A} {l : List A} → all p l ≡ true → Memᴰ x l → p x ≡ true
 all_at p {x = x} h (Memᴰ.head {x = y} {xs = l} e) = ap p e ∙ go (p y) h
   where
     go : (b : Bool) → b && all p l ≡ true → b ≡ true
@@ -82,7 +82,7 @@ kept_passes p (y ∷ l) {x} m = go (p y) refl (λ (q : Memᴰ x (keep p l)). kep
     go false e ih m = later (ih m)
 
 -- what stands in the list and passes the test is kept
-pub passes_kept {ℓ} : {A : Type ℓ} (p : A → Bool) {l : List A} {x : A} → Memᴰ x l → p x ≡ true → Memᴰ x (keep p l)
+pub passes_kept {ℓ} : {A : Type ℓ} (p : A → Bool) {x : A} {l : List A} → Memᴰ x l → p x ≡ true → Memᴰ x (keep p l)
 passes_kept p {x = x} (Memᴰ.head {x = y} {xs = l} e) t = go (p y) (sym (ap p e) ∙ t)
   where
     go : (b : Bool) → b ≡ true → Memᴰ x (cond b (y ∷ keep p l) (keep p l))

@@ -9,7 +9,7 @@ pub const FIRST_DIGIT: u8 = b'0';
 pub const LAST_DIGIT: u8 = b'9';
 
 // Whether some bytes are a number, and which.
-#[derive(Drop)]
+#[derive(Clone, Copy)]
 pub enum Number {
     Malformed,
     Value(usize),
@@ -24,14 +24,14 @@ pub fn number_of(word: &[u8]) -> Number
         return Number::Malformed;
     }
     let first = word[0];
-    if !is_digit_lem(first) {
+    if !is_digit(first) {
         return Number::Malformed;
     }
     let mut value = digit_value(first);
     let mut i = 1;
     while i < word.len() {
         let b = word[i];
-        if !is_digit_lem(b) {
+        if !is_digit(b) {
             return Number::Malformed;
         }
         if value == 0 {
@@ -47,7 +47,7 @@ pub fn number_of(word: &[u8]) -> Number
 }
 
 // Whether a byte is a decimal digit.
-fn is_digit_lem(b: u8) -> bool
+fn is_digit(b: u8) -> bool
     ensures { result ≡ is_digit b }
 {
     if b < FIRST_DIGIT {

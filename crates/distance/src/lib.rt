@@ -1,4 +1,6 @@
 // How many wishes an assignment breaks.
+#![tactic(auto)]
+
 ghost use Rattle.std.specs.Prelude.{◌≡◌, ◌<◌, ◌^◌};
 ghost use Rattle.wish.specs.Wish.{total_weight};
 ghost use Rattle.distance.specs.Distance.{disagreement};

@@ -1,4 +1,6 @@
 // Formulas in conjunctive normal form, as one list of literals in which a 0 closes each clause.
+#![tactic(auto)]
+
 ghost use Rattle.std.specs.Prelude.{◌≡◌, ◌+◌, drop};
 ghost use Rattle.formula.specs.Formula.{clauses, clause_length, satisfied, models};
 

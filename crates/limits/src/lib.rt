@@ -1,4 +1,6 @@
 // The limits of document 01, each as the definition of the same name in specs/Limits.antt.
+#![tactic(auto)]
+
 pub const MAX_VARIABLES: usize = 640;
 
 pub const MAX_CLAUSES: usize = 9000;

@@ -1,15 +1,17 @@
 // Variables, clauses and literals: the one place with signed arithmetic. Everything above works on
 // the numbers and booleans that these functions give.
+#![tactic(auto)]
+
 ghost use Rattle.std.specs.Prelude.{◌≡◌, ◌≤◌, neg_ℤ};
 ghost use Rattle.literal.specs.Literal.{variable, closes, wanted, literal, value, holds};
 ghost use Rattle.literal.specs.Slots.{slot};
 
 // A variable's number, from 1 (document 01: a setting).
-#[derive(Drop)]
+#[derive(Clone, Copy)]
 pub struct Variable(pub usize);
 
 // A clause's number, from 1 (document 01: a rule).
-#[derive(Drop)]
+#[derive(Clone, Copy)]
 pub struct Clause(pub usize);
 
 // The variable of a literal, or the magnitude of any number: a closing zero gives 0, which is no variable,

@@ -16,7 +16,7 @@ fn is_broken(v: Variable, row: &[u8], taken: &[u8], a: &[u8]) -> bool
 }
 
 // The variable of the lowest such wish, where there is one.
-#[derive(Drop)]
+#[derive(Clone, Copy)]
 pub enum Lowest {
     Nothing,
     Wish(Variable),

@@ -2,7 +2,7 @@
 use walk_tally::Tally;
 
 // The tally of the values, how many wishes are assumed, and how much is broken at least.
-#[derive(Drop)]
+#[derive(Clone, Copy)]
 pub struct Progress {
     pub tally: Tally,
     pub assumed: usize,

@@ -1,4 +1,4 @@
--- The facts about disjoint cores on which narrowing rests: a core costs at least its least weight, disjoint cores add to what the state breaks, and a wish that would cost too much besides them Must be kept.
+-- The facts about disjoint cores on which narrowing rests: a core costs at least its least weight, disjoint cores add to what the state breaks, and a wish that would cost too much besides them must be kept.
 use Rattle.std.specs.Prelude.{◌≡◌, refl, Bool, true, false, ◌||◌, ℕ, ◌+◌, ◌≤◌, ◌<◌, ℤ}
 use Rattle.std.proofs.Common.{sym, subst, ◌∙◌, true≢false, zero-le, arith, ltb-true}
 use mathlib.Core.List.{List, [], ◌∷◌, ◌++◌, Memᴰ}
@@ -123,7 +123,7 @@ heavy_wish w h = go (is_wish w) refl
 cheap_kept : (w b : ℕ) → cost w b < weight w → cost w b ≡ 0
 cheap_kept w b h = cost_kept w b (λ e. omega (arith, cost_broken w b e))
 
--- A wish that stands in no core, and whose weight is more than is left of d besides the cores, Must be kept: every model within d that extends the state has the wished value.
+-- A wish that stands in no core, and whose weight is more than is left of d besides the cores, must be kept: every model within d that extends the state has the wished value.
 pub must_keep_lem : {n : ℕ} {f : List (List ℤ)} {row a : List ℕ} {cores : List (List ℕ)} → State n a → Cores n f row a cores
     → (v : ℕ) → Unset n a v → (Memᴰ v (variables_of cores) → ⊥) → (d : ℕ) → d < disagreement row a + least_sum row cores + weight (value row v)
     → (c : List ℕ) → Model n f c → Extends c a → disagreement row c ≤ d → value c v ≡ wished_value (value row v)

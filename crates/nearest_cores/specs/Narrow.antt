@@ -8,7 +8,7 @@ use Rattle.walk.specs.Propagation.{propagate}
 use Rattle.walk.specs.Walk.{is_dead_end}
 use Rattle.nearest_cores.specs.Cores.{Scan, is_left, keep_wish, scan}
 
--- A wish in no core Must be kept if breaking it would take more than d: its weight comes on top of the bound. A free variable weighs nothing, so this is false of it wherever the bound is within d.
+-- A wish in no core must be kept if breaking it would take more than d: its weight comes on top of the bound. A free variable weighs nothing, so this is false of it wherever the bound is within d.
 abbrev pub must_keep : List ℕ → ℕ → List ℕ → ℕ → ℕ → Bool
 must_keep row d taken bound v = is_left taken v && ltb d (bound + weight (value row v))
 

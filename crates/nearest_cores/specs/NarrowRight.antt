@@ -59,7 +59,7 @@ pub keep_wish_state : {n : ℕ} {a : List ℕ} → State n a → (row : List ℕ
 keep_wish_state h row v = assign_state h v (wished_value (value row v)) (omega (arith, wished_bit (value row v)))
 
 module _ (row : List ℕ) (d : ℕ) (taken : List ℕ) (bound : ℕ) where
-  -- what every variable that Must be kept keeps, all of them keep
+  -- what every variable that must be kept keeps, all of them keep
   pub keeping_keeps : (Q : List ℕ → Type 0) → ((a : List ℕ) (v : ℕ) → must_keep row d taken bound v ≡ true → Q a → Q (keep_wish row a v))
       → (k : ℕ) (a : List ℕ) (v : ℕ) → Q a → Q (keep_from k row d taken bound a v)
   keeping_keeps Q step zero a v q = q
@@ -180,7 +180,7 @@ module _ (n : ℕ) (f : List (List ℤ)) (fit : fits n f ≡ true) (row : List �
 extends_over : {a b : List ℕ} → Extends a b → (v x : ℕ) → value b v ≡ 2 → Extends (assign a v x) b
 extends_over {a} {b} h v x e = record { keeps = λ i q. assign_other a v x (suc i) (λ z. q (ap (value b) z ∙ e)) ∙ h.keeps i q }
 
--- what Must be kept is left, and costs more than is left of d
+-- what must be kept is left, and costs more than is left of d
 pub must_both : (row : List ℕ) (d : ℕ) (taken : List ℕ) (bound v : ℕ) → must_keep row d taken bound v ≡ true → (is_left taken v ≡ true) × (d < bound + weight (value row v))
 must_both row d taken bound v e =
     let r = (and-eq-true_iff (is_left taken v) (ltb d (bound + weight (value row v)))).0 e in
@@ -193,10 +193,10 @@ module _ (n : ℕ) (f : List (List ℤ)) (row : List ℕ) (d : ℕ) (b : List �
   abbrev kept_all : List ℕ
   kept_all = keep_all row d (scan f row b).taken (scan f row b).bound b
 
-  abbrev Must : ℕ → Type 0
-  Must v = must_keep row d (scan f row b).taken (scan f row b).bound v ≡ true
+  abbrev must : ℕ → Type 0
+  must v = must_keep row d (scan f row b).taken (scan f row b).bound v ≡ true
 
-  -- keeping the wishes that Must be kept extends the state
+  -- keeping the wishes that must be kept extends the state
   pub keep_extends : Extends kept_all b
   keep_extends =
       keeping_keeps row d (scan f row b).taken (scan f row b).bound (λ (a : List ℕ). Extends a b)
@@ -210,7 +210,7 @@ module _ (n : ℕ) (f : List (List ℤ)) (row : List ℕ) (d : ℕ) (b : List �
       (λ a v e k. extends_assign k v (wished_value (value row v)) (wished v e))
       (length b) b 1 h
     where
-      wished : (v : ℕ) → Must v → value c v ≡ wished_value (value row v)
+      wished : (v : ℕ) → must v → value c v ≡ wished_value (value row v)
       wished v e =
           must_keep_lem st found.are_cores v
           (record { above = left_above f row b v (must_both row d (scan f row b).taken (scan f row b).bound v e).0; up_to = left_up_to f row b st v (must_both row d (scan f row b).taken (scan f row b).bound v e).0; unset = left_unassigned f row b v (must_both row d (scan f row b).taken (scan f row b).bound v e).0 })

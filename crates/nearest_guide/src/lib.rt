@@ -1,4 +1,6 @@
 // A guide for completions: a row that asks of every wished variable its wish, and of a free one what a choice has.
+#![tactic(auto)]
+
 ghost use Rattle.std.specs.Prelude.{◌≡◌, true, ℕ, ◌≤◌, ◌<◌, length, get_or};
 ghost use Rattle.wish.specs.Wish.{is_wish, wished_value};
 ghost use Rattle.nearest_cores.specs.SearchRight.{Guides};

@@ -1,4 +1,4 @@
--- Keeping the wishes that Must be kept: one after the other, by rising variable.
+-- Keeping the wishes that must be kept: one after the other, by rising variable.
 use Rattle.std.specs.Prelude.{◌≡◌, refl, Bool, true, false, cond, ◌&&◌, List, [], ◌∷◌, ◌++◌, ℕ, suc, ◌+◌, ◌-◌, ◌≤◌, ◌<◌, ltb, ℤ, length}
 use Rattle.std.proofs.Common.{sym, ap, ap₂, subst, ◌∙◌, arith, eq-eqb, ne_eqb, lt-ltb, le-ltb, ltb-true, ltb-false}
 use Rattle.std.proofs.Math.Seq.{slice}
@@ -62,7 +62,7 @@ module _ {n : ℕ} {row a trail : List ℕ} {t : Tally} (h : Searching n row a t
           ap₂ (λ (w q : List ℕ). record { values = w; queue = q }) (sym told.values)
           (sym (ap₂ (λ (m : ℕ) (r : List ℕ). slice head m r) told.settled told.order ∙ slice-stored trail head t.settled v l (omega (arith, keep_room, h.long))))
 
--- What keeping the wish of one variable does, where it Must be kept.
+-- What keeping the wish of one variable does, where it must be kept.
 pub record KeptOne (n : ℕ) (row : List ℕ) (d : ℕ) (taken : List ℕ) (bound v : ℕ) (t : Tally) (a trail : List ℕ) (t' : Tally) (a' trail' : List ℕ) : Type 0 where
   pub values : a' ≡ keep_if row d taken bound a v
   pub kept : KeptTo n row t a trail t' a' trail'
@@ -71,9 +71,9 @@ module _ {n : ℕ} {row a trail : List ℕ} {t : Tally} (h : Searching n row a t
   pub one_not : must_keep row d taken bound v ≡ false → KeptOne n row d taken bound v t a trail t a trail
   one_not e = record { values = sym (ap (λ (b : Bool). cond b (keep_wish row a v) a) e); kept = kept_none h }
 
-  module _ (low : 0 < v) (high : v ≤ n) (free : is_left taken v ≡ true → value a v ≡ 2) (Must : must_keep row d taken bound v ≡ true) where
+  module _ (low : 0 < v) (high : v ≤ n) (free : is_left taken v ≡ true → value a v ≡ 2) (must : must_keep row d taken bound v ≡ true) where
     unset : value a v ≡ 2
-    unset = free (must_both row d taken bound v Must).0
+    unset = free (must_both row d taken bound v must).0
 
     pub one_room : t.settled < n
     one_room = keep_room h v (wished_value (value row v)) low high unset (wished_bit (value row v))
@@ -81,7 +81,7 @@ module _ {n : ℕ} {row a trail : List ℕ} {t : Tally} (h : Searching n row a t
     pub one_kept : {t' : Tally} {a' trail' : List ℕ} → AssignedTo row v (wished_value (value row v)) t a trail t' a' trail' → KeptOne n row d taken bound v t a trail t' a' trail'
     one_kept told =
         record {
-          values = told.values ∙ sym (ap (λ (b : Bool). cond b (keep_wish row a v) a) Must);
+          values = told.values ∙ sym (ap (λ (b : Bool). cond b (keep_wish row a v) a) must);
           kept = kept_assigned h v (wished_value (value row v)) low high unset (wished_bit (value row v)) told;
         }
 

@@ -78,7 +78,7 @@ module _ {n : ℕ} {row : List ℕ} {t : Tally} {a trail : List ℕ} (given : Se
       pub round_over : d < bound → RoundBy n f row d t a trail a'' trail'' (Dead t')
       round_over l = (by_bound ∙ ap (λ (b : Bool). cond b none (unless_kept rest a'' (keep_all row d taken bound a''))) (lt-ltb d bound l), round_moved)
 
-      -- the wishes are kept that Must be
+      -- the wishes are kept that must be
       module _ (within : bound ≤ d) {t'' : Tally} {a''' trail''' : List ℕ} (values : a''' ≡ keep_all row d taken bound a'') (kept : KeptTo n row t' a'' trail'' t'' a''' trail''') where
         by_kept : rest a ≡ cond (eqb (unassigned a''') (unassigned a'')) (some a'') (rest a''')
         by_kept = by_bound ∙ ap (λ (b : Bool). cond b none (unless_kept rest a'' (keep_all row d taken bound a''))) (le-ltb d bound within) ∙ ap (unless_kept rest a'') (sym values)

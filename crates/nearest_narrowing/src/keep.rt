@@ -22,7 +22,7 @@ fn must_keep(row: &[u8], d: usize, taken: &[u8], bound: usize, v: Variable) -> b
     d - bound < wish::weight_of(literal::value_of(v, row))
 }
 
-// Assigns the wish of a variable, where it Must be kept.
+// Assigns the wish of a variable, where it must be kept.
 fn keep_wish(
     row: &[u8],
     d: usize,
@@ -44,7 +44,7 @@ fn keep_wish(
     tally
 }
 
-// Assigns the wishes that Must be kept.
+// Assigns the wishes that must be kept.
 pub fn keep_wishes(
     row: &[u8],
     d: usize,

@@ -1,4 +1,4 @@
-// Narrowing a state for a limit: unit propagation, disjoint cores, and the wishes that Must be kept.
+// Narrowing a state for a limit: unit propagation, disjoint cores, and the wishes that must be kept.
 mod keep;
 mod rounds;
 

@@ -13,14 +13,14 @@ use walk_tally::Tally;
 
 // What a round comes to: a dead end, the narrowed state, or one with wishes kept, which stand on the trail from a
 // place on.
-#[derive(Drop)]
+#[derive(Clone, Copy)]
 enum Round {
     Dead(Tally),
     Narrowed(Tally),
     Kept(usize, Tally),
 }
 
-// One round: unit propagation, the cores, and the wishes that Must be kept.
+// One round: unit propagation, the cores, and the wishes that must be kept.
 fn narrow_round(
     rules: &[i32],
     arrangement: &[u16],

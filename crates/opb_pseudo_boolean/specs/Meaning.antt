@@ -1,7 +1,7 @@
 -- What the exported constraints say of a choice (document 02, L2).
 use Rattle.std.specs.Prelude.{◌≡◌, refl, ◌↔◌, Bool, true, false, cond, ℕ, ◌+◌, ◌≤◌, ◌<◌, ltb, ℤ, length}
 use Rattle.std.proofs.Common.{sym, ap, subst, ◌∙◌, ⊎_elim, true≢false, arith, ltb-true, ltb-false}
-use Rattle.std.proofs.Math.Logic.{Iff·symm, Iff·trans, Iff·and}
+use mathlib.Core.Logic.Iff
 use mathlib.Core.List.Memᴰ
 use mathlib.Core.List.{List, [], ◌∷◌, ◌++◌, map, Memᴰ}
 use Rattle.std.proofs.lemmas.List.{length-map}
@@ -25,14 +25,14 @@ pub satisfies_rule : (n : ℕ) (a : List ℕ) (c : List ℤ) → Choice n a → 
 satisfies_rule n a c ch o =
     let enough : (1 + negatives c ≤ held a c + negatives c) ↔ (0 < held a c) = omega arith in
     rw (clause_sum a c (λ x m. choice_value n a ch (variable x) (o x m).0 (o x m).1))
-    (Iff·trans (difference_le 1 (negatives c) (held a c) (negatives c)) (Iff·trans enough (Iff·symm (satisfied-held a c))))
+    (Iff.trans (difference_le 1 (negatives c) (held a c) (negatives c)) (Iff.trans enough (Iff.symm (satisfied-held a c))))
 
 -- A choice satisfies the constraint of the wishes exactly when it breaks at most d of them.
 pub satisfies_wishes : (n : ℕ) (a row : List ℕ) (d : ℕ) → Choice n a → length row ≡ n → Satisfies a (wish_constraint row d) ↔ (disagreement row a ≤ d)
 satisfies_wishes n a row d ch long =
     let few : (wished_on row + disagreement row a ≤ wished_on row + d) ↔ (disagreement row a ≤ d) = omega arith in
     rw (wishes_sum 0 row a (record { size = omega (arith, ch.size); bytes = ch.bytes }))
-    (Iff·trans (difference_le (wished_on row) d (wished_on row) (disagreement row a)) few)
+    (Iff.trans (difference_le (wished_on row) d (wished_on row) (disagreement row a)) few)
 
 -- and so where there is that constraint only if there are wishes
 satisfies_last_line : (n : ℕ) (a row : List ℕ) (d : ℕ) → Choice n a → length row ≡ n → SatisfiesAll a (wish_constraints row d) ↔ (disagreement row a ≤ d)
@@ -72,8 +72,8 @@ satisfies_append a f g = (
 pub satisfies_exported : (n : ℕ) (rules : List ℤ) (row : List ℕ) (d : ℕ) → Admitted (wished_problem n rules row d) → (a : List ℕ) → Choice n a
     → SatisfiesAll a (exported rules row d) ↔ ((models a (clauses rules) ≡ true) × (disagreement row a ≤ d))
 satisfies_exported n rules row d ok a ch =
-    Iff·trans (satisfies_append a (map rule_constraint (clauses rules)) (wish_constraints row d))
-    (Iff·and (satisfies_rules n a (clauses rules) ch (sound_over n rules ok.sound_rules)) (satisfies_last_line n a row d ch ok.long_row))
+    Iff.trans (satisfies_append a (map rule_constraint (clauses rules)) (wish_constraints row d))
+    (Iff.and (satisfies_rules n a (clauses rules) ch (sound_over n rules ok.sound_rules)) (satisfies_last_line n a row d ch ok.long_row))
 
 -- So the choices that satisfy the lines are those that meet the rules within d, and no others.
 pub exported-within : (n : ℕ) (rules : List ℤ) (row : List ℕ) (d : ℕ) → Admitted (wished_problem n rules row d) → (a : List ℕ)

@@ -9,7 +9,7 @@ use program_files::ReadProblem;
 use refusal::Refusal;
 
 // A file that is too long, refused, or neither.
-#[derive(Drop)]
+#[derive(Clone, Copy)]
 pub enum ProblemCheck {
     TooLong,
     Refused(Refusal),

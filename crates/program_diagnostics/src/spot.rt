@@ -5,7 +5,7 @@ ghost use Rattle.program_diagnostics.specs.Diagnostic.{spot_of, spot_too_long};
 use program_files::MAX_FILE;
 
 // A place in the wish file, or in the rule file.
-#[derive(Drop)]
+#[derive(Clone, Copy)]
 pub struct Spot {
     pub wishes: bool,
     pub place: usize,

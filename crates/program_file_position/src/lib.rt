@@ -1,9 +1,11 @@
 // Where a place of a file stands, as people name it: by its line and its column.
+#![tactic(auto)]
+
 ghost use Rattle.std.specs.Prelude.{◌≡◌};
 ghost use Rattle.program_file_position.specs.Position.{position_at};
 
 // A line and a column, both counted from 1.
-#[derive(Drop)]
+#[derive(Clone, Copy)]
 pub struct Position {
     pub line: usize,
     pub column: usize,

@@ -16,7 +16,7 @@ pub const MAX_FILE: usize = 65536;
 
 // What the files give beside the list and the row: the number of variables, the lengths of both, and
 // the limit.
-#[derive(Drop)]
+#[derive(Clone, Copy)]
 pub struct Sizes {
     pub variables: usize,
     pub length: usize,
@@ -25,7 +25,7 @@ pub struct Sizes {
 }
 
 // A file that is too long, refused, or what the files give.
-#[derive(Drop)]
+#[derive(Clone, Copy)]
 pub enum ReadProblem {
     TooLong,
     Refused(Refusal),

@@ -1,17 +1,19 @@
 // The files that a program reads. No contract can say which bytes a file has; these functions say how
 // many of the lent bytes were filled.
+#![tactic(auto)]
+
 ghost use Rattle.std.specs.Prelude.{◌≡◌, ◌<◌, length};
 ghost use Rattle.program_input.specs.Filled.{Filled, BothFilled};
 
 // How many bytes were read, unless the file could not be read.
-#[derive(Drop)]
+#[derive(Clone, Copy)]
 enum FileRead {
     Failed,
     Bytes(usize),
 }
 
 // How many bytes were read of a rule file and of a wish file, unless one could not be read.
-#[derive(Drop)]
+#[derive(Clone, Copy)]
 pub enum FilesRead {
     Failed,
     Bytes(usize, usize),

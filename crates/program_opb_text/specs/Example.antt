@@ -20,7 +20,7 @@ empty_rule =
     ++ (49 ∷ 32 ∷ 50 ∷ 32 ∷ 48 ∷ 10 ∷ [])
     ++ (48 ∷ 10 ∷ [])
 
--- setting 1 or 2 Must be on, both are wished off, and at most one wish may be broken
+-- setting 1 or 2 must be on, both are wished off, and at most one wish may be broken
 pub exported-example : opb_printed one_rule both_off ≡ three_lines
 unfolding decimal digits class_of
 exported-example = refl

@@ -1,11 +1,13 @@
 // What a program's first argument asks for instead of the program's work.
+#![tactic(auto)]
+
 ghost use Rattle.std.specs.Prelude.{◌≡◌};
 ghost use Rattle.program_options.specs.Options.{same_bytes, asked_by};
 
 use libc::{STDERR_FILENO, STDOUT_FILENO};
 
 // How to call the program, which version it is, or nothing of the kind.
-#[derive(Drop)]
+#[derive(Clone, Copy)]
 pub enum Asked {
     Help,
     Version,
@@ -24,16 +26,16 @@ pub fn first_asked() -> Asked {
 fn asked_by(word: &[u8]) -> Asked
     ensures { result ≡ asked_by word.now }
 {
-    if same_bytes_lem(word, b"--help") {
+    if same_bytes(word, b"--help") {
         return Asked::Help;
     }
-    if same_bytes_lem(word, b"--version") {
+    if same_bytes(word, b"--version") {
         return Asked::Version;
     }
     Asked::Nothing
 }
 
-fn same_bytes_lem(a: &[u8], b: &[u8]) -> bool
+fn same_bytes(a: &[u8], b: &[u8]) -> bool
     ensures { result ≡ same_bytes a.now b.now }
 {
     if a.len() != b.len() {

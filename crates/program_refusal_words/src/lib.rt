@@ -1,4 +1,6 @@
 // What is wrong and what would be right, for each cause for which a program refuses its files.
+#![tactic(auto)]
+
 ghost use Rattle.std.specs.Prelude.{◌+◌, ◌≤◌, length};
 ghost use Rattle.writing.specs.Wrote.{Wrote};
 ghost use Rattle.program_refusal_words.specs.Reasons.{wrong_count, rule_reason, wish_reason, reason, longest};

@@ -1,4 +1,6 @@
 // The lines of a choice that was found, as solvers print them.
+#![tactic(auto)]
+
 mod solution;
 mod values;
 

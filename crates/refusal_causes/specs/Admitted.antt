@@ -47,7 +47,7 @@ pub record Admitted (s : Lent) : Type 0 where
   pub small : InPart s.wishes (λ (w : Wishes). SmallProblem s.problem.n s.problem.rules)
   pub entries : Asked s.problem.asks_entries (empty_clause 0 (clauses s.problem.rules) ≡ none)
 
--- a cause of a part does not apply exactly when the part, if there is one, is as it Must be
+-- a cause of a part does not apply exactly when the part, if there is one, is as it must be
 module _ {A : Type 0} {f : A → Option ℕ} {F : A → Type 0} where
   in_part : (o : Option A) → ((part : A) → f part ≡ none → F part) → of_part o f ≡ none → InPart o F
   in_part none g e = tt

@@ -9,7 +9,7 @@ use Rattle.rule_list.specs.Sound.{unread, bad_rule}
 use Rattle.refusal_causes.specs.Empty.{empty_clause}
 use Rattle.refusal_causes.specs.Sound.{bad_wish, bad_choice}
 
--- n and the rule list (empty in a call that takes none), and whether every rule Must have an entry, as the export to OPB asks
+-- n and the rule list (empty in a call that takes none), and whether every rule must have an entry, as the export to OPB asks
 pub record Problem : Type 0 where
   pub n : ℕ
   pub rules : List ℤ
@@ -91,7 +91,7 @@ out_of_range n d = eqb n 0 || (ltb max_variables n || ltb max_limit d)
 abbrev pub range_cause : Lent → Cause
 range_cause s = record { number = 14; place = place_if (out_of_range s.problem.n s.limits.d) 0 }
 
--- 13: "Unsound lent list", at the "first bad index; length if not closed": the rules, the wishes and the choice
+-- 13: "unsound lent list", at the "first bad index; length if not closed": the rules, the wishes and the choice
 abbrev pub rules_cause : Lent → Cause
 rules_cause s = record { number = 13; place = bad_rule s.problem.n unread 0 s.problem.rules }
 

@@ -6,7 +6,7 @@ ghost use Rattle.refusal_causes.specs.Scans.{row_scan};
 use limits::MAX_WISHES;
 
 // A row's first bad index, or how many wishes a sound row has, and what they weigh.
-#[derive(Drop)]
+#[derive(Clone, Copy)]
 pub enum RowScan {
     Unsound(usize),
     Sound { wishes: usize, weight: usize },

@@ -7,7 +7,7 @@ use crate::{book, words};
 use libc::STDOUT_FILENO;
 
 // What the first line of a book says. The name is the rest of the line from a place.
-#[derive(Drop)]
+#[derive(Clone, Copy)]
 struct Heading {
     limits: usize,
     rules: usize,

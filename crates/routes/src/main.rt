@@ -1,6 +1,6 @@
 // Runs the searches, the export to OPB and both routes on the rule books of standard input, and writes a line
 // for each.
-// What it Must write was made from the results of solvers from elsewhere (tests/solvers).
+// What it must write was made from the results of solvers from elsewhere (tests/solvers).
 mod book;
 mod books;
 mod export;
@@ -16,7 +16,7 @@ ghost use Rattle.std.specs.Prelude.{◌≡◌, length};
 
 use libc::STDIN_FILENO;
 
-// The input Must be shorter than this.
+// The input must be shorter than this.
 const INPUT: usize = 1048576;
 
 fn input() -> [u8; 1048576]

@@ -3,7 +3,7 @@ use checking::Checked;
 use refusal::Refusal;
 use search_meaning::Searched;
 
-#[derive(Drop)]
+#[derive(Clone, Copy)]
 pub enum Outcome {
     // The choice meets all rules, and breaks as many wishes as was said and no more than the limit.
     Found,
@@ -30,7 +30,7 @@ pub fn wished(
     }
 }
 
-// The outcome of plain search, which is lent no wishes and so Must say that none is broken.
+// The outcome of plain search, which is lent no wishes and so must say that none is broken.
 pub fn plain(
     n: usize,
     rules: &[i32],

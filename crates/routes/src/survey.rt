@@ -5,7 +5,7 @@ use crate::outcome::Outcome;
 use crate::{report, route, words};
 
 // What both routes say at a limit.
-#[derive(Drop)]
+#[derive(Clone, Copy)]
 enum Both {
     Found,
     Nothing,
@@ -14,7 +14,7 @@ enum Both {
 
 // Below `agreed` the routes agree. Below `none` they both find none, and from there to below `found`
 // they both find a choice.
-#[derive(Drop)]
+#[derive(Clone, Copy)]
 struct Survey {
     agreed: usize,
     none: usize,

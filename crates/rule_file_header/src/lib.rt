@@ -8,7 +8,7 @@ use decimal::Number;
 const PREAMBLE: [u8; 6] = [b'p', b' ', b'c', b'n', b'f', b' '];
 
 // A header's two numbers and the place past it.
-#[derive(Drop)]
+#[derive(Clone, Copy)]
 pub enum ReadHeader {
     Malformed,
     Found {
@@ -56,7 +56,7 @@ fn has_preamble(file: &[u8], at: usize) -> bool
     true
 }
 
-// The header at a place. Each field Must end with its own byte: a space after N, a line feed after C.
+// The header at a place. Each field must end with its own byte: a space after N, a line feed after C.
 pub fn header_at(file: &[u8], at: usize) -> ReadHeader
     requires { at ≤ length file.now }
     ensures { result ≡ header_as at (header (drop at file.now)) }

@@ -14,7 +14,7 @@ use rule_file_header::ReadHeader;
 use rule_file_token_check::Check;
 
 // What a file holds: N, C and the length of its list.
-#[derive(Drop)]
+#[derive(Clone, Copy)]
 pub struct RuleCounts {
     pub variables: usize,
     pub clauses: usize,
@@ -22,7 +22,7 @@ pub struct RuleCounts {
 }
 
 // Refused, or what the file holds.
-#[derive(Drop)]
+#[derive(Clone, Copy)]
 pub enum ReadRules {
     Refused(Refusal),
     Read(RuleCounts),

@@ -32,13 +32,13 @@ abbrev pub answer : ℕ → ℕ → List ℕ → ℕ → C.Check
 answer n c file from = check_as (bad_tokens n c (length file) unread (tokens_from file from)) (length (rules_of (tokens_from file from)))
 
 -- After the tokens before a place: k clauses, m literals, and the literals of the open clause
-pub record Checking (n c : ℕ) (file : List ℕ) (from : ℕ) (stamps : List ℕ) (k m : ℕ) (is_open_lem : Bool) (at : ℕ) : Type 0 where
+pub record Checking (n c : ℕ) (file : List ℕ) (from : ℕ) (stamps : List ℕ) (k m : ℕ) (is_open : Bool) (at : ℕ) : Type 0 where
   pub clause : List ℤ
   pub few : k ≤ c
   pub many : m ≤ 31000
   pub so_far : bad_tokens n c (length file) unread (tokens_from file from) ≡ bad_tokens n c (length file) (scan k m clause) (tokens_from file at)
   pub counted : length (rules_of (tokens_from file from)) ≡ k + m + length (stored (scan k m clause) (map element (tokens_from file at)))
-  pub opened : unclosed clause ≡ is_open_lem
+  pub opened : unclosed clause ≡ is_open
   pub stamped : Stamped stamps (k + 1) clause
 
 pub start : (n c : ℕ) (file : List ℕ) (from : ℕ) (stamps : List ℕ) → length stamps ≡ slots → ((j : ℕ) → get_or stamps j 0 ≡ 0) → Checking n c file from stamps 0 0 false from
@@ -53,8 +53,8 @@ start n c file from stamps l z =
       stamped = stamped_none stamps l z;
     }
 
-module _ {n c : ℕ} {file : List ℕ} {from : ℕ} {stamps : List ℕ} {k m : ℕ} {is_open_lem : Bool} {at : ℕ}
-    (s : Checking n c file from stamps k m is_open_lem at) where
+module _ {n c : ℕ} {file : List ℕ} {from : ℕ} {stamps : List ℕ} {k m : ℕ} {is_open : Bool} {at : ℕ}
+    (s : Checking n c file from stamps k m is_open at) where
   abbrev read : Scan
   read = scan k m s.clause
 
@@ -62,7 +62,7 @@ module _ {n c : ℕ} {file : List ℕ} {from : ℕ} {stamps : List ℕ} {k m : �
   found r e = sym (ap (λ (o : Option Refusal). check_as o (length (rules_of (tokens_from file from)))) (s.so_far ∙ e))
 
   -- no token is left
-  pub ended : T.TheVariants.End ≡ next_of (tokens_from file at) → check_as (cause (ltb k c || is_open_lem) 6 (length file)) (k + m) ≡ answer n c file from
+  pub ended : T.TheVariants.End ≡ next_of (tokens_from file at) → check_as (cause (ltb k c || is_open) 6 (length file)) (k + m) ≡ answer n c file from
   ended e =
       let done : tokens_from file at ≡ [] = token_end file at (sym e) in
       let none_left : length (stored read (map element (tokens_from file at))) ≡ 0 = ap (λ (ts : List Token). length (stored read (map element ts))) done in
@@ -124,7 +124,7 @@ module _ {n c : ℕ} {file : List ℕ} {from : ℕ} {stamps : List ℕ} {k m : �
             ∙ goes_on n c (length file) k m s.clause place g.bytes (tokens_from file next) x g.number (sym faults ∙ fine)
             ∙ ap (λ (u : Scan). bad_tokens n c (length file) u (tokens_from file next)) p
 
-        pub repeated : r ≡ true → Checking n c file from stamps k m is_open_lem next
+        pub repeated : r ≡ true → Checking n c file from stamps k m is_open next
         unfolding left
         repeated t =
             let dropped = repeat_dropped k m s.clause x left (sym repeat ∙ t) in

@@ -12,7 +12,7 @@ use refusal::Refusal;
 use rule_file_tokens::NextToken;
 
 // Refused, or how many numbers the list has.
-#[derive(Drop)]
+#[derive(Clone, Copy)]
 pub enum Check {
     Refused(Refusal),
     Good(usize),
@@ -26,12 +26,12 @@ pub fn check_tokens(file: &[u8], from: usize, n: usize, count: usize) -> Check
     let mut stamps = rule_list::no_stamps();
     let mut clauses: usize = 0;
     let mut literals: usize = 0;
-    let mut is_open_lem = false;
+    let mut is_open = false;
     let mut at = from;
     loop {
         match rule_file_token_stream::next_token(file, at) {
             NextToken::End => {
-                return finish(file.len(), count, clauses, literals, is_open_lem);
+                return finish(file.len(), count, clauses, literals, is_open);
             }
             NextToken::Malformed(place) => {
                 return Check::Refused(Refusal { number: 3, place });
@@ -48,11 +48,11 @@ pub fn check_tokens(file: &[u8], from: usize, n: usize, count: usize) -> Check
                 if !repeated {
                     if literal::closes(value) {
                         clauses += 1;
-                        is_open_lem = false;
+                        is_open = false;
                     } else {
                         rule_list::stamp(&mut stamps, value, clause);
                         literals += 1;
-                        is_open_lem = true;
+                        is_open = true;
                     }
                 }
                 at = next;
@@ -62,9 +62,9 @@ pub fn check_tokens(file: &[u8], from: usize, n: usize, count: usize) -> Check
 }
 
 // The end of the file: fewer clauses closed than there are to be, or one left open.
-fn finish(size: usize, count: usize, clauses: usize, literals: usize, is_open_lem: bool) -> Check
+fn finish(size: usize, count: usize, clauses: usize, literals: usize, is_open: bool) -> Check
     requires { (clauses ≤ max_clauses) × (literals ≤ max_literals) }
-    ensures { result ≡ check_as (cause (ltb clauses count || is_open_lem) 6 size) (clauses + literals) }
+    ensures { result ≡ check_as (cause (ltb clauses count || is_open) 6 size) (clauses + literals) }
 {
     if clauses < count {
         return Check::Refused(Refusal {
@@ -72,7 +72,7 @@ fn finish(size: usize, count: usize, clauses: usize, literals: usize, is_open_le
             place: size,
         });
     }
-    if is_open_lem {
+    if is_open {
         return Check::Refused(Refusal {
             number: 6,
             place: size,

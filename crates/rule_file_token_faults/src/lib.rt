@@ -1,4 +1,6 @@
 // The causes to refuse a number of a rule file's list, but for 3, which needs its token.
+#![tactic(auto)]
+
 ghost use Rattle.std.specs.Prelude.{not, ◌&&◌, ◌≡◌, leb};
 ghost use Rattle.limits.specs.Limits.{max_literals};
 ghost use Rattle.rule_file_token_faults.specs.Fault.{fault_of};

@@ -7,7 +7,7 @@ ghost use Rattle.rule_file_tokens.specs.NextToken.{next_of};
 use rule_file_tokens::NextToken;
 
 // The tokens of a file from an offset on.
-#[derive(Drop)]
+#[derive(Clone, Copy)]
 pub struct TokenStream<'a> {
     pub file: &'a [u8],
     pub at: usize,

@@ -9,7 +9,7 @@ use signed::Signed;
 
 // What comes next from an offset on: no token, a malformed one at a place, or a number of the list at a
 // place, with the offset past it.
-#[derive(Drop)]
+#[derive(Clone, Copy)]
 pub enum NextToken {
     End,
     Malformed(usize),

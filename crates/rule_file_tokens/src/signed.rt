@@ -8,7 +8,7 @@ use decimal::Number;
 use literal::Variable;
 
 // Whether some bytes are a number of the list, and which.
-#[derive(Drop)]
+#[derive(Clone, Copy)]
 pub enum Signed {
     Malformed,
     Value(i32),

@@ -19,13 +19,13 @@ use Rattle.rule_list.specs.Sound.{unread, unclosed, bad_rule, SoundList}
 use Rattle.rule_list.specs.Stamps.{slots, Stamped, stamped_none, stamped_closed, stamped_joined, stamp_free, stamp_taken}
 
 -- After the elements before i: k clauses, m literals, and the literals of the open clause
-pub record Scanning (n : ℕ) (list : List ℤ) (stamps : List ℕ) (k m : ℕ) (is_open_lem : Bool) (i : ℕ) : Type 0 where
+pub record Scanning (n : ℕ) (list : List ℤ) (stamps : List ℕ) (k m : ℕ) (is_open : Bool) (i : ℕ) : Type 0 where
   pub clause : List ℤ
   pub inside : i ≤ length list
   pub few : k ≤ 9000
   pub many : m ≤ 31000
   pub so_far : bad_rule n unread 0 list ≡ bad_rule n (scan k m clause) i (drop i list)
-  pub opened : unclosed clause ≡ is_open_lem
+  pub opened : unclosed clause ≡ is_open
   pub stamped : Stamped stamps (k + 1) clause
   pub closings : k + zeros (drop i list) ≡ zeros list
   pub entries : m + nonzeros (drop i list) ≡ nonzeros list
@@ -44,17 +44,17 @@ start n list stamps l z =
       entries = zero-add (nonzeros list);
     }
 
-module _ (n : ℕ) (list : List ℤ) (stamps : List ℕ) (k m : ℕ) (is_open_lem : Bool) (i : ℕ)
-    (s : Scanning n list stamps k m is_open_lem i) where
-  abbrev Unsound : Type 0
-  Unsound = Unsound i ≡ rule_scan (bad_rule n unread 0 list) list
+module _ (n : ℕ) (list : List ℤ) (stamps : List ℕ) (k m : ℕ) (is_open : Bool) (i : ℕ)
+    (s : Scanning n list stamps k m is_open i) where
+  abbrev unsound : Type 0
+  unsound = Unsound i ≡ rule_scan (bad_rule n unread 0 list) list
 
-  found : bad_rule n (scan k m s.clause) i (drop i list) ≡ some i → Unsound
+  found : bad_rule n (scan k m s.clause) i (drop i list) ≡ some i → unsound
   found e = sym (ap (λ (o : Option ℕ). rule_scan o list) (s.so_far ∙ e))
 
   -- the turn's element is variable v's
   module _ (h : i < length list) (v : ℕ) (e : v ≡ variable (get_or list i (pos 0))) where
-    pub clauses_over : v ≡ 0 → k ≡ 9000 → Unsound
+    pub clauses_over : v ≡ 0 → k ≡ 9000 → unsound
     clauses_over z r = found (rule_clauses n k m s.clause list i h (sym e ∙ z) (omega arith))
 
     pub closed : v ≡ 0 → (k ≡ 9000 → ⊥) → Scanning n list stamps (k + 1) m false (i + 1)
@@ -78,10 +78,10 @@ module _ (n : ℕ) (list : List ℤ) (stamps : List ℕ) (k m : ℕ) (is_open_le
       literal : variable (get_or list i (pos 0)) ≡ 0 → ⊥
       literal q = z (e ∙ q)
 
-      pub outside : n < v → Unsound
+      pub outside : n < v → unsound
       outside r = found (rule_outside n k m s.clause list i h literal (omega arith))
 
-      pub literals_over : v ≤ n → m ≡ 31000 → Unsound
+      pub literals_over : v ≤ n → m ≡ 31000 → unsound
       literals_over r q = found (rule_literals n k m s.clause list i h literal (omega arith) (omega arith))
 
       module _ (r : v ≤ n) (q : m ≡ 31000 → ⊥) where
@@ -92,7 +92,7 @@ module _ (n : ℕ) (list : List ℤ) (stamps : List ℕ) (k m : ℕ) (is_open_le
         abbrev stamp : ℕ
         stamp = get_or stamps (slot (get_or list i (pos 0))) 0
 
-        pub twice : eqb stamp (k + 1) ≡ true → Unsound
+        pub twice : eqb stamp (k + 1) ≡ true → unsound
         twice t =
             found
             (rule_twice n k m s.clause list i h literal (omega arith) below
@@ -115,13 +115,13 @@ module _ (n : ℕ) (list : List ℤ) (stamps : List ℕ) (k m : ℕ) (is_open_le
 
   -- the end of the list
   module _ (h : length list ≤ i) where
-    ended : bad_rule n (scan k m s.clause) i (drop i list) ≡ cond is_open_lem (some i) none
+    ended : bad_rule n (scan k m s.clause) i (drop i list) ≡ cond is_open (some i) none
     ended = rule_end n k m s.clause list i h ∙ ap (λ (b : Bool). cond b (some i) none) s.opened
 
-    pub left_open : is_open_lem ≡ true → Unsound
+    pub left_open : is_open ≡ true → unsound
     left_open o = found (ended ∙ ap (λ (b : Bool). cond b (some i) none) o)
 
-    pub complete : is_open_lem ≡ false → Sound k m ≡ rule_scan (bad_rule n unread 0 list) list
+    pub complete : is_open ≡ false → Sound k m ≡ rule_scan (bad_rule n unread 0 list) list
     complete o =
         let sound : SoundList n list = s.so_far ∙ ended ∙ ap (λ (b : Bool). cond b (some i) none) o in
         let clauses-are : k ≡ length (clauses list) = omega (arith, s.closings, (zeros_end list i h).0, (zeros-clauses n unread 0 list sound).0) in

@@ -1,4 +1,6 @@
 // The rule list in memory: whether it is sound, and how many clauses and literals it has.
+#![tactic(auto)]
+
 mod scan;
 mod stamps;
 

@@ -9,7 +9,7 @@ use limits::{MAX_CLAUSES, MAX_LITERALS};
 use literal::Clause;
 
 // A list's first bad index, or what a sound list holds.
-#[derive(Drop)]
+#[derive(Clone, Copy)]
 pub enum RuleScan {
     Unsound(usize),
     Sound { clauses: usize, literals: usize },
@@ -23,7 +23,7 @@ pub fn scan_rules(n: usize, rules: &[i32]) -> RuleScan
     let mut stamps = no_stamps();
     let mut clauses: usize = 0;
     let mut literals: usize = 0;
-    let mut is_open_lem = false;
+    let mut is_open = false;
     let mut i = 0;
     while i < rules.len() {
         let next = i + 1;
@@ -34,7 +34,7 @@ pub fn scan_rules(n: usize, rules: &[i32]) -> RuleScan
                 return RuleScan::Unsound(i);
             }
             clauses += 1;
-            is_open_lem = false;
+            is_open = false;
         } else {
             if n < number {
                 return RuleScan::Unsound(i);
@@ -48,11 +48,11 @@ pub fn scan_rules(n: usize, rules: &[i32]) -> RuleScan
             }
             stamp(&mut stamps, x, clause);
             literals += 1;
-            is_open_lem = true;
+            is_open = true;
         }
         i = next;
     }
-    if is_open_lem {
+    if is_open {
         return RuleScan::Unsound(i);
     }
     RuleScan::Sound { clauses, literals }

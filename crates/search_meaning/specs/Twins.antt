@@ -18,5 +18,5 @@ module _ (n : ℕ) (rules other : List ℤ) (row choice : List ℕ) (same : (a :
       = sym (first_count n rules row) ∙ ap (map (disagreement row)) (twins n row rules other same) ∙ first_count n other row in
       rw (taken, other-taken) (ap found count)
 
-  pub same_bytes_lem : nearest_choice n rules row choice ≡ nearest_choice n other row choice
-  same_bytes_lem = rw (taken, other-taken) (ap (λ (o : Option (List ℕ)). choice_after none (with_broken row o) n choice) (twins n row rules other same))
+  pub same_bytes : nearest_choice n rules row choice ≡ nearest_choice n other row choice
+  same_bytes = rw (taken, other-taken) (ap (λ (o : Option (List ℕ)). choice_after none (with_broken row o) n choice) (twins n row rules other same))

@@ -2,7 +2,7 @@
 use refusal::Refusal;
 
 // Refused, or a choice that was found, with the number of wishes it breaks, or none.
-#[derive(Drop)]
+#[derive(Clone, Copy)]
 pub enum Searched {
     Refused(Refusal),
     Found(usize),

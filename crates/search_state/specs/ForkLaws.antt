@@ -76,9 +76,9 @@ module _ {n : ℕ} {f : List (List ℤ)} {row a trail : List ℕ} {t : Tally} {v
           (w.2 ∙ branch_back, kept ∙ grown.kept)
 
       -- the first value has the answer
-      pub first_found_lem : b ≡ c → (broken g forks : ℕ) → TriedBy (try a₁) (newest t₁) (before t₁ a₁ trail₁) trail₁ trail' a' (Found broken g) → forks ≡ min (g + 0 + 1) 18446744073709551615
+      pub first_found : b ≡ c → (broken g forks : ℕ) → TriedBy (try a₁) (newest t₁) (before t₁ a₁ trail₁) trail₁ trail' a' (Found broken g) → forks ≡ min (g + 0 + 1) 18446744073709551615
           → TriedBy (fork try a v c) t.settled a trail trail' a' (Found broken forks)
-      first_found_lem z broken g forks said q =
+      first_found z broken g forks said q =
           let w = subst (λ (k : ℕ). TriedBy (try (assign a v k)) (newest t₁) (before t₁ a₁ trail₁) trail₁ trail' a' (Found broken g)) z (in_branch (Found broken g) said) in
           rw w.0 (refl, q ∙ sym (clip_one g (try (assign a v c)).forks w.1))
 

@@ -7,7 +7,7 @@ use search_meaning::Searched;
 
 // An answer, with the number of broken wishes, or nothing; and the forks that were made, as far as 64
 // bits count them.
-#[derive(Drop)]
+#[derive(Clone, Copy)]
 pub enum Tried {
     Found(usize, u64),
     Nothing(u64),

@@ -1,5 +1,7 @@
 // Text put into lent bytes that have room for it. Each function that puts gives the place past what
 // it put, so that the next one goes on there.
+#![tactic(auto)]
+
 mod bytes;
 mod column;
 mod number;

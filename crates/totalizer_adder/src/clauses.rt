@@ -8,7 +8,7 @@ use crate::outputs::{Outputs, put_lower, put_upper};
 use literal::Variable;
 
 // A group of two parts, with p and q outputs, whose own outputs are the variables after `base`.
-#[derive(Drop)]
+#[derive(Clone, Copy)]
 pub struct Adder {
     pub left: Outputs,
     pub p: usize,

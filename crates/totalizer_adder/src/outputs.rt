@@ -8,7 +8,7 @@ ghost use Rattle.totalizer_adder.specs.Adder.{outputs, reach};
 use literal::Variable;
 
 // The outputs r1, r2, .. of a group: its one leaf, or the variables after `base`.
-#[derive(Drop)]
+#[derive(Clone, Copy)]
 pub enum Outputs {
     Leaf(i32),
     Counters(usize),

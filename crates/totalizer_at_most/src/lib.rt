@@ -11,7 +11,7 @@ ghost use Rattle.totalizer_at_most.specs.Limit.{limiting};
 use totalizer_adder::Outputs;
 
 // The last variable that the clauses took, and the next place in the list.
-#[derive(Drop)]
+#[derive(Clone, Copy)]
 pub struct End {
     pub last: usize,
     pub at: usize,

@@ -10,7 +10,7 @@ ghost use Rattle.totalizer_groups.specs.Groups.{LeavesFit, Written, Joined, join
 use totalizer_adder::{Adder, Outputs};
 
 // What a group left behind: its outputs, the last variable that it took, and the next place in the list.
-#[derive(Drop)]
+#[derive(Clone, Copy)]
 pub struct Group {
     pub outputs: Outputs,
     pub last: usize,

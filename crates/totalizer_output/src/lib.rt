@@ -1,4 +1,6 @@
 // Numbers written one after the other into a list that has room for them.
+#![tactic(auto)]
+
 ghost use Rattle.std.specs.Prelude.{[], ◌∷◌, ◌+◌, ◌<◌, ◌≤◌, pos, length, replicate};
 ghost use Rattle.writing.specs.Wrote.{Wrote};
 

@@ -1,4 +1,6 @@
 // The library's version.
+#![tactic(auto)]
+
 ghost use Rattle.std.specs.Prelude.{◌≡◌};
 ghost use Rattle.version.specs.Version.{version, version_text};
 

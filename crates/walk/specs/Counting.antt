@@ -6,7 +6,7 @@ use Rattle.std.proofs.Math.Option.{Option, some, some-injective, none-ne-some}
 use Rattle.walk.specs.State.{count, find}
 
 -- a member that passes a test is counted
-pub count_member {ℓ} : {A : Type ℓ} (p : A → Bool) {l : List A} {x : A} → Memᴰ x l → p x ≡ true → 0 < count p l
+pub count_member {ℓ} : {A : Type ℓ} (p : A → Bool) {x : A} {l : List A} → Memᴰ x l → p x ≡ true → 0 < count p l
 count_member p (Memᴰ.head {x = y} {xs = l} e) t = go (p y) (sym (ap p e) ∙ t)
   where
     go : (b : Bool) → b ≡ true → 0 < cond b (suc (count p l)) (count p l)
@@ -40,7 +40,7 @@ find-some {A} p (y ∷ l) h = go (p y) h (λ q. find-some p l q)
     go true q ih = (y, refl)
     go false q ih = ih q
 
-pub find_only {ℓ} : {A : Type ℓ} (p : A → Bool) {l : List A} {x : A} → count p l ≡ 1 → Memᴰ x l → p x ≡ true → find p l ≡ some x
+pub find_only {ℓ} : {A : Type ℓ} (p : A → Bool) {x : A} {l : List A} → count p l ≡ 1 → Memᴰ x l → p x ≡ true → find p l ≡ some x
 find_only {A} p {x = x} h (Memᴰ.head {x = y} {xs = l} e) t = go (p y) (sym (ap p e) ∙ t)
   where
     go : (b : Bool) → b ≡ true → cond b (some y) (find p l) ≡ some x

@@ -1,7 +1,7 @@
 -- The theorems of the wish search, from its start; `walk_right` in Correctness is that from any state. Each holds for every n, every formula whose literals have their variables in 1 to n (`fits`), every wish row and every limit.
 use Rattle.std.specs.Prelude.{◌≡◌, refl, ◌↔◌, true, ℕ, suc, ◌<◌, ℤ, replicate}
 use Rattle.std.proofs.Common.{subst, arith}
-use Rattle.std.proofs.Math.Logic.{Iff·trans, Iff·symm}
+use mathlib.Core.Logic.Iff
 use mathlib.Core.List.{List, [], Memᴰ}
 use Rattle.std.proofs.Math.Option.{Option, none, some}
 use Rattle.formula.specs.Formula.{clauses}
@@ -48,7 +48,7 @@ walk_listed n list fit row d x e =
 
 pub walk-within : (n : ℕ) (list : List ℤ) → fits n (clauses list) ≡ true → (row : List ℕ) (d : ℕ)
     → ((walk n (clauses list) row d).answer ≡ none) ↔ (within n list row d ≡ [])
-walk-within n list fit row d = Iff·trans (walk_none n (clauses list) fit row d) (Iff·symm (within_none n list row d))
+walk-within n list fit row d = Iff.trans (walk_none n (clauses list) fit row d) (Iff.symm (within_none n list row d))
 
 -- Any depth above the number of variables gives the walk.
 pub walk_depth : (n : ℕ) (f : List (List ℤ)) → fits n f ≡ true → (row : List ℕ) (d k : ℕ) → n < k → walk_by k f row d (replicate n 2) ≡ walk n f row d

@@ -1,11 +1,13 @@
 // How a clause stands in an assignment.
+#![tactic(auto)]
+
 ghost use Rattle.std.specs.Prelude.{◌≡◌};
 ghost use Rattle.walk.specs.State.{is_unassigned};
 ghost use Rattle.walk_clause_standing.specs.Standing.{IsRead};
 
 // A clause of a list that was read: a literal of it holds, at an index of the list; or it is open, ends at an
 // index, and has so many unassigned literals.
-#[derive(Drop)]
+#[derive(Clone, Copy)]
 pub enum ReadClause {
     Satisfied(usize),
     Open(usize, usize),

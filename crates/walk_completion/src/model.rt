@@ -15,7 +15,7 @@ pub fn holds_completed(x: i32, row: &[u8], assignment: &[u8]) -> bool
 }
 
 // A clause of a list: where it ends, and whether the completion makes some literal of it hold.
-#[derive(Drop)]
+#[derive(Clone, Copy)]
 pub struct Completed {
     pub end: usize,
     pub satisfied: bool,

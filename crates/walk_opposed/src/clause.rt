@@ -6,7 +6,7 @@ ghost use Rattle.walk_clause_standing.specs.Clause.{clause_at};
 ghost use Rattle.walk_opposed.specs.Opposes.{opposes};
 
 // A clause of a list: where it ends, and whether it is opposed.
-#[derive(Drop)]
+#[derive(Clone, Copy)]
 pub struct ReadOpposed {
     pub end: usize,
     pub opposed: bool,

@@ -8,7 +8,7 @@ use crate::pair::unassigned_in;
 use crate::shortest::{Begins, find_opposed, shortest_opposed};
 
 // The fewest unassigned literals of an opposed clause, where there is one.
-#[derive(Drop)]
+#[derive(Clone, Copy)]
 pub enum Fewest {
     Nothing,
     Literals(usize),

@@ -10,7 +10,7 @@ use crate::clause::read_opposed;
 use crate::pair::{shorter, unassigned_in};
 
 // Where an opposed clause begins, if there is one.
-#[derive(Drop)]
+#[derive(Clone, Copy)]
 pub enum Begins {
     At(usize),
     Nothing,

@@ -7,7 +7,7 @@ use crate::score::{is_candidate, score_of};
 use literal::Variable;
 
 // The variable to branch on, where there is a candidate.
-#[derive(Drop)]
+#[derive(Clone, Copy)]
 pub enum Branch {
     Nothing,
     On(Variable),

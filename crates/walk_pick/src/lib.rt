@@ -21,14 +21,14 @@ use literal::Variable;
 use walk_opposed::Fewest;
 
 // The branching variable with the value that it takes first.
-#[derive(Drop)]
+#[derive(Clone, Copy)]
 pub struct Decision {
     pub variable: Variable,
     pub value: u8,
 }
 
 // What is decided of a state.
-#[derive(Drop)]
+#[derive(Clone, Copy)]
 pub enum Pick {
     DeadEnd,
     Branch(Decision),

@@ -2,7 +2,7 @@
 use walk_tally::Tally;
 
 // A dead end or the propagated state, with the tally of what is assigned then.
-#[derive(Drop)]
+#[derive(Clone, Copy)]
 pub enum Propagated {
     Dead(Tally),
     Settled(Tally),

@@ -4,7 +4,7 @@ ghost use Rattle.walk_clause_standing.specs.Clause.{clause_at};
 ghost use Rattle.walk_propagation.specs.Unit.{asks};
 
 // A falsified clause, the one unassigned literal of a unit clause, or neither.
-#[derive(Drop)]
+#[derive(Clone, Copy)]
 pub enum Unit {
     Conflict,
     Literal(i32),

@@ -2,10 +2,12 @@
 // updated by each settling". It is lent by `&mut` and changed where a variable is assigned. The borrow
 // checker covers no reference to a struct, so both functions are proved by a walk of their MIR, by
 // hand.
+#![tactic(auto)]
+
 ghost use Rattle.walk_tally.specs.Assigning.{MayAssign, HasAssigned};
 
 // How many variables are assigned (settled), and how many wishes are broken.
-#[derive(Drop)]
+#[derive(Clone, Copy)]
 pub struct Tally {
     pub settled: usize,
     pub broken: usize,

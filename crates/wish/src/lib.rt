@@ -1,4 +1,6 @@
 // What a byte of the wish row means. Only this crate looks at such a byte; the others ask it.
+#![tactic(auto)]
+
 ghost use Rattle.std.specs.Prelude.{◌≡◌, ◌≤◌, ◌<◌};
 ghost use Rattle.wish.specs.Wish.{is_row_byte, is_wish, wish_for, wished_value, unwished_value, weight, cost, breaks, is_against, keeping, on_weight};
 

@@ -9,7 +9,7 @@ use refusal::{Refusal, Verdict};
 use wish_file_scan::FileScan;
 
 // What a file holds beside its row: the numbers of its line one.
-#[derive(Drop)]
+#[derive(Clone, Copy)]
 pub struct WishHeader {
     pub variables: usize,
     pub wishes: usize,
@@ -17,7 +17,7 @@ pub struct WishHeader {
 }
 
 // Refused, or what the file holds beside its row.
-#[derive(Drop)]
+#[derive(Clone, Copy)]
 pub enum ReadWishes {
     Refused(Refusal),
     Read(WishHeader),

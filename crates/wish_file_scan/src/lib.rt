@@ -12,7 +12,7 @@ const HEADER_COLUMNS: usize = 3;
 const WISH_COLUMNS: usize = 2;
 
 // Refused, or the numbers of line one.
-#[derive(Drop)]
+#[derive(Clone, Copy)]
 pub enum FileScan {
     Refused(Refusal),
     Sound {

@@ -1,1 +1,2 @@
 // Words in definitions: see specs/Words.antt.
+#![tactic(auto)]

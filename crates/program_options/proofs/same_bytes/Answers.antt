@@ -1,0 +1,7 @@
+use mathlib.Core.Path.{sym}
+use Prim.Native.Nat.{◌-◌}
+use Rattle.program_options.specs.Laws.{unequal}
+use Rattle.program_options.proofs.same_bytes.Goals as goal
+
+pub returns-then-a-b : goal.returns-then-a-b
+returns-then-a-b c = sym (unequal c.args.a.now c.args.b.now c.if-a-b.true)
