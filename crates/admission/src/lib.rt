@@ -1,5 +1,7 @@
 // Whether a call may start. A function for each set of values that calls are lent: its causes to
 // refuse, one after another in their order.
+#![tactic(auto)]
+
 ghost use Rattle.std.specs.Prelude.{◌≡◌};
 ghost use Rattle.refusal_causes.specs.Lent.{plain_problem, wishes_alone, wished_problem, exported_problem, chosen_problem};
 ghost use Rattle.admission_steps.specs.Admission.{admission};

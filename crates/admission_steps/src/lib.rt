@@ -2,6 +2,8 @@
 // that nothing is scanned or counted twice. The first step looks at the range of the numbers. Each
 // other is handed what came before it: what is refused stays refused, and what is admitted may be
 // refused for one more cause.
+#![tactic(auto)]
+
 ghost use Rattle.std.specs.Prelude.{◌≡◌};
 ghost use Rattle.refusal.specs.Reply.{refused, cause_at, cause, too_short};
 ghost use Rattle.rule_list.specs.Sound.{unread, bad_rule};

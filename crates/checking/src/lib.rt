@@ -1,4 +1,6 @@
 // The checking call: whether a choice meets all rules, and how many wishes it breaks.
+#![tactic(auto)]
+
 ghost use Rattle.std.specs.Prelude.{◌≡◌, ◌≤◌};
 ghost use Rattle.wish.specs.Wish.{total_weight};
 ghost use Rattle.limits.specs.Limits.{max_wishes};

@@ -1,4 +1,6 @@
 // The parts of an OPB file's lines, counted and put into bytes that have room for them.
+#![tactic(auto)]
+
 mod bound;
 mod header;
 mod term;

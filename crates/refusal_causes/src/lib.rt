@@ -1,5 +1,7 @@
 // The checks of what a call is lent: the causes 11 to 14 of document 01's table and 16 of document 02, a
 // function for each. The rule list's is in crate `rule_list`.
+#![tactic(auto)]
+
 mod choice;
 mod entries;
 mod range;

@@ -1,4 +1,6 @@
 // The classes of bytes in a rule file.
+#![tactic(auto)]
+
 ghost use Rattle.std.specs.Prelude.{◌≡◌};
 ghost use Rattle.rule_file.specs.Class.{class_of};
 

@@ -1,4 +1,6 @@
 // The clauses of one group of the totalizer, written into a list that has room for them.
+#![tactic(auto)]
+
 mod clauses;
 mod outputs;
 

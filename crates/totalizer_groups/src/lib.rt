@@ -1,5 +1,7 @@
 // The totalizer over some leaves: how many variables it adds, and its clauses, written into a list
 // that has room for them.
+#![tactic(auto)]
+
 ghost use Rattle.std.specs.Prelude.{List, ◌≡◌, ◌+◌, ◌≤◌, ℤ, pos, length, get_or};
 ghost use Rattle.limits.specs.Limits.{max_variables, max_wishes};
 ghost use Rattle.rule_list_soundness.specs.Flat.{flat};

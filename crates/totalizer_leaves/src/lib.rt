@@ -1,4 +1,6 @@
 // The leaves of a wish row.
+#![tactic(auto)]
+
 ghost use Rattle.std.specs.Prelude.{◌≡◌, ◌≤◌, length};
 ghost use Rattle.limits.specs.Limits.{max_variables, max_wishes};
 ghost use Rattle.writing.specs.Wrote.{Wrote};

@@ -1,4 +1,6 @@
 // The completion of an assignment: unassigned variables take their wish, unwished ones off.
+#![tactic(auto)]
+
 mod byte;
 mod fill;
 mod model;

@@ -1,4 +1,6 @@
 // Opposed clauses: the open ones whose unassigned literals all go against wishes.
+#![tactic(auto)]
+
 mod clause;
 mod fewest;
 mod pair;

@@ -1,4 +1,6 @@
 // The sizes of the wish file's parts, in bytes.
+#![tactic(auto)]
+
 pub const COLUMN_WIDTH: usize = 5;
 
 // Line one has three columns and a line feed, a wish line two.

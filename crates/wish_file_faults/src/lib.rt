@@ -1,4 +1,6 @@
 // The causes to refuse the numbers on a line of a wish file.
+#![tactic(auto)]
+
 ghost use Rattle.std.specs.Prelude.{◌≡◌};
 ghost use Rattle.wish_file.specs.Format.{outside, misfit};
 

@@ -1,4 +1,6 @@
 // The lines of a wish file, read.
+#![tactic(auto)]
+
 ghost use Rattle.std.specs.Prelude.{◌≡◌, ◌+◌, ◌≤◌, length, drop};
 ghost use Rattle.decimal.specs.Read.{number_as};
 ghost use Rattle.wish_file.specs.Layout.{past_spaces, column_number};

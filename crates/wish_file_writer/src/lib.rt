@@ -1,4 +1,6 @@
 // The writer of the wish file: it checks and counts first, then writes, so that a refusal leaves the lent bytes alone.
+#![tactic(auto)]
+
 mod put;
 
 ghost use Rattle.std.specs.Prelude.{◌≡◌, length};

@@ -1,0 +1,13 @@
+-- `walk_occurrences::layout::every_clause` meets its contract.
+use mathlib.Core.Path.{ap}
+use Prim.Native.Nat.{ℕ, ◌+◌}
+use lib.ListN.{get_or}
+use Rattle.walk_occurrences.specs.Layout.{numbers_at}
+use Rattle.walk_occurrences.specs.LayoutLaws.{numbers_first}
+use Rattle.walk_occurrences.proofs.layout.every_clause.Goals as goal
+
+pub returns : goal.returns
+returns c =
+    let known = c.before.before in
+    let l = known.args.arrangement.now in
+    numbers_first l (get_or l 1 0) (numbers_at + known.clause_count-end.result) (ap (λ (m : ℕ). numbers_at + m) known.clause_count-end.ensures)
