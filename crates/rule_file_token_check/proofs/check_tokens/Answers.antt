@@ -60,7 +60,7 @@ fault-then-number-ne0 c =
     c.fault_of-number.ensures ∙ ap (λ (x : ℤ). faults-then-number-ne0 c x c.is_repeat-repeated.result) (read-then-number-ne0 c)
 
 pub returns-then-number-ne0 : goal.returns-then-number-ne0
-unfolding faults
+unfolding faults-then-number-ne0
 returns-then-number-ne0 c =
     faulty c.loop-place.invariant (found-then-number-ne0 c) c.is_repeat-repeated.result (told-then-number-ne0 c) c.fault_of-number.result (fault-then-number-ne0 c) c.if-number-ne0.true
 
@@ -111,7 +111,7 @@ loop-place-smaller-then-closes c =
     omega (arith, later c.loop-place.invariant (found-then-closes c))
 
 pub loop-place-preserved-then-closes : goal.loop-place-preserved-then-closes
-unfolding faults
+unfolding faults-then-closes
 loop-place-preserved-then-closes c =
     closed c.loop-place.invariant (found-then-closes c) c.is_repeat-repeated.result (told-then-closes c) (fine-then-closes c) (sym (closing-then-closes c) ∙ c.if-closes.true)
 
@@ -166,7 +166,7 @@ loop-place-smaller-else-closes c =
     omega (arith, later c.loop-place.invariant (found-after-stamp c))
 
 pub loop-place-preserved-else-closes : goal.loop-place-preserved-else-closes
-unfolding faults
+unfolding faults-after-stamp
 loop-place-preserved-else-closes c =
     joined c.loop-place.invariant (found-after-stamp c) c.is_repeat-repeated.result (told-after-stamp c) (fine-after-stamp c) (is_literal_lem c) c.requires.0
     (not-true c.is_repeat-repeated.result c.if-not-repeated.true-raw) _
@@ -216,6 +216,6 @@ loop-place-smaller c =
     omega (arith, later c.loop-place.invariant (found-else-not-repeated c))
 
 pub loop-place-preserved : goal.loop-place-preserved
-unfolding faults
+unfolding faults-else-not-repeated
 loop-place-preserved c =
     repeated c.loop-place.invariant (found-else-not-repeated c) c.is_repeat-repeated.result (told-else-not-repeated c) (fine-else-not-repeated c) (not-false c.is_repeat-repeated.result c.if-not-repeated.false-raw)

@@ -26,9 +26,12 @@ overflow_add-needed c =
 
 pub returns-in-Refuse : goal.returns-in-Refuse
 returns-in-Refuse c =
-    let s = wishes_alone c.args.n c.args.row.now c.args.d in
-    refused_late s (written c.args.n c.args.row.now c.args.d) c.args.file.now (none_applies s c.requires.0) (file_size c.args.wishes) (file_length c.args.n c.args.row.now c.args.d c.requires.0 c.args.wishes c.requires.1) c.in-Refuse.r
-    (sym c.check_room.ensures ∙ ap refused c.in-Refuse.is)
+    let s = wishes_alone c.args.n c.args.row.now c.args.d in record {
+      reply = (refused_late s (written c.args.n c.args.row.now c.args.d) c.args.file.now (none_applies s c.requires.0) (file_size c.args.wishes) (file_length c.args.n c.args.row.now c.args.d c.requires.0 c.args.wishes c.requires.1) c.in-Refuse.r
+          (sym c.check_room.ensures ∙ ap refused c.in-Refuse.is)).0;
+      output = (refused_late s (written c.args.n c.args.row.now c.args.d) c.args.file.now (none_applies s c.requires.0) (file_size c.args.wishes) (file_length c.args.n c.args.row.now c.args.d c.requires.0 c.args.wishes c.requires.1) c.in-Refuse.r
+          (sym c.check_room.ensures ∙ ap refused c.in-Refuse.is)).1;
+    }
 
 -- past the check of the room-after-put_header-arg-1: what was lent
 module _ (c : goal.After-put_header-arg-1) where
@@ -44,7 +47,7 @@ module _ (c : goal.After-put_header-arg-1) where
 pub put_header-at-requires : goal.put_header-at-requires
 put_header-at-requires c =
     let g = start-after-put_header-arg-1 c in
-    omega (arith, head_length g.args.n g.args.row.now g.args.d g.pre.0 g.args.wishes g.pre.1, room-after-put_header-arg-1 c)
+    omega (arith, head_length g.args.n g.args.row.now g.args.d g.requires.0 g.args.wishes g.requires.1, room-after-put_header-arg-1 c)
 
 -- past the check of the room-after-put_wishes-arg-1: what was lent
 module _ (c : goal.After-put_wishes-arg-1) where
@@ -65,9 +68,9 @@ put_wishes-requires c =
       arith,
       c.put_header-at.ensures.place,
       c.put_header-at.auto,
-      head_length args.n args.row.now args.d g.pre.0 args.wishes g.pre.1,
-      whole_length args.n args.row.now args.d g.pre.0 args.wishes g.pre.1,
-      file_length args.n args.row.now args.d g.pre.0 args.wishes g.pre.1,
+      head_length args.n args.row.now args.d g.requires.0 args.wishes g.requires.1,
+      whole_length args.n args.row.now args.d g.requires.0 args.wishes g.requires.1,
+      file_length args.n args.row.now args.d g.requires.0 args.wishes g.requires.1,
       room-after-put_wishes-arg-1 c,
     )
 
@@ -92,11 +95,16 @@ returns c =
     let args = g.args in
     let row = args.row.now in
     let out = args.file.now in
-    let size = file_length args.n row args.d g.pre.0 args.wishes g.pre.1 in
+    let size = file_length args.n row args.d g.requires.0 args.wishes g.requires.1 in
     let whole : Wrote (written args.n row args.d) out 0 (file-left c) c.put_wishes.result =
-    wrote_as (parts args.n row args.d g.pre.0 args.wishes g.pre.1) (wrote_more c.put_header-at.ensures c.put_wishes.ensures) in
-    let s = wishes_alone args.n row args.d in
-    answered s (written args.n row args.d) out (none_applies s g.pre.0) (file_size args.wishes) size (passed-after-slice_known-3-1 c) c.put_wishes.result
-    (omega (arith, whole.place))
-    (file-left c)
-    (wrote_whole whole (omega (arith, size, room-after-slice_known-3-1 c)))
+    wrote_as (parts args.n row args.d g.requires.0 args.wishes g.requires.1) (wrote_more c.put_header-at.ensures c.put_wishes.ensures) in
+    let s = wishes_alone args.n row args.d in record {
+      reply = (answered s (written args.n row args.d) out (none_applies s g.requires.0) (file_size args.wishes) size (passed-after-slice_known-3-1 c) c.put_wishes.result
+          (omega (arith, whole.place))
+          (file-left c)
+          (wrote_whole whole (omega (arith, size, room-after-slice_known-3-1 c)))).0;
+      output = (answered s (written args.n row args.d) out (none_applies s g.requires.0) (file_size args.wishes) size (passed-after-slice_known-3-1 c) c.put_wishes.result
+          (omega (arith, whole.place))
+          (file-left c)
+          (wrote_whole whole (omega (arith, size, room-after-slice_known-3-1 c)))).1;
+    }

@@ -63,12 +63,12 @@ pub loop-from-preserved : goal.loop-from-preserved
 loop-from-preserved c =
     let clause : List ℤ = take (c.read_opposed-reading.result.end - c.loop-from.from) (drop c.loop-from.from c.args.rules.now) in
     let rest : List (List ℤ) = clauses (drop (c.read_opposed-reading.result.end + 1) c.args.rules.now) in
-    let before : shortest c.args.row.now c.args.assignment.now (clauses (drop c.args.first c.args.rules.now)) ≡ some (shorter_of c.args.assignment.now c.loop-from.kept.now (shortest c.args.row.now c.args.assignment.now (clause ∷ rest))) =
-    c.loop-from.invariant.0 ∙ ap (λ (f : List (List ℤ)). some (shorter_of c.args.assignment.now c.loop-from.kept.now (shortest c.args.row.now c.args.assignment.now f))) (clauses_step c.args.rules.now c.loop-from.from c.read_opposed-reading.result.end c.loop-from-test.true c.read_opposed-reading.ensures.0) in
-    let next : (s : List ℤ) → c.if-reading.auto.now ≡ s → shorter_of c.args.assignment.now c.loop-from.kept.now (shortest c.args.row.now c.args.assignment.now (clause ∷ rest)) ≡ shorter_of c.args.assignment.now s (shortest c.args.row.now c.args.assignment.now rest) → c.if-reading.size ≡ unassigned_in c.args.assignment.now s
+    let before : shortest c.args.row.now c.args.assignment.now (clauses (drop c.args.first c.args.rules.now)) ≡ some (shorter_of c.args.assignment.now c.loop-from.auto.now (shortest c.args.row.now c.args.assignment.now (clause ∷ rest))) =
+    c.loop-from.invariant.0 ∙ ap (λ (f : List (List ℤ)). some (shorter_of c.args.assignment.now c.loop-from.auto.now (shortest c.args.row.now c.args.assignment.now f))) (clauses_step c.args.rules.now c.loop-from.from c.read_opposed-reading.result.end c.loop-from-test.true c.read_opposed-reading.ensures.0) in
+    let next : (s : List ℤ) → c.if-reading.auto.now ≡ s → shorter_of c.args.assignment.now c.loop-from.auto.now (shortest c.args.row.now c.args.assignment.now (clause ∷ rest)) ≡ shorter_of c.args.assignment.now s (shortest c.args.row.now c.args.assignment.now rest) → c.if-reading.size ≡ unassigned_in c.args.assignment.now s
     → (shortest c.args.row.now c.args.assignment.now (clauses (drop c.args.first c.args.rules.now)) ≡ some (shorter_of c.args.assignment.now c.if-reading.auto.now (shortest c.args.row.now c.args.assignment.now rest))) × (c.if-reading.size ≡ unassigned_in c.args.assignment.now c.if-reading.auto.now) =
     λ s p e q. (before ∙ ap {B = Option (List ℤ)} some (e ∙ sym (ap (λ (t : List ℤ). shorter_of c.args.assignment.now t (shortest c.args.row.now c.args.assignment.now rest)) p)), q ∙ sym (ap (unassigned_in c.args.assignment.now) p)) in
     ⊎_elim
-    (λ w. next _ (ap (λ x. x.now) w.4 ∙ w.2.ensures) (kept_shorter c.args.row.now c.args.assignment.now clause rest (sym (told-joined-reading c) ∙ w.0.taken) c.loop-from.kept.now) (w.5 ∙ w.3.ensures ∙ ap (unassigned_in c.args.assignment.now) w.2.ensures))
-    (λ w. next c.loop-from.kept.now (ap (λ x. x.now) w.1) (kept_other c.args.row.now c.args.assignment.now clause rest (sym (told-joined-reading c) ∙ w.0.left) c.loop-from.kept.now) (w.2 ∙ c.loop-from.invariant.1))
+    (λ w. next _ (ap (λ x. x.now) w.4 ∙ w.2.ensures) (kept_shorter c.args.row.now c.args.assignment.now clause rest (sym (told-joined-reading c) ∙ w.0.taken) c.loop-from.auto.now) (w.5 ∙ w.3.ensures ∙ ap (unassigned_in c.args.assignment.now) w.2.ensures))
+    (λ w. next c.loop-from.auto.now (ap (λ x. x.now) w.1) (kept_other c.args.row.now c.args.assignment.now clause rest (sym (told-joined-reading c) ∙ w.0.left) c.loop-from.auto.now) (w.2 ∙ c.loop-from.invariant.1))
     c.if-reading.branch
