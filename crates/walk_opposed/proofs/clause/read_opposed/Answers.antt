@@ -11,7 +11,7 @@ use Rattle.walk_opposed.specs.OpposesLaws.{spares, read_opposed}
 use borrow.Author.Rules.{rules}
 use Rattle.walk_opposed.proofs.clause.read_opposed.Goals as goal
 
--- the callees' answers are about the list's number-then-closes
+-- the callees' answers are about the list's number
 number-then-closes : (c : goal.Then-closes) → c.closes.result ≡ closes (get_or c.args.rules.now c.loop-i.i (pos 0))
 number-then-closes c =
     c.closes.ensures
@@ -22,7 +22,7 @@ returns-then-closes c =
     read_opposed c.args.row.now c.args.assignment.now c.args.rules.now c.args.from c.loop-i.i false
     (passing_closed (spares c.args.row.now c.args.assignment.now) c.args.rules.now c.args.from c.loop-i.i c.loop-i.invariant c.loop-i-test.true (sym (number-then-closes c) ∙ c.if-closes.true))
 
--- the callees' answers are about the list's number-after-clause_end-end
+-- the callees' answers are about the list's number
 number-after-clause_end-end : (c : goal.After-clause_end-end) → c.closes.result ≡ closes (get_or c.args.rules.now c.loop-i.i (pos 0))
 number-after-clause_end-end c =
     c.closes.ensures

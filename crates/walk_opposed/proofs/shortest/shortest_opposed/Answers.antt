@@ -1,6 +1,5 @@
 use mathlib.Core.Path.{◌≡◌, sym, ap, ◌∙◌}
 use mathlib.Core.List.{List, ◌∷◌}
-use mathlib.Core.Logic.{⊎_elim}
 use mathlib.Core.Option.{Option, some}
 use Prim.Native.Nat.{◌+◌, ◌-◌, ◌≤◌}
 use native.Mathlib.Omega.{arith}
@@ -14,6 +13,7 @@ use Rattle.walk_clause_standing.specs.Clause.{clause_at_lem}
 use Rattle.walk_opposed.specs.Laws.{shortest_first, kept_other, kept_shorter, kept_two}
 use borrow.Author.Rules.{rules}
 use Rattle.walk_opposed.proofs.shortest.shortest_opposed.Goals as goal
+use Rattle.walk_opposed.proofs.shortest.shortest_opposed.Goals.{then-reading, else-reading}
 
 pub slice_bounds-kept-end : goal.slice_bounds-kept-end
 slice_bounds-kept-end c =
@@ -29,9 +29,9 @@ loop-from-init c = (
 
 pub returns-then-size-lt3 : goal.returns-then-size-lt3
 returns-then-size-lt3 c =
-    sym (kept_two c.args.row.now c.args.assignment.now (clauses (drop c.args.first c.args.rules.now)) c.requires.none_short c.loop-from.auto.now (shortest c.args.row.now c.args.assignment.now (clauses (drop c.loop-from.from c.args.rules.now))) c.loop-from.invariant.0 (omega (arith, c.loop-from.invariant.1, c.if-size-lt3.true)))
+    sym (kept_two c.args.row.now c.args.assignment.now (clauses (drop c.args.first c.args.rules.now)) c.requires.none_short c.loop-from.kept.now (shortest c.args.row.now c.args.assignment.now (clauses (drop c.loop-from.from c.args.rules.now))) c.loop-from.invariant.0 (omega (arith, c.loop-from.invariant.1, c.if-size-lt3.true)))
 
--- a clause that was read ends inside-then-reading the list, and its part of the list is opposed if it is
+-- a clause that was read ends inside the list, and its part of the list is opposed if it is
 module _ (c : goal.Then-reading) where
   inside-then-reading : c.read_opposed-reading.result.end ≤ length c.args.rules.now
   inside-then-reading =
@@ -45,7 +45,7 @@ module _ (c : goal.Then-reading) where
 pub slice_bounds-shorter-end : goal.slice_bounds-shorter-end
 slice_bounds-shorter-end c = inside-then-reading c
 
--- a clause that was read ends inside-joined-reading the list, and its part of the list is opposed if it is
+-- a clause that was read ends inside the list, and its part of the list is opposed if it is
 module _ (c : goal.Joined-reading) where
   inside-joined-reading : c.read_opposed-reading.result.end ≤ length c.args.rules.now
   inside-joined-reading =
@@ -63,12 +63,12 @@ pub loop-from-preserved : goal.loop-from-preserved
 loop-from-preserved c =
     let clause : List ℤ = take (c.read_opposed-reading.result.end - c.loop-from.from) (drop c.loop-from.from c.args.rules.now) in
     let rest : List (List ℤ) = clauses (drop (c.read_opposed-reading.result.end + 1) c.args.rules.now) in
-    let before : shortest c.args.row.now c.args.assignment.now (clauses (drop c.args.first c.args.rules.now)) ≡ some (shorter_of c.args.assignment.now c.loop-from.auto.now (shortest c.args.row.now c.args.assignment.now (clause ∷ rest))) =
-    c.loop-from.invariant.0 ∙ ap (λ (f : List (List ℤ)). some (shorter_of c.args.assignment.now c.loop-from.auto.now (shortest c.args.row.now c.args.assignment.now f))) (clauses_step c.args.rules.now c.loop-from.from c.read_opposed-reading.result.end c.loop-from-test.true c.read_opposed-reading.ensures.0) in
-    let next : (s : List ℤ) → c.if-reading.auto.now ≡ s → shorter_of c.args.assignment.now c.loop-from.auto.now (shortest c.args.row.now c.args.assignment.now (clause ∷ rest)) ≡ shorter_of c.args.assignment.now s (shortest c.args.row.now c.args.assignment.now rest) → c.if-reading.size ≡ unassigned_in c.args.assignment.now s
-    → (shortest c.args.row.now c.args.assignment.now (clauses (drop c.args.first c.args.rules.now)) ≡ some (shorter_of c.args.assignment.now c.if-reading.auto.now (shortest c.args.row.now c.args.assignment.now rest))) × (c.if-reading.size ≡ unassigned_in c.args.assignment.now c.if-reading.auto.now) =
+    let before : shortest c.args.row.now c.args.assignment.now (clauses (drop c.args.first c.args.rules.now)) ≡ some (shorter_of c.args.assignment.now c.loop-from.kept.now (shortest c.args.row.now c.args.assignment.now (clause ∷ rest))) =
+    c.loop-from.invariant.0 ∙ ap (λ (f : List (List ℤ)). some (shorter_of c.args.assignment.now c.loop-from.kept.now (shortest c.args.row.now c.args.assignment.now f))) (clauses_step c.args.rules.now c.loop-from.from c.read_opposed-reading.result.end c.loop-from-test.true c.read_opposed-reading.ensures.0) in
+    let next : (s : List ℤ) → c.if-reading.kept.now ≡ s → shorter_of c.args.assignment.now c.loop-from.kept.now (shortest c.args.row.now c.args.assignment.now (clause ∷ rest)) ≡ shorter_of c.args.assignment.now s (shortest c.args.row.now c.args.assignment.now rest) → c.if-reading.size ≡ unassigned_in c.args.assignment.now s
+    → (shortest c.args.row.now c.args.assignment.now (clauses (drop c.args.first c.args.rules.now)) ≡ some (shorter_of c.args.assignment.now c.if-reading.kept.now (shortest c.args.row.now c.args.assignment.now rest))) × (c.if-reading.size ≡ unassigned_in c.args.assignment.now c.if-reading.kept.now) =
     λ s p e q. (before ∙ ap {B = Option (List ℤ)} some (e ∙ sym (ap (λ (t : List ℤ). shorter_of c.args.assignment.now t (shortest c.args.row.now c.args.assignment.now rest)) p)), q ∙ sym (ap (unassigned_in c.args.assignment.now) p)) in
-    ⊎_elim
-    (λ w. next _ (ap (λ x. x.now) w.4 ∙ w.2.ensures) (kept_shorter c.args.row.now c.args.assignment.now clause rest (sym (told-joined-reading c) ∙ w.0.taken) c.loop-from.auto.now) (w.5 ∙ w.3.ensures ∙ ap (unassigned_in c.args.assignment.now) w.2.ensures))
-    (λ w. next c.loop-from.auto.now (ap (λ x. x.now) w.1) (kept_other c.args.row.now c.args.assignment.now clause rest (sym (told-joined-reading c) ∙ w.0.left) c.loop-from.auto.now) (w.2 ∙ c.loop-from.invariant.1))
-    c.if-reading.branch
+    elim c.if-reading.branch [
+      | then-reading w ↦ next _ (ap (λ x. x.now) w.kept-is ∙ w.shorter-best.ensures) (kept_shorter c.args.row.now c.args.assignment.now clause rest (sym (told-joined-reading c) ∙ w.if-reading.true) c.loop-from.kept.now) (w.size-is ∙ w.unassigned_in-size-then-reading.ensures ∙ ap (unassigned_in c.args.assignment.now) w.shorter-best.ensures)
+      | else-reading w ↦ next c.loop-from.kept.now (ap (λ x. x.now) w.kept-is) (kept_other c.args.row.now c.args.assignment.now clause rest (sym (told-joined-reading c) ∙ w.if-reading.false) c.loop-from.kept.now) (w.size-is ∙ c.loop-from.invariant.1)
+    ]
