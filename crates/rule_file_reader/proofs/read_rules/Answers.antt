@@ -19,22 +19,13 @@ read-then-is_outside c =
     (sym c.in-Found.is ∙ c.header_at.ensures)
 
 pub returns-then-is_outside : goal.returns-then-is_outside
-returns-then-is_outside c = record {
-  reply = (refused (reading c.args.file.now) (refusal 2 c.past_comments-place.result) c.args.rules.now
-      (read-then-is_outside c
-      ∙ ap (λ (b : Bool). cond b (refuses (refusal 2 c.past_comments-place.result)) (tokens_read c.in-Found.variables c.in-Found.clauses c.args.file.now c.in-Found.next)) (sym c.is_outside.ensures ∙ c.if-is_outside.true))).0;
-  output = (refused (reading c.args.file.now) (refusal 2 c.past_comments-place.result) c.args.rules.now
-      (read-then-is_outside c
-      ∙ ap (λ (b : Bool). cond b (refuses (refusal 2 c.past_comments-place.result)) (tokens_read c.in-Found.variables c.in-Found.clauses c.args.file.now c.in-Found.next)) (sym c.is_outside.ensures ∙ c.if-is_outside.true))).1;
-}
+returns-then-is_outside c = let both = refused (reading c.args.file.now) (refusal 2 c.past_comments-place.result) c.args.rules.now
+    (read-then-is_outside c
+    ∙ ap (λ (b : Bool). cond b (refuses (refusal 2 c.past_comments-place.result)) (tokens_read c.in-Found.variables c.in-Found.clauses c.args.file.now c.in-Found.next)) (sym c.is_outside.ensures ∙ c.if-is_outside.true)) in record { reply = both.0; output = both.1 }
 
 pub returns-in-Malformed : goal.returns-in-Malformed
-returns-in-Malformed c = record {
-  reply = (refused (reading c.args.file.now) (refusal 1 c.past_comments-place.result) c.args.rules.now
-      (header_missing c.args.file.now c.past_comments-place.result c.past_comments-place.ensures.0 (sym c.in-Malformed.is ∙ c.header_at.ensures))).0;
-  output = (refused (reading c.args.file.now) (refusal 1 c.past_comments-place.result) c.args.rules.now
-      (header_missing c.args.file.now c.past_comments-place.result c.past_comments-place.ensures.0 (sym c.in-Malformed.is ∙ c.header_at.ensures))).1;
-}
+returns-in-Malformed c = let both = refused (reading c.args.file.now) (refusal 1 c.past_comments-place.result) c.args.rules.now
+    (header_missing c.args.file.now c.past_comments-place.result c.past_comments-place.ensures.0 (sym c.in-Malformed.is ∙ c.header_at.ensures)) in record { reply = both.0; output = both.1 }
 
 -- the header is there
 read-after-rules-1 : (c : goal.After-rules-1)
@@ -48,11 +39,6 @@ read-after-rules-1 c =
 
 pub returns-else-is_outside : goal.returns-else-is_outside
 returns-else-is_outside c =
-    let tokens = tokens_read c.in-Found.variables c.in-Found.clauses c.args.file.now c.in-Found.next in record {
-      reply = (answered tokens (reading c.args.file.now) (reply_of c.read_tokens.result) c.read_tokens.new.rules c.args.rules.now
-          (read-after-rules-1 c ∙ ap (λ (b : Bool). cond b (refuses (refusal 2 c.past_comments-place.result)) tokens) (sym c.is_outside.ensures ∙ c.if-is_outside.false))
-          c.read_tokens.ensures).0;
-      output = (answered tokens (reading c.args.file.now) (reply_of c.read_tokens.result) c.read_tokens.new.rules c.args.rules.now
-          (read-after-rules-1 c ∙ ap (λ (b : Bool). cond b (refuses (refusal 2 c.past_comments-place.result)) tokens) (sym c.is_outside.ensures ∙ c.if-is_outside.false))
-          c.read_tokens.ensures).1;
-    }
+    let tokens = tokens_read c.in-Found.variables c.in-Found.clauses c.args.file.now c.in-Found.next in let both = answered tokens (reading c.args.file.now) (reply_of c.read_tokens.result) c.read_tokens.new.rules c.args.rules.now
+    (read-after-rules-1 c ∙ ap (λ (b : Bool). cond b (refuses (refusal 2 c.past_comments-place.result)) tokens) (sym c.is_outside.ensures ∙ c.if-is_outside.false))
+    (c.read_tokens.ensures.reply, c.read_tokens.ensures.output) in record { reply = both.0; output = both.1 }

@@ -29,9 +29,5 @@ room c =
     enough_room c.in-Good.needed (length c.args.rules.now) (sym c.check_room.ensures ∙ ap refused c.in_default.is)
 
 pub returns-in_default : goal.returns-in_default
-returns-in_default c = record {
-  reply = (tokens_read_lem c.args.n c.args.count c.args.file.now c.args.from c.args.rules.now (good c).0 c.in-Good.needed (good c).1 (room c)
-      c.fill_rules.new.rules c.fill_rules.ensures).0;
-  output = (tokens_read_lem c.args.n c.args.count c.args.file.now c.args.from c.args.rules.now (good c).0 c.in-Good.needed (good c).1 (room c)
-      c.fill_rules.new.rules c.fill_rules.ensures).1;
-}
+returns-in_default c = let both = tokens_read_lem c.args.n c.args.count c.args.file.now c.args.from c.args.rules.now (good c).0 c.in-Good.needed (good c).1 (room c)
+    c.fill_rules.new.rules c.fill_rules.ensures in record { reply = both.0; output = both.1 }
