@@ -12,18 +12,18 @@ use Rattle.program_files.proofs.read_problem.Goals as goal
 
 pub returns-in-Refused : goal.returns-in-Refused
 returns-in-Refused c =
-    let read = list_refused c.args.rules-file.now c.args.rules.now c.requires.0 c.in-Refused.r (sym (ap reply_of c.in-Refused.is) ∙ c.read_rules.ensures.reply) in record {
-      problem = both_read c.args.rules-file.now c.args.wish-file.now c.if-rules_file-gt-MAX_FILE.false c.if-wish_file-gt-MAX_FILE.false (refuses c.in-Refused.r)
-          (sym (ap (λ (g : rule.Reading). together g (wish.reading c.args.wish-file.now)) read));
+    let read = list_refused c.args.rules_file.now c.args.rules.now c.requires.0 c.in-Refused.r (sym (ap reply_of c.in-Refused.is) ∙ c.read_rules.ensures.reply) in record {
+      problem = both_read c.args.rules_file.now c.args.wish_file.now c.if-rules_file-gt-MAX_FILE.false c.if-wish_file-gt-MAX_FILE.false (refuses c.in-Refused.r)
+          (sym (ap (λ (g : rule.Reading). together g (wish.reading c.args.wish_file.now)) read));
       sizes = tt;
     }
 
 pub returns-in-Read : goal.returns-in-Read
 returns-in-Read c =
-    let read = list_read c.args.rules-file.now c.args.rules.now c.requires.0 c.in-Read.counts.variables c.in-Read.counts.clauses c.in-Read.counts.length c.read_rules.new.rules
+    let read = list_read c.args.rules_file.now c.args.rules.now c.requires.0 c.in-Read.counts.variables c.in-Read.counts.clauses c.in-Read.counts.length c.read_rules.new.rules
     (sym (ap reply_of c.in-Read.is) ∙ c.read_rules.ensures.reply) c.read_rules.ensures.output in record {
-      problem = both_read c.args.rules-file.now c.args.wish-file.now c.if-rules_file-gt-MAX_FILE.false c.if-wish_file-gt-MAX_FILE.false
+      problem = both_read c.args.rules_file.now c.args.wish_file.now c.if-rules_file-gt-MAX_FILE.false c.if-wish_file-gt-MAX_FILE.false
           (problem_of c.read_row.result c.read_rules.new.rules c.read_row.new.row)
-          (c.read_row.ensures.problem c.read_rules.new.rules ∙ sym (ap (λ (g : rule.Reading). together g (wish.reading c.args.wish-file.now)) read.0));
+          (c.read_row.ensures.problem c.read_rules.new.rules ∙ sym (ap (λ (g : rule.Reading). together g (wish.reading c.args.wish_file.now)) read.0));
       sizes = sized_more c.read_row.result c.in-Read.counts.length (length c.read_rules.new.rules) (length c.read_row.new.row) read.1 c.read_row.ensures.sizes;
     }

@@ -10,9 +10,9 @@ use Rattle.program_files.proofs.read_row.Goals as goal
 
 pub returns-in-Refused : goal.returns-in-Refused
 returns-in-Refused c =
-    let read = row_refused c.args.wish-file.now c.args.row.now c.requires c.in-Refused.r (sym (ap reply_of c.in-Refused.is) ∙ c.read_wishes.ensures.reply) in record { problem = λ rules. sym (ap (with_wishes c.args.n (take c.args.size rules)) read); sizes = tt }
+    let read = row_refused c.args.wish_file.now c.args.row.now c.requires c.in-Refused.r (sym (ap reply_of c.in-Refused.is) ∙ c.read_wishes.ensures.reply) in record { problem = λ rules. sym (ap (with_wishes c.args.n (take c.args.size rules)) read); sizes = tt }
 
 pub returns-in-Read : goal.returns-in-Read
 returns-in-Read c =
-    let read = row_read c.args.wish-file.now c.args.row.now c.requires c.in-Read.header.variables c.in-Read.header.wishes c.in-Read.header.limit c.read_wishes.new.row
+    let read = row_read c.args.wish_file.now c.args.row.now c.requires c.in-Read.header.variables c.in-Read.header.wishes c.in-Read.header.limit c.read_wishes.new.row
     (sym (ap reply_of c.in-Read.is) ∙ c.read_wishes.ensures.reply) c.read_wishes.ensures.output in record { problem = λ rules. sym (ap (with_wishes c.args.n (take c.args.size rules)) read.0); sizes = (le_refl c.args.size, read.1) }

@@ -58,15 +58,15 @@ module _ (s : goal.In-Open) where
     no_dead_end-in-Open = sym (ap (λ (b : Bool). s.args.spent && b) (satisfied_unopposed row-in-Open a-in-Open clause-in-Open met) ∙ and-false s.args.spent)
 
     unchanged-in-Open : Weighed row-in-Open a-in-Open (size_of s.args.fewest) clause-in-Open s.args.weights.now s.args.weights.now
-    unchanged-in-Open = weighed_satisfied row-in-Open a-in-Open clause-in-Open (size_of s.args.fewest) s.args.weights.now
+    unchanged-in-Open = weighed_satisfied row-in-Open a-in-Open clause-in-Open met (size_of s.args.fewest) s.args.weights.now
 
   -- read as open, it is the part of the list up to its end
-  module _ (end-in-Open count-in-Open : ℕ) (h : StandsOpen a-in-Open rules-in-Open begin-in-Open end-in-Open count-in-Open) where
-    ends_inside-in-Open : end-in-Open ≤ length rules-in-Open
-    ends_inside-in-Open = end_inside rules-in-Open begin-in-Open end-in-Open (omega (arith, begin_inside-in-Open)) h.ends
+  module _ (end count : ℕ) (h : StandsOpen a-in-Open rules-in-Open begin-in-Open end count) where
+    ends_inside-in-Open : end ≤ length rules-in-Open
+    ends_inside-in-Open = end_inside rules-in-Open begin-in-Open end (omega (arith, begin_inside-in-Open)) h.ends
 
-    part-in-Open : take (end-in-Open - begin-in-Open) (drop begin-in-Open rules-in-Open) ≡ clause-in-Open
-    part-in-Open = clause_at_lem rules-in-Open begin-in-Open end-in-Open h.ends ∙ same-in-Open
+    part-in-Open : take (end - begin-in-Open) (drop begin-in-Open rules-in-Open) ≡ clause-in-Open
+    part-in-Open = clause_at_lem rules-in-Open begin-in-Open end h.ends ∙ same-in-Open
 
 -- what was read is told of the place where the clause begins
 read_as-in-Open : (c : goal.In-Open) (r : ReadClause) → c.read_clause.result ≡ r → IsRead (a-in-Open c) (rules-in-Open c) (begin-in-Open c) r
@@ -74,27 +74,27 @@ read_as-in-Open c r e =
     subst (IsRead (a-in-Open c) (rules-in-Open c) (begin-in-Open c)) e (subst (λ (i : ℕ). IsRead (a-in-Open c) (rules-in-Open c) i c.read_clause.result) c.begin_of-from.ensures c.read_clause.ensures)
 
 module _ (c : goal.In-Open) where
-  abbrev end-in-Open : ℕ
-  end-in-Open = c.in-Open.end
+  abbrev end : ℕ
+  end = c.in-Open.end
 
-  abbrev count-in-Open : ℕ
-  count-in-Open = c.in-Open.count
+  abbrev count : ℕ
+  count = c.in-Open.count
 
-  stands-in-Open : StandsOpen (a-in-Open c) (rules-in-Open c) (begin-in-Open c) end-in-Open count-in-Open
-  stands-in-Open = read_as-in-Open c (Open end-in-Open count-in-Open) c.in-Open.is
+  stands : StandsOpen (a-in-Open c) (rules-in-Open c) (begin-in-Open c) end count
+  stands = read_as-in-Open c (Open end count) c.in-Open.is
 
   -- the part of the list that is read is the clause
-  abbrev from-in-Open : ℕ
-  from-in-Open = c.begin_of-from.result
+  abbrev from : ℕ
+  from = c.begin_of-from.result
 
-  from_begin-in-Open : from-in-Open ≡ begin-in-Open c
-  from_begin-in-Open = c.begin_of-from.ensures
+  from_begin : from ≡ begin-in-Open c
+  from_begin = c.begin_of-from.ensures
 
-  read_part-in-Open : take (end-in-Open - from-in-Open) (drop from-in-Open (rules-in-Open c)) ≡ clause-in-Open c
-  read_part-in-Open = ap (λ (i : ℕ). take (end-in-Open - i) (drop i (rules-in-Open c))) from_begin-in-Open ∙ part-in-Open c end-in-Open count-in-Open stands-in-Open
+  read_part : take (end - from) (drop from (rules-in-Open c)) ≡ clause-in-Open c
+  read_part = ap (λ (i : ℕ). take (end - i) (drop i (rules-in-Open c))) from_begin ∙ part-in-Open c end count stands
 
 pub slice_bounds-clause-end : goal.slice_bounds-clause-end
-slice_bounds-clause-end c = ends_inside-in-Open c (end-in-Open c) (count-in-Open c) (stands-in-Open c)
+slice_bounds-clause-end c = ends_inside-in-Open c (end c) (count c) (stands c)
 
 -- the clause, by its number
 module _ (s : goal.After-struct_known-1) where
@@ -132,15 +132,15 @@ module _ (s : goal.After-struct_known-1) where
     no_dead_end-after-struct_known-1 = sym (ap (λ (b : Bool). s.args.spent && b) (satisfied_unopposed row-after-struct_known-1 a-after-struct_known-1 clause-after-struct_known-1 met) ∙ and-false s.args.spent)
 
     unchanged-after-struct_known-1 : Weighed row-after-struct_known-1 a-after-struct_known-1 (size_of s.args.fewest) clause-after-struct_known-1 s.args.weights.now s.args.weights.now
-    unchanged-after-struct_known-1 = weighed_satisfied row-after-struct_known-1 a-after-struct_known-1 clause-after-struct_known-1 (size_of s.args.fewest) s.args.weights.now
+    unchanged-after-struct_known-1 = weighed_satisfied row-after-struct_known-1 a-after-struct_known-1 clause-after-struct_known-1 met (size_of s.args.fewest) s.args.weights.now
 
   -- read as open, it is the part of the list up to its end
-  module _ (end-after-struct_known-1 count-after-struct_known-1 : ℕ) (h : StandsOpen a-after-struct_known-1 rules-after-struct_known-1 begin-after-struct_known-1 end-after-struct_known-1 count-after-struct_known-1) where
-    ends_inside-after-struct_known-1 : end-after-struct_known-1 ≤ length rules-after-struct_known-1
-    ends_inside-after-struct_known-1 = end_inside rules-after-struct_known-1 begin-after-struct_known-1 end-after-struct_known-1 (omega (arith, begin_inside-after-struct_known-1)) h.ends
+  module _ (end count : ℕ) (h : StandsOpen a-after-struct_known-1 rules-after-struct_known-1 begin-after-struct_known-1 end count) where
+    ends_inside-after-struct_known-1 : end ≤ length rules-after-struct_known-1
+    ends_inside-after-struct_known-1 = end_inside rules-after-struct_known-1 begin-after-struct_known-1 end (omega (arith, begin_inside-after-struct_known-1)) h.ends
 
-    part-after-struct_known-1 : take (end-after-struct_known-1 - begin-after-struct_known-1) (drop begin-after-struct_known-1 rules-after-struct_known-1) ≡ clause-after-struct_known-1
-    part-after-struct_known-1 = clause_at_lem rules-after-struct_known-1 begin-after-struct_known-1 end-after-struct_known-1 h.ends ∙ same-after-struct_known-1
+    part-after-struct_known-1 : take (end - begin-after-struct_known-1) (drop begin-after-struct_known-1 rules-after-struct_known-1) ≡ clause-after-struct_known-1
+    part-after-struct_known-1 = clause_at_lem rules-after-struct_known-1 begin-after-struct_known-1 end h.ends ∙ same-after-struct_known-1
 
 -- what was read is told of the place where the clause begins
 read_as-after-struct_known-1 : (c : goal.After-struct_known-1) (r : ReadClause) → c.read_clause.result ≡ r → IsRead (a-after-struct_known-1 c) (rules-after-struct_known-1 c) (begin-after-struct_known-1 c) r
@@ -154,26 +154,6 @@ module _ (c : goal.After-struct_known-1) where
   held : HoldsAt (a-after-struct_known-1 c) (rules-after-struct_known-1 c) (begin-after-struct_known-1 c) at
   held = read_as-after-struct_known-1 c (Satisfied at) c.in-Satisfied.is
 
-module _ (c : goal.After-struct_known-1) where
-  abbrev end-after-struct_known-1 : ℕ
-  end-after-struct_known-1 = c.end-1.given.0.0
-
-  abbrev count-after-struct_known-1 : ℕ
-  count-after-struct_known-1 = c.end-1.given.0.1.0
-
-  stands-after-struct_known-1 : StandsOpen (a-after-struct_known-1 c) (rules-after-struct_known-1 c) (begin-after-struct_known-1 c) end-after-struct_known-1 count-after-struct_known-1
-  stands-after-struct_known-1 = read_as-after-struct_known-1 c (Open end-after-struct_known-1 count-after-struct_known-1) c.end-1.given.1
-
-  -- the part of the list that is read is the clause
-  abbrev from-after-struct_known-1 : ℕ
-  from-after-struct_known-1 = c.begin_of-from.result
-
-  from_begin-after-struct_known-1 : from-after-struct_known-1 ≡ begin-after-struct_known-1 c
-  from_begin-after-struct_known-1 = c.begin_of-from.ensures
-
-  read_part-after-struct_known-1 : take (end-after-struct_known-1 - from-after-struct_known-1) (drop from-after-struct_known-1 (rules-after-struct_known-1 c)) ≡ clause-after-struct_known-1 c
-  read_part-after-struct_known-1 = ap (λ (i : ℕ). take (end-after-struct_known-1 - i) (drop i (rules-after-struct_known-1 c))) from_begin-after-struct_known-1 ∙ part-after-struct_known-1 c end-after-struct_known-1 count-after-struct_known-1 stands-after-struct_known-1
-
 pub returns-in-Satisfied : goal.returns-in-Satisfied
 returns-in-Satisfied c =
-    let satisfies = ap (satisfied (a-after-struct_known-1 c)) (sym (same-after-struct_known-1 c)) ∙ held_satisfies (rules-after-struct_known-1 c) (begin-after-struct_known-1 c) (at c) (held c).after (held c).before (begin_inside-after-struct_known-1 c) (a-after-struct_known-1 c) (held c).held in let both = (new_witness c.requires.located.0 c.requires.located.1 (k-after-struct_known-1 c) (at c) (less-after-struct_known-1 c) (held c).after (held c).before, (no_dead_end-after-struct_known-1 c satisfies, λ e. unchanged-after-struct_known-1 c satisfies)) in record { witness = both.0; dead = both.1; weighed = both.2 }
+    let satisfies = ap (satisfied (a-after-struct_known-1 c)) (sym (same-after-struct_known-1 c)) ∙ held_satisfies (rules-after-struct_known-1 c) (begin-after-struct_known-1 c) (at c) (held c).after (held c).before (begin_inside-after-struct_known-1 c) (a-after-struct_known-1 c) (held c).held in record { witness = new_witness c.requires.located.0 c.requires.located.1 (k-after-struct_known-1 c) (at c) (less-after-struct_known-1 c) (held c).after (held c).before; dead = no_dead_end-after-struct_known-1 c satisfies; weighed = λ e. unchanged-after-struct_known-1 c satisfies }

@@ -17,7 +17,7 @@ use Rattle.walk_weighing.proofs.list.weigh_list.Goals as goal
 before_it : (k : ℕ) → k + 1 - 1 ≡ k
 before_it k = omega arith
 
--- before the loop: the list can be with the numbers
+-- before the loop: the list can be weighed with the cleared numbers
 module _ (c : goal.After-weigh_at-arg-in-loop-k-1) where
   abbrev zeros-after-weigh_at-arg-in-loop-k-1 : List ℕ
   zeros-after-weigh_at-arg-in-loop-k-1 = c.clear.new.cells
@@ -30,24 +30,21 @@ module _ (c : goal.After-weigh_at-arg-in-loop-k-1) where
 
 -- at the loop's head
 module _ (c : goal.After-weigh_at-arg-in-loop-k-1) where
-  abbrev given-after-weigh_at-arg-in-loop-k-1 : goal.After-weigh_at-arg-in-loop-k-1
-  given-after-weigh_at-arg-in-loop-k-1 = c
-
   abbrev clause-after-weigh_at-arg-in-loop-k-1 : ℕ → List ℤ
-  clause-after-weigh_at-arg-in-loop-k-1 j = get_or (clauses given-after-weigh_at-arg-in-loop-k-1.args.rules.now) j []
+  clause-after-weigh_at-arg-in-loop-k-1 j = get_or (clauses c.args.rules.now) j []
 
   -- there is a clause where the loop goes on
-  more-after-weigh_at-arg-in-loop-k-1 : c.loop-k.k < length c.loop-k.witnesses → c.loop-k.k < length (clauses given-after-weigh_at-arg-in-loop-k-1.args.rules.now)
+  more-after-weigh_at-arg-in-loop-k-1 : c.loop-k.k < length c.loop-k.witnesses → c.loop-k.k < length (clauses c.args.rules.now)
   more-after-weigh_at-arg-in-loop-k-1 h = omega (arith, h, c.loop-k.invariant.known.many)
 
   -- it can be weighed
-  able-after-weigh_at-arg-in-loop-k-1 : c.loop-k.k < length c.loop-k.witnesses → Weighable (length given-after-weigh_at-arg-in-loop-k-1.args.assignment.now) (clause-after-weigh_at-arg-in-loop-k-1 c.loop-k.k) c.loop-k.weights
-  able-after-weigh_at-arg-in-loop-k-1 h = weighing_clause given-after-weigh_at-arg-in-loop-k-1.args.row.now given-after-weigh_at-arg-in-loop-k-1.args.assignment.now (size_of given-after-weigh_at-arg-in-loop-k-1.args.fewest) given-after-weigh_at-arg-in-loop-k-1.args.spent given-after-weigh_at-arg-in-loop-k-1.args.rules.now (zeros-after-weigh_at-arg-in-loop-k-1 c) (weighable-after-weigh_at-arg-in-loop-k-1 c) c.loop-k.witnesses c.loop-k.weights c.loop-k.k c.loop-k.invariant (more-after-weigh_at-arg-in-loop-k-1 h)
+  able-after-weigh_at-arg-in-loop-k-1 : c.loop-k.k < length c.loop-k.witnesses → Weighable (length c.args.assignment.now) (clause-after-weigh_at-arg-in-loop-k-1 c.loop-k.k) c.loop-k.weights
+  able-after-weigh_at-arg-in-loop-k-1 h = weighing_clause c.args.row.now c.args.assignment.now (size_of c.args.fewest) c.args.spent c.args.rules.now (zeros-after-weigh_at-arg-in-loop-k-1 c) (weighable-after-weigh_at-arg-in-loop-k-1 c) c.loop-k.witnesses c.loop-k.weights c.loop-k.k c.loop-k.invariant (more-after-weigh_at-arg-in-loop-k-1 h)
 
 pub weigh_at-requires : goal.weigh_at-requires
-weigh_at-requires c = record { located = (c.requires.located.0, c.loop-k.invariant.known, omega arith, omega (arith, more-after-weigh_at-arg-in-loop-k-1 c c.loop-k-test.true)); weighable-after-weigh_at-arg-in-loop-k-1 = subst (λ (j : ℕ). Weighable (length (given-after-weigh_at-arg-in-loop-k-1 c).args.assignment.now) (clause-after-weigh_at-arg-in-loop-k-1 c j) c.loop-k.weights) (sym (before_it c.loop-k.k)) (able-after-weigh_at-arg-in-loop-k-1 c c.loop-k-test.true) }
+weigh_at-requires c = record { located = (c.requires.located.0, c.loop-k.invariant.known, omega arith, omega (arith, more-after-weigh_at-arg-in-loop-k-1 c c.loop-k-test.true)); weighable = subst (λ (j : ℕ). Weighable (length c.args.assignment.now) (clause-after-weigh_at-arg-in-loop-k-1 c j) c.loop-k.weights) (sym (before_it c.loop-k.k)) (able-after-weigh_at-arg-in-loop-k-1 c c.loop-k-test.true) }
 
--- what a leaves in the slices: the witnesses and the weights
+-- what a turn leaves in the lent slices: the witnesses and the weights
 module _ (c : goal.Else-weigh_at) where
   abbrev witnesses_then : List ℕ
   witnesses_then = c.weigh_at.new.witnesses
@@ -58,7 +55,7 @@ module _ (c : goal.Else-weigh_at) where
   weights_kept : length weights_then ≡ length c.loop-k.weights
   weights_kept = c.weigh_at.auto.weights
 
--- before the loop: the list can be with the numbers
+-- before the loop: the list can be weighed with the cleared numbers
 module _ (c : goal.Else-weigh_at) where
   abbrev zeros-else-weigh_at : List ℕ
   zeros-else-weigh_at = c.clear.new.cells
@@ -71,35 +68,28 @@ module _ (c : goal.Else-weigh_at) where
 
 -- at the loop's head
 module _ (c : goal.Else-weigh_at) where
-  abbrev given-else-weigh_at : goal.Else-weigh_at
-  given-else-weigh_at = c
-
   abbrev clause-else-weigh_at : ℕ → List ℤ
-  clause-else-weigh_at j = get_or (clauses given-else-weigh_at.args.rules.now) j []
+  clause-else-weigh_at j = get_or (clauses c.args.rules.now) j []
 
   -- there is a clause where the loop goes on
-  more-else-weigh_at : c.loop-k.k < length c.loop-k.witnesses → c.loop-k.k < length (clauses given-else-weigh_at.args.rules.now)
+  more-else-weigh_at : c.loop-k.k < length c.loop-k.witnesses → c.loop-k.k < length (clauses c.args.rules.now)
   more-else-weigh_at h = omega (arith, h, c.loop-k.invariant.known.many)
 
   -- it can be weighed
-  able-else-weigh_at : c.loop-k.k < length c.loop-k.witnesses → Weighable (length given-else-weigh_at.args.assignment.now) (clause-else-weigh_at c.loop-k.k) c.loop-k.weights
-  able-else-weigh_at h = weighing_clause given-else-weigh_at.args.row.now given-else-weigh_at.args.assignment.now (size_of given-else-weigh_at.args.fewest) given-else-weigh_at.args.spent given-else-weigh_at.args.rules.now (zeros-else-weigh_at c) (weighable-else-weigh_at c) c.loop-k.witnesses c.loop-k.weights c.loop-k.k c.loop-k.invariant (more-else-weigh_at h)
+  able-else-weigh_at : c.loop-k.k < length c.loop-k.witnesses → Weighable (length c.args.assignment.now) (clause-else-weigh_at c.loop-k.k) c.loop-k.weights
+  able-else-weigh_at h = weighing_clause c.args.row.now c.args.assignment.now (size_of c.args.fewest) c.args.spent c.args.rules.now (zeros-else-weigh_at c) (weighable-else-weigh_at c) c.loop-k.witnesses c.loop-k.weights c.loop-k.k c.loop-k.invariant (more-else-weigh_at h)
 
 -- what was told of that clause
 module _ (c : goal.Else-weigh_at) where
-  abbrev top : goal.Else-weigh_at
-  top = c
+  told_dead : c.weigh_at.result ≡ c.args.spent && is_opposed c.args.row.now c.args.assignment.now (clause-else-weigh_at c c.loop-k.k)
+  told_dead = c.weigh_at.ensures.dead ∙ ap (λ (j : ℕ). c.args.spent && is_opposed c.args.row.now c.args.assignment.now (clause-else-weigh_at c j)) (before_it c.loop-k.k)
 
-  told_dead : c.weigh_at.result ≡ (given-else-weigh_at top).args.spent && is_opposed (given-else-weigh_at top).args.row.now (given-else-weigh_at top).args.assignment.now (clause-else-weigh_at top top.loop-k.k)
-  told_dead = c.weigh_at.ensures.dead.0 ∙ ap (λ (j : ℕ). (given-else-weigh_at top).args.spent && is_opposed (given-else-weigh_at top).args.row.now (given-else-weigh_at top).args.assignment.now (clause-else-weigh_at top j)) (before_it top.loop-k.k)
-
-  told_weighed : c.weigh_at.result ≡ false → Weighed (given-else-weigh_at top).args.row.now (given-else-weigh_at top).args.assignment.now (size_of (given-else-weigh_at top).args.fewest) (clause-else-weigh_at top top.loop-k.k) top.loop-k.weights (weights_then c)
+  told_weighed : c.weigh_at.result ≡ false → Weighed c.args.row.now c.args.assignment.now (size_of c.args.fewest) (clause-else-weigh_at c c.loop-k.k) c.loop-k.weights (weights_then c)
   told_weighed e =
-      subst (λ (j : ℕ). Weighed (given-else-weigh_at top).args.row.now (given-else-weigh_at top).args.assignment.now (size_of (given-else-weigh_at top).args.fewest) (clause-else-weigh_at top j) top.loop-k.weights (weights_then c))
-      (before_it top.loop-k.k) (c.weigh_at.ensures.dead.1 e)
+      subst (λ (j : ℕ). Weighed c.args.row.now c.args.assignment.now (size_of c.args.fewest) (clause-else-weigh_at c j) c.loop-k.weights (weights_then c))
+      (before_it c.loop-k.k) (c.weigh_at.ensures.weighed e)
 
 pub loop-k-preserved : goal.loop-k-preserved
 loop-k-preserved c =
-    let args = (given-else-weigh_at c).args in
-    weighing_next args.row.now args.assignment.now (size_of args.fewest) args.spent args.rules.now (zeros-else-weigh_at c) (weighable-else-weigh_at c) c.loop-k.witnesses c.loop-k.weights c.loop-k.k c.loop-k.invariant (more-else-weigh_at c c.loop-k-test.true)
+    weighing_next c.args.row.now c.args.assignment.now (size_of c.args.fewest) c.args.spent c.args.rules.now (zeros-else-weigh_at c) (weighable-else-weigh_at c) c.loop-k.witnesses c.loop-k.weights c.loop-k.k c.loop-k.invariant (more-else-weigh_at c c.loop-k-test.true)
     (witnesses_then c) (weights_then c) c.weigh_at.ensures.witness (weights_kept c) (sym (told_dead c) ∙ c.if-weigh_at.false) (told_weighed c c.if-weigh_at.false)
