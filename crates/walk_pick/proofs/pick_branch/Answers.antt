@@ -16,14 +16,14 @@ use Rattle.walk_pick.proofs.pick_branch.Goals as goal
 
 -- a sound list can be weighed with the lent numbers
 weighable-after-weigh_list-arg-2-1 : (c : goal.After-weigh_list-arg-2-1) → WeighableList (length c.args.a.now) c.args.rules.now c.args.weights.now
-weighable-after-weigh_list-arg-2-1 c = sound_weighable (length c.args.a.now) c.args.rules.now c.args.weights.now c.requires.broken_value.1 c.requires.a_in_bounds.0
+weighable-after-weigh_list-arg-2-1 c = sound_weighable (length c.args.a.now) c.args.rules.now c.args.weights.now c.requires.broken_value.1 c.requires.a_in_bounds
 
 pub weigh_list-requires : goal.weigh_list-requires
-weigh_list-requires c = record { weighable_list = weighable-after-weigh_list-arg-2-1 c; located = c.requires.a_in_bounds.1.1 }
+weigh_list-requires c = record { weighable_list = weighable-after-weigh_list-arg-2-1 c; located = c.requires.located }
 
 -- a sound list can be weighed with the lent numbers
 weighable-after-slice_known-4-1 : (c : goal.After-slice_known-4-1) → WeighableList (length c.args.a.now) c.args.rules.now c.args.weights.now
-weighable-after-slice_known-4-1 c = sound_weighable (length c.args.a.now) c.args.rules.now c.args.weights.now c.requires.broken_value.1 c.requires.a_in_bounds.0
+weighable-after-slice_known-4-1 c = sound_weighable (length c.args.a.now) c.args.rules.now c.args.weights.now c.requires.broken_value.1 c.requires.a_in_bounds
 
 -- the weights that the weighing leaves; below the limit it does not stop
 module _ (c : goal.After-slice_known-4-1) where
