@@ -2,6 +2,8 @@
 // as an OPB file, or the line of a refusal. What is printed is `opb_printed` in
 // program_opb_text/specs/Printed.antt, and what is said of a refusal on standard error `diagnostic` in
 // program_diagnostics/specs/Diagnostic.antt.
+#![tactic(auto)]
+
 ghost use Rattle.std.specs.Prelude.{◌≡◌, ◌≤◌, length};
 ghost use Rattle.opb_format.specs.Sizes.{longest};
 

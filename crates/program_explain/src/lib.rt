@@ -1,4 +1,6 @@
 // Says on standard error why a program refuses its files.
+#![tactic(auto)]
+
 ghost use Rattle.std.specs.Prelude.{◌≡◌, ◌≤◌, length};
 
 use libc::STDERR_FILENO;

@@ -1,6 +1,8 @@
 // Reads `rules.cnf` and `wish.txt` of the current folder, and prints the rule file of the rewritten
 // rules, or the line of a refusal. What is printed is `printed` in program_rewrite_text/specs/Printed.antt, and what
 // is said of a refusal on standard error `diagnostic` in program_diagnostics/specs/Diagnostic.antt.
+#![tactic(auto)]
+
 ghost use Rattle.std.specs.Prelude.{◌≡◌, ◌≤◌, length};
 ghost use Rattle.program_rewrite_text.specs.Printed.{longest};
 
