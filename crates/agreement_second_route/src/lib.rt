@@ -1,6 +1,8 @@
 // The second route of document 01: rewriting, the writer, the reader and plain search, each on exactly
 // what the one before it returned or left in the part it filled. (The first route is one call,
 // search_wish::search.)
+#![tactic(auto)]
+
 ghost use Rattle.std.specs.Prelude.{◌≡◌};
 ghost use Rattle.rule_file_reader.specs.Read.{read_output};
 ghost use Rattle.rule_file_writer.specs.Write.{write_output};

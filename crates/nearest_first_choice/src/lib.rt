@@ -1,5 +1,7 @@
 // The first of the models within a limit (document 02, L5: off before on, compared from setting 1
 // upward), from any of them.
+#![tactic(auto)]
+
 mod fix;
 mod from_state;
 mod refine;

@@ -1,4 +1,6 @@
 // The search by disjoint cores from its root: every variable unassigned.
+#![tactic(auto)]
+
 mod bound;
 mod into;
 mod root;

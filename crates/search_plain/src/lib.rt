@@ -1,4 +1,6 @@
 // Plain search: a choice that meets all rules, or none; up to the limits of a rule file.
+#![tactic(auto)]
+
 ghost use Rattle.std.specs.Prelude.{◌≡◌, length, replicate};
 ghost use Rattle.wish.specs.Wish.{free_byte};
 ghost use Rattle.search_meaning.specs.Answers.{reply_of, PlainMeans};

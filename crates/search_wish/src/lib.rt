@@ -1,4 +1,6 @@
 // The wish search: a choice that meets all rules and breaks at most d wishes, or none.
+#![tactic(auto)]
+
 ghost use Rattle.std.specs.Prelude.{◌≡◌, length};
 ghost use Rattle.search_meaning.specs.Answers.{reply_of, SearchMeans};
 ghost use Rattle.search_meaning.specs.Searches.{search_reply, search_choice};

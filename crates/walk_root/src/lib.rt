@@ -1,4 +1,6 @@
 // The walk from its root: every variable unassigned.
+#![tactic(auto)]
+
 mod into;
 
 ghost use Rattle.std.specs.Prelude.{◌≡◌, length};
