@@ -4,7 +4,15 @@ use crate::{search_case, show};
 use c_answers::Answer;
 use case_text::{held, words};
 
-pub fn answer(to: &impl Print, call: usize, n: usize, rules: &[i32], row: &[u8], d: usize, out: &mut [u8]) {
+pub fn answer(
+    to: &impl Print,
+    call: usize,
+    n: usize,
+    rules: &[i32],
+    row: &[u8],
+    d: usize,
+    out: &mut [u8],
+) {
     match call {
         SEARCH | PLAIN | NEAREST => {
             search_case::answer(to, call, n, rules, row, d, out);
@@ -15,7 +23,15 @@ pub fn answer(to: &impl Print, call: usize, n: usize, rules: &[i32], row: &[u8],
     }
 }
 
-fn file(to: &impl Print, call: usize, n: usize, rules: &[i32], row: &[u8], d: usize, out: &mut [u8]) {
+fn file(
+    to: &impl Print,
+    call: usize,
+    n: usize,
+    rules: &[i32],
+    row: &[u8],
+    d: usize,
+    out: &mut [u8],
+) {
     let answer = called(call, n, rules, row, d, out);
     if call == READ_WISHES {
         show::read(to, answer);

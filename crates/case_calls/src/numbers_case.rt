@@ -4,7 +4,15 @@ use crate::show;
 use c_answers::Answer;
 use case_text::held;
 
-pub fn answer(to: &impl Print, call: usize, n: usize, rules: &[i32], row: &[u8], d: usize, out: &mut [i32]) {
+pub fn answer(
+    to: &impl Print,
+    call: usize,
+    n: usize,
+    rules: &[i32],
+    row: &[u8],
+    d: usize,
+    out: &mut [i32],
+) {
     let answer = called(call, n, rules, row, d, out);
     if call == READ_RULES {
         show::read(to, answer);

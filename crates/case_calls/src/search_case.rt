@@ -7,7 +7,15 @@ use c_answers::Answer;
 use case_text::{held, report, words};
 use refusal::Verdict;
 
-pub fn answer(to: &impl Print, call: usize, n: usize, rules: &[i32], row: &[u8], d: usize, choice: &mut [u8]) {
+pub fn answer(
+    to: &impl Print,
+    call: usize,
+    n: usize,
+    rules: &[i32],
+    row: &[u8],
+    d: usize,
+    choice: &mut [u8],
+) {
     let answer = called(call, n, rules, row, d, choice);
     if answer.verdict == 0 {
         show::unfound(to, answer);
@@ -18,7 +26,16 @@ pub fn answer(to: &impl Print, call: usize, n: usize, rules: &[i32], row: &[u8],
 }
 
 // What holds of a choice that was found, and what the buffer holds.
-fn found(to: &impl Print, call: usize, n: usize, rules: &[i32], row: &[u8], d: usize, broken: u64, choice: &[u8]) {
+fn found(
+    to: &impl Print,
+    call: usize,
+    n: usize,
+    rules: &[i32],
+    row: &[u8],
+    d: usize,
+    broken: u64,
+    choice: &[u8],
+) {
     if choice.len() < n {
         report::line(to, words::NO_ROOM);
         return;
@@ -39,7 +56,16 @@ fn called(call: usize, n: usize, rules: &[i32], row: &[u8], d: usize, choice: &m
     }
 }
 
-fn judge(to: &impl Print, call: usize, n: usize, rules: &[i32], row: &[u8], d: usize, broken: u64, choice: &[u8]) {
+fn judge(
+    to: &impl Print,
+    call: usize,
+    n: usize,
+    rules: &[i32],
+    row: &[u8],
+    d: usize,
+    broken: u64,
+    choice: &[u8],
+) {
     if call == PLAIN {
         report::value_line(to, words::FOUND, broken);
         plain(to, rules, choice);

@@ -20,7 +20,15 @@ fn with_n(to: &impl Print, line: &[u8], call: usize, has: Form, n: usize, at: us
     with_rules(to, line, call, has, n, &rules[..end], filled.next);
 }
 
-fn with_rules(to: &impl Print, line: &[u8], call: usize, has: Form, n: usize, rules: &[i32], at: usize) {
+fn with_rules(
+    to: &impl Print,
+    line: &[u8],
+    call: usize,
+    has: Form,
+    n: usize,
+    rules: &[i32],
+    at: usize,
+) {
     let mut row = case_text::file();
     let filled = case_text::read_bytes_if(has.row, line, at, &mut row);
     let end = filled.end;
@@ -28,7 +36,8 @@ fn with_rules(to: &impl Print, line: &[u8], call: usize, has: Form, n: usize, ru
     with_row(to, line, call, has, n, rules, &row[..end], d.value, d.next);
 }
 
-fn with_row(to: &impl Print,
+fn with_row(
+    to: &impl Print,
     line: &[u8],
     call: usize,
     has: Form,
@@ -45,7 +54,8 @@ fn with_row(to: &impl Print,
     let mut choice = case_text::bytes();
     let filled = case_text::read_bytes_if(has.choice, line, at, &mut choice);
     let end = filled.end;
-    with_choice(to, 
+    with_choice(
+        to,
         line,
         call,
         has.buffer,
@@ -59,7 +69,8 @@ fn with_row(to: &impl Print,
 }
 
 // The buffer comes last, if there is one.
-fn with_choice(to: &impl Print,
+fn with_choice(
+    to: &impl Print,
     line: &[u8],
     call: usize,
     buffer: usize,
@@ -87,7 +98,8 @@ fn with_choice(to: &impl Print,
     }
 }
 
-fn with_numbers(to: &impl Print,
+fn with_numbers(
+    to: &impl Print,
     line: &[u8],
     call: usize,
     n: usize,
@@ -106,7 +118,16 @@ fn with_numbers(to: &impl Print,
     numbers_case::answer(to, call, n, rules, row, d, &mut numbers[..end]);
 }
 
-fn with_bytes(to: &impl Print, line: &[u8], call: usize, n: usize, rules: &[i32], row: &[u8], d: usize, at: usize) {
+fn with_bytes(
+    to: &impl Print,
+    line: &[u8],
+    call: usize,
+    n: usize,
+    rules: &[i32],
+    row: &[u8],
+    d: usize,
+    at: usize,
+) {
     let mut bytes = case_text::file();
     let filled = case_text::read_bytes_if(true, line, at, &mut bytes);
     if filled.next != line.len() {

@@ -10,7 +10,14 @@ pub fn run(to: &impl Print, rule_file: &[u8], wish_file: &[u8], limits: usize) {
     case_text::line_feed(to);
 }
 
-fn read(to: &impl Print, rule_file: &[u8], wish_file: &[u8], limits: usize, rules: &mut [i32], row: &mut [u8]) {
+fn read(
+    to: &impl Print,
+    rule_file: &[u8],
+    wish_file: &[u8],
+    limits: usize,
+    rules: &mut [i32],
+    row: &mut [u8],
+) {
     match rule_file_reader::read_rules(rule_file, rules) {
         ReadRules::Refused(r) => {
             report::refused(to, r.number, r.place);
@@ -18,7 +25,8 @@ fn read(to: &impl Print, rule_file: &[u8], wish_file: &[u8], limits: usize, rule
         ReadRules::Read(counts) => {
             report::value(to, words::SETTINGS, counts.variables);
             report::value(to, words::RULES, counts.clauses);
-            ruled(to, 
+            ruled(
+                to,
                 counts.variables,
                 rules,
                 counts.length,
@@ -30,7 +38,15 @@ fn read(to: &impl Print, rule_file: &[u8], wish_file: &[u8], limits: usize, rule
     }
 }
 
-fn ruled(to: &impl Print, n: usize, rules: &[i32], end: usize, wish_file: &[u8], limits: usize, row: &mut [u8]) {
+fn ruled(
+    to: &impl Print,
+    n: usize,
+    rules: &[i32],
+    end: usize,
+    wish_file: &[u8],
+    limits: usize,
+    row: &mut [u8],
+) {
     if rules.len() < end {
         words::write(to, words::NO_ROOM);
         return;
@@ -42,7 +58,8 @@ fn ruled(to: &impl Print, n: usize, rules: &[i32], end: usize, wish_file: &[u8],
         ReadWishes::Read(header) => {
             report::value(to, words::WISHES, header.wishes);
             report::value(to, words::LIMIT, header.limit);
-            wished(to, 
+            wished(
+                to,
                 n,
                 &rules[0..end],
                 row,
@@ -54,7 +71,15 @@ fn ruled(to: &impl Print, n: usize, rules: &[i32], end: usize, wish_file: &[u8],
     }
 }
 
-fn wished(to: &impl Print, n: usize, rules: &[i32], row: &[u8], end: usize, limit: usize, limits: usize) {
+fn wished(
+    to: &impl Print,
+    n: usize,
+    rules: &[i32],
+    row: &[u8],
+    end: usize,
+    limit: usize,
+    limits: usize,
+) {
     if row.len() < end {
         words::write(to, words::NO_ROOM);
         return;

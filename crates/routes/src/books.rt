@@ -41,7 +41,12 @@ fn files(to: &impl Print, input: &[u8], end: usize, heading: Heading) -> usize
     let rules = past(input, end, 1);
     let wishes = past(input, rules, heading.rules);
     let next = past(input, wishes, heading.wishes);
-    book::run(to, &input[rules..wishes], &input[wishes..next], heading.limits);
+    book::run(
+        to,
+        &input[rules..wishes],
+        &input[wishes..next],
+        heading.limits,
+    );
     next
 }
 

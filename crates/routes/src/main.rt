@@ -16,7 +16,6 @@ mod words;
 
 ghost use Rattle.std.specs.Prelude.{◌≡◌, length};
 
-
 // The input must be shorter than this.
 const INPUT: usize = 1048576;
 

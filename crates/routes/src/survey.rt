@@ -23,12 +23,10 @@ struct Survey {
 
 pub fn every(to: &impl Print, n: usize, rules: &[i32], row: &[u8], limits: usize) {
     let mut survey = start();
-    let mut d = 0;
-    while d < limits {
+    for d in 0..limits {
         let first = route::first(n, rules, row, d);
         let second = route::second(n, rules, row, d);
         survey = seen(survey, d, compare(first, second));
-        d += 1;
     }
     show(to, survey);
 }
