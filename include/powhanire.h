@@ -1,7 +1,7 @@
 /* Powhanire: the permitted settings nearest to what was wished.
  *
- * Link with libpowhanire.a (x86-64), which `rt staticlib powhanire` writes to target/staticlib/ and tools/install
- * installs.
+ * Link with libpowhanire.a (x86-64), which `rt lib --cpu x86-64` in crates/powhanire writes to out/ there and
+ * tools/install installs.
  *
  * Data
  *   A setting has a number from 1 to n.

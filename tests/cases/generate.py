@@ -4,7 +4,7 @@
     python3 tests/cases/generate.py
 
 writes crates/cases/stdin, and crates/cases/stdout with what the reference of tests/interface answers, which
-follows documents 01 and 02 and not the library. `rt check cases` then runs the program and compares. The numbers are
+follows documents 01 and 02 and not the library. `rt ci cases` then runs the program and compares. The numbers are
 drawn from a fixed seed, so a second run writes the same files.
 
 A case is a line: the name of a call, then its values, single spaces between them. A list is its

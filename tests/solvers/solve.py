@@ -7,8 +7,8 @@ number as the limit it then gives the first nearest choice: it is asked for a ch
 they are known and this one off, for each setting in turn. cadical confirms that choice on the rewritten rules.
 cadical and minisat get the given rule file, and the rewritten one for each limit from 0 to the number of wishes:
 above that it is the same file. The reference of tests/interface rewrites. clasp and Sat4j get the very bytes that the
-program `opb` of this repository prints (`rt check opb` builds it), for the limits at which `routes` exports the book;
-the reference must print the same.
+program `opb` of this repository prints (`rt run -- --version` in crates/opb builds it), for the limits at which
+`routes` exports the book; the reference must print the same.
 A book's rule file may repeat entries and have both senses of a setting in a rule, and the exported lines have the
 latter too. PROBES says how the solvers must read such files, and is tried first.
 Debian's packages clasp, cadical, minisat and sat4j have the four programs."""
@@ -23,7 +23,7 @@ import books
 import reference
 
 REWRITE, EXPORT = (reference.program('reference', name) for name in ('rewrite', 'opb'))
-OPB = books.ROOT / 'target' / 'bin' / 'opb'
+OPB = books.ROOT / 'crates' / 'opb' / 'out' / 'opb'
 SATISFIABLE, UNSATISFIABLE = '+', '-'
 
 # With which words each solver is run on a file.
@@ -263,7 +263,7 @@ def version(package):
 
 def main():
     if not OPB.exists():
-        sys.exit('no %s: run `rt check opb` first' % OPB)
+        sys.exit('no %s: run `rt run -- --version` in crates/opb first' % OPB)
     lines = [
         '# What solvers from elsewhere answer on the rule books of crates/routes/stdin. solve.py writes this file.',
         '# The solvers are the Debian packages %s.' % ', '.join(map(version, COMMANDS)),

@@ -27,9 +27,9 @@
 //!
 //! Several threads may call at once. A thread with 512 KB of stack suffices for every call.
 //!
-//! `build.rs` links `target/staticlib/libpowhanire.a` of this repository, which `rt staticlib powhanire` writes, or the
-//! archive in the folder whose full path the variable `POWHANIRE_LIB_DIR` has, as `PREFIX/lib` after
-//! `tools/install PREFIX`.
+//! `build.rs` links `crates/powhanire/out/libpowhanire.a` of this repository, which `rt lib --cpu x86-64` in
+//! `crates/powhanire` writes, or the archive in the folder whose full path the variable `POWHANIRE_LIB_DIR` has, as
+//! `PREFIX/lib` after `tools/install PREFIX`.
 
 #![warn(missing_docs)]
 #![deny(unsafe_code)]

@@ -1,4 +1,6 @@
 // The answers of the calls that read and write files.
+#![tactic(auto)]
+
 ghost use Rattle.std.specs.Prelude.{◌≡◌};
 ghost use Rattle.replies.specs.Written as written_text;
 ghost use Rattle.rule_file_reader.specs.Read as rules_read;

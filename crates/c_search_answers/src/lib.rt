@@ -1,4 +1,6 @@
 // The answers of the searches, of the checking call and of rewriting.
+#![tactic(auto)]
+
 ghost use Rattle.std.specs.Prelude.{◌≡◌};
 ghost use Rattle.checking.specs.Check as check;
 ghost use Rattle.replies.specs.Rewritten as rewrite;

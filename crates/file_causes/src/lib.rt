@@ -1,1 +1,2 @@
 // Theorems alone: see specs/Causes.antt.
+#![tactic(auto)]

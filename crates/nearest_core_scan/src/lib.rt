@@ -1,4 +1,6 @@
 // Disjoint cores of a state, found in the state's own space.
+#![tactic(auto)]
+
 mod assumable;
 mod assume;
 mod broken;

@@ -1,4 +1,6 @@
 // The last line of an OPB file, which has the wishes: counted, and put into bytes that have room for it.
+#![tactic(auto)]
+
 mod count;
 mod put;
 

@@ -1,4 +1,6 @@
 // The export to OPB: it counts first, then writes, so that a refusal leaves the lent bytes alone.
+#![tactic(auto)]
+
 ghost use Rattle.std.specs.Prelude.{◌≡◌, ◌≤◌, length};
 ghost use Rattle.replies.specs.Written.{reply_of};
 ghost use Rattle.refusal_causes.specs.Admitted.{Admitted};

@@ -1,4 +1,6 @@
 // Whether a program refuses its two files, and for what, without the work that it does on good ones.
+#![tactic(auto)]
+
 ghost use Rattle.std.specs.Prelude.{◌≡◌};
 ghost use Rattle.program_files.specs.Problem.{problem};
 ghost use Rattle.program_check.specs.Check.{lent_of, verdict, of_admission, check_of};

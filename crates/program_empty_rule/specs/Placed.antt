@@ -97,17 +97,19 @@ module _ (size k m i : ℕ) (t : Token) (ts : List Token) (x : ℤ) (e : signed 
   closed (y ∷ clause) z p =
       let s : Scan = scan k m (y ∷ clause) in
       let u : Scan = scan (k + 1) m [] in
-      rw (e, (zero-stored k m (y ∷ clause) x (map element ts) z).1, z)
+      subst (λ (v : ℤ). Placed s i size (t ∷ ts) (empty_among true size (t ∷ ts)) (empty_index true i (stored s (v ∷ map element ts)))) (sym given)
+      (rw (e, (zero-stored k m (y ∷ clause) x (map element ts) z).1, z)
       (in_front s u i (suc i) size t ts (empty_among false size ts) (empty_index false (suc i) (stored u (map element ts)))
-      (λ l. one s u l (zero-stored k m (y ∷ clause) x l z).1) p)
+      (λ l. one s u l (zero-stored k m (y ∷ clause) x l z).1) p))
 
   repeated : (clause : List ℤ) → closes x ≡ false → repeats (scan k m clause) x ≡ true → Found (scan k m clause) i size ts → Found (scan k m clause) i size (t ∷ ts)
   repeated [] z r p = absurd (true≢false (sym (rw (z) at r)))
   repeated (y ∷ clause) z r p =
       let s : Scan = scan k m (y ∷ clause) in
-      rw (e, (repeat_dropped k m (y ∷ clause) x (map element ts) r).1, z)
+      subst (λ (v : ℤ). Placed s i size (t ∷ ts) (empty_among true size (t ∷ ts)) (empty_index true i (stored s (v ∷ map element ts)))) (sym given)
+      (rw (e, (repeat_dropped k m (y ∷ clause) x (map element ts) r).1, z)
       (in_front s s i i size t ts (empty_among true size ts) (empty_index true i (stored s (map element ts)))
-      (λ l. ap (λ (v : ℤ). i + length (stored s (v ∷ l))) given ∙ ap (λ (o : List ℤ). i + length o) (repeat_dropped k m (y ∷ clause) x l r).1) p)
+      (λ l. ap (λ (v : ℤ). i + length (stored s (v ∷ l))) given ∙ ap (λ (o : List ℤ). i + length o) (repeat_dropped k m (y ∷ clause) x l r).1) p))
 
   joined : (clause : List ℤ) → closes x ≡ false → repeats (scan k m clause) x ≡ false → Found (scan k (m + 1) (x ∷ clause)) (suc i) size ts → Found (scan k m clause) i size (t ∷ ts)
   joined clause z r p =

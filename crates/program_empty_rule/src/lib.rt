@@ -1,4 +1,6 @@
 // Where a rule file that was read has its first rule without entries.
+#![tactic(auto)]
+
 ghost use Rattle.std.specs.Prelude.{false, ◌≡◌, length};
 ghost use Rattle.rule_file.specs.Tokens.{tokens_from};
 ghost use Rattle.program_empty_rule.specs.Empty.{empty_among, empty_rule};

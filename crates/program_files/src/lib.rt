@@ -1,4 +1,6 @@
 // The two files that a program works on, read into a rule list and a wish row.
+#![tactic(auto)]
+
 mod space;
 
 ghost use Rattle.std.specs.Prelude.{List, ◌≡◌, ◌≤◌, ℤ, length, take};

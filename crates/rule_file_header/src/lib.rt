@@ -1,4 +1,6 @@
 // The header of a rule file, and the comment lines before it.
+#![tactic(auto)]
+
 ghost use Rattle.std.specs.Prelude.{false, ◌≡◌, ◌≤◌, length, drop};
 ghost use Rattle.rule_file.specs.Format.{past_comments, preamble, starts_with, header};
 ghost use Rattle.rule_file_header.specs.Header.{header_as};

@@ -1,4 +1,6 @@
 // The lines of a rule file: where a byte comes next, and where a comment line begins.
+#![tactic(auto)]
+
 ghost use Rattle.std.specs.Prelude.{cond, ◌≡◌, ◌+◌, ◌<◌, length, get_or, drop};
 ghost use Rattle.rule_file.specs.Format.{before};
 ghost use Rattle.rule_file.specs.Tokens.{line_start, between, opens_comment, position_at};

@@ -1,5 +1,7 @@
 // The reader of the rule file: it checks and counts first, then fills, so that a refusal leaves the
 // lent list alone.
+#![tactic(auto)]
+
 mod fill;
 
 ghost use Rattle.std.specs.Prelude.{◌≡◌, ◌≤◌, length};

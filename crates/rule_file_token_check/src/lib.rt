@@ -1,4 +1,6 @@
 // The first pass over a rule file: whether its tokens are good, and how many of their numbers are stored.
+#![tactic(auto)]
+
 ghost use Rattle.std.specs.Prelude.{◌||◌, ◌≡◌, ◌+◌, ◌≤◌, ltb, length};
 ghost use Rattle.limits.specs.Limits.{max_variables, max_clauses, max_literals};
 ghost use Rattle.refusal.specs.Reply.{cause};

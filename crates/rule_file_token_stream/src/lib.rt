@@ -1,5 +1,7 @@
 // The tokens of a rule file as a struct of the file and a kept offset. The functions over it are thin:
 // `rule_file_tokens` does the work, on the slice and the number.
+#![tactic(auto)]
+
 ghost use Rattle.std.specs.Prelude.{◌≡◌};
 ghost use Rattle.rule_file.specs.Tokens.{tokens_from};
 ghost use Rattle.rule_file_tokens.specs.NextToken.{next_of};

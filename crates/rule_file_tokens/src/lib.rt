@@ -1,4 +1,6 @@
 // The tokens of a rule file.
+#![tactic(auto)]
+
 mod signed;
 
 ghost use Rattle.std.specs.Prelude.{◌≡◌, ◌+◌, length, drop};

@@ -1,4 +1,6 @@
 // The writer of the rule file: it counts first, then writes, so that a refusal leaves the lent bytes alone.
+#![tactic(auto)]
+
 mod count;
 mod put;
 

@@ -1,5 +1,7 @@
 // The state of a search: the tables that it works in and what is prepared in them, what a try comes to, and the
 // way back from one that found nothing.
+#![tactic(auto)]
+
 mod copying;
 mod preparing;
 mod result;

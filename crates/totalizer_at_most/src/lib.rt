@@ -1,4 +1,6 @@
 // At most d of some leaves hold: the totalizer's clauses and the limit clause, counted and written.
+#![tactic(auto)]
+
 ghost use Rattle.std.specs.Prelude.{List, ◌≡◌, ℕ, ◌+◌, ◌≤◌, ℤ, length};
 ghost use Rattle.limits.specs.Limits.{max_variables, max_wishes};
 ghost use Rattle.rule_list_soundness.specs.Flat.{flat};

@@ -1,5 +1,7 @@
 // Rewriting into plain rules: the given rules, then clauses that let at most d wishes be broken. It
 // counts first, then writes, so that a refusal leaves the lent list alone.
+#![tactic(auto)]
+
 ghost use Rattle.std.proofs.Math.Option.{none};
 ghost use Rattle.std.specs.Prelude.{◌≡◌, ◌≤◌, length};
 ghost use Rattle.refusal.specs.Reply.{filled};

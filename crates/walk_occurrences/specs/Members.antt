@@ -76,5 +76,5 @@ no_longer n (x ∷ c) read d e f =
   where
     differs : joining n (x ∷ read) c ≡ true → (y : ℤ) → Memᴰ y c → y ≡ x → ⊥
     differs r y m q =
-        let found : contains (variable y) (wanted y) (x ∷ read) ≡ true = any_at (is_literal (variable y) (wanted y)) {l = x ∷ read} {x = y} (Memᴰ.head q) (is_itself y) in
+        let found : contains (variable y) (wanted y) (x ∷ read) ≡ true = any_at (is_literal (variable y) (wanted y)) {x = y} {l = x ∷ read} (Memᴰ.head q) (is_itself y) in
         true≢false (sym found ∙ apart n (x ∷ read) c r m)

@@ -1,4 +1,6 @@
 // Unit propagation by occurrence lists, and its undoing.
+#![tactic(auto)]
+
 mod assign;
 mod look;
 mod propagate;

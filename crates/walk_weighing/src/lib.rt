@@ -1,4 +1,6 @@
 // The weights of the open clauses, literal by literal, and the candidates to branch on.
+#![tactic(auto)]
+
 mod add;
 mod cells;
 mod clause;

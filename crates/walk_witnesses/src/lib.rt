@@ -1,5 +1,7 @@
 // Witnesses: for each clause an index of the closed list. Where the literal that stands there holds, the clause
 // is satisfied and need not be read.
+#![tactic(auto)]
+
 ghost use Rattle.std.specs.Prelude.{◌≡◌, ◌-◌, ◌≤◌, ◌<◌, pos, length, get_or};
 ghost use Rattle.literal.specs.Literal.{holds};
 ghost use Rattle.formula.specs.Formula.{clauses};

@@ -1,5 +1,7 @@
 // The reader of the wish file: it goes through the file twice, first for a cause to refuse, then for
 // the wishes, so that a refusal leaves the lent row alone.
+#![tactic(auto)]
+
 mod fill;
 
 ghost use Rattle.std.specs.Prelude.{◌≡◌, length};

@@ -1,4 +1,6 @@
 // The first cause to refuse a wish file, found before anything is written.
+#![tactic(auto)]
+
 ghost use Rattle.std.specs.Prelude.{◌≡◌, ◌≤◌, length, drop};
 ghost use Rattle.refusal.specs.Reply.{refused};
 ghost use Rattle.wish_file.specs.Format.{bad_lines, reading};

@@ -7,31 +7,42 @@ use Rattle.limits.specs.Limits.{max_clauses}
 use Rattle.walk_occurrences.specs.Layout.{begins_at, begins_of}
 use Rattle.walk_occurrences.specs.LayoutLaws.{begins_there, begins_read}
 use Rattle.walk_occurrences.proofs.layout.begin_of.Goals as goal
-use Rattle.walk_occurrences.proofs.layout.begin_of.Lts as lts
-use Rattle.walk_occurrences.proofs.layout.begin_of.Reads as reads
-use Rattle.walk_occurrences.proofs.layout.begin_of.Tie as tie
-
-abbrev Start : Type 0
-Start = lts.Start tie.the-claims reads.Pre reads.Post
 
 -- how many clauses are before it
-abbrev k : Start → ℕ
-k c = c.args.clause.0 - 1
+abbrev k-after-struct_known-1 : goal.After-struct_known-1 → ℕ
+k-after-struct_known-1 c = c.args.clause.0 - 1
 
-low : (c : Start) → k c < length (begins_of c.args.arrangement.now)
-low c = omega (arith, c.requires)
+low-after-struct_known-1 : (c : goal.After-struct_known-1) → k-after-struct_known-1 c < length (begins_of c.args.arrangement.now)
+low-after-struct_known-1 c = omega (arith, c.requires)
 
-there : (c : Start) → (k c < max_clauses) × (begins_at + k c < length c.args.arrangement.now)
-there c = begins_there c.args.arrangement.now (k c) (low c)
+there-after-struct_known-1 : (c : goal.After-struct_known-1) → (k-after-struct_known-1 c < max_clauses) × (begins_at + k-after-struct_known-1 c < length c.args.arrangement.now)
+there-after-struct_known-1 c = begins_there c.args.arrangement.now (k-after-struct_known-1 c) (low-after-struct_known-1 c)
 
 pub overflow_add-result : goal.overflow_add-result
-overflow_add-result c = omega (arith, there c.before.before)
+overflow_add-result c = omega (arith, there-after-struct_known-1 c)
 
 pub offset_bounds-arrangement-k : goal.offset_bounds-arrangement-k
-offset_bounds-arrangement-k c = omega (arith, there c.before.before)
+offset_bounds-arrangement-k c = omega (arith, there-after-struct_known-1 c)
+
+-- how many clauses are before it
+abbrev k-after-shared_slice_known-1-unread : goal.After-shared_slice_known-1-unread → ℕ
+k-after-shared_slice_known-1-unread c = c.args.clause.0 - 1
+
+low-after-shared_slice_known-1-unread : (c : goal.After-shared_slice_known-1-unread) → k-after-shared_slice_known-1-unread c < length (begins_of c.args.arrangement.now)
+low-after-shared_slice_known-1-unread c = omega (arith, c.requires)
+
+there-after-shared_slice_known-1-unread : (c : goal.After-shared_slice_known-1-unread) → (k-after-shared_slice_known-1-unread c < max_clauses) × (begins_at + k-after-shared_slice_known-1-unread c < length c.args.arrangement.now)
+there-after-shared_slice_known-1-unread c = begins_there c.args.arrangement.now (k-after-shared_slice_known-1-unread c) (low-after-shared_slice_known-1-unread c)
 
 pub bounds-arrangement-k : goal.bounds-arrangement-k
-bounds-arrangement-k c = (there c.before.before.before).1
+bounds-arrangement-k c = (there-after-shared_slice_known-1-unread c).1
+
+-- how many clauses are before it
+abbrev k-after-shared_slice_known-1 : goal.After-shared_slice_known-1 → ℕ
+k-after-shared_slice_known-1 c = c.args.clause.0 - 1
+
+low-after-shared_slice_known-1 : (c : goal.After-shared_slice_known-1) → k-after-shared_slice_known-1 c < length (begins_of c.args.arrangement.now)
+low-after-shared_slice_known-1 c = omega (arith, c.requires)
 
 pub returns : goal.returns
-returns c = let call = c.before.before.before in sym (begins_read call.args.arrangement.now (k call) (low call))
+returns c = sym (begins_read c.args.arrangement.now (k-after-shared_slice_known-1 c) (low-after-shared_slice_known-1 c))

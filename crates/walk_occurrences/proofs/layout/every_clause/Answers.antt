@@ -8,6 +8,4 @@ use Rattle.walk_occurrences.proofs.layout.every_clause.Goals as goal
 
 pub returns : goal.returns
 returns c =
-    let known = c.before.before in
-    let l = known.args.arrangement.now in
-    numbers_first l (get_or l 1 0) (numbers_at + known.clause_count-end.result) (ap (λ (m : ℕ). numbers_at + m) known.clause_count-end.ensures)
+    numbers_first c.args.arrangement.now (get_or c.args.arrangement.now 1 0) (numbers_at + c.clause_count-end.result) (ap (λ (m : ℕ). numbers_at + m) c.clause_count-end.ensures)

@@ -6,6 +6,4 @@ use Rattle.walk_occurrences.proofs.layout.part_of.Goals as goal
 
 pub returns : goal.returns
 returns c =
-    let args = c.args in
-    let l = args.arrangement.now in
-    numbers_part l (get_or l (args.slot - 1) 0) (get_or l args.slot 0)
+    numbers_part c.args.arrangement.now (get_or c.args.arrangement.now (c.args.slot - 1) 0) (get_or c.args.arrangement.now c.args.slot 0)

@@ -10,78 +10,36 @@ use Rattle.walk_opposed.specs.Opposes.{opposes}
 use Rattle.walk_opposed.specs.OpposesLaws.{spares, read_opposed}
 use borrow.Author.Rules.{rules}
 use Rattle.walk_opposed.proofs.clause.read_opposed.Goals as goal
-use Rattle.walk_opposed.proofs.clause.read_opposed.Lts as lts
-use Rattle.walk_opposed.proofs.clause.read_opposed.Reads as reads
-use Rattle.walk_opposed.proofs.clause.read_opposed.Tie as tie
-
-abbrev After-closes : Type 0
-After-closes = lts.After-closes tie.the-claims reads.Pre reads.Post goal.the-invariant-loop-i goal.the-decreases-loop-i
-
-abbrev After-is_opposing : Type 0
-After-is_opposing = lts.After-is_opposing tie.the-claims reads.Pre reads.Post goal.the-invariant-loop-i goal.the-decreases-loop-i
-
-abbrev At-loop : Type 0
-At-loop = lts.At-loop tie.the-claims reads.Pre reads.Post goal.the-invariant-loop-i goal.the-decreases-loop-i
-
-abbrev Start : Type 0
-Start = lts.Start tie.the-claims reads.Pre reads.Post goal.the-invariant-loop-i goal.the-decreases-loop-i
-
--- Points of the program: the entry; the loop's head; the number there tested for the closing 0; the literal tested.
-abbrev entry : At-loop → Start
-entry c = c.before.before.before
-
-abbrev head : After-closes → At-loop
-head c = c.before.before.before
-
-abbrev told : After-is_opposing → After-closes
-told c = c.before.before.before
 
 -- the callees' answers are about the list's number
-number : (c : After-closes) → c.closes.result ≡ closes (get_or (entry (head c)).args.rules.now (head c).loop-i.i (pos 0))
-number c =
+number-then-closes : (c : goal.Then-closes) → c.closes.result ≡ closes (get_or c.args.rules.now c.loop-i.i (pos 0))
+number-then-closes c =
     c.closes.ensures
-    ∙ ap closes (as_read (get_or (entry (head c)).args.rules.now (head c).loop-i.i (pos 0)) c.closes-arg-1.given)
+    ∙ ap closes (as_read (get_or c.args.rules.now c.loop-i.i (pos 0)) c.closes-arg-1.given)
 
 pub returns-then-closes : goal.returns-then-closes
 returns-then-closes c =
-    let now = c.before.before in
-    let top = head now in
-    let args = (entry top).args in
-    let row = args.row.now in
-    let a = args.assignment.now in
-    let l = args.rules.now in
-    let i = top.loop-i.i in
-    read_opposed row a l args.from i false
-    (passing_closed (spares row a) l args.from i top.loop-i.invariant now.loop-i-test.true (sym (number now) ∙ c.if-closes.true))
+    read_opposed c.args.row.now c.args.assignment.now c.args.rules.now c.args.from c.loop-i.i false
+    (passing_closed (spares c.args.row.now c.args.assignment.now) c.args.rules.now c.args.from c.loop-i.i c.loop-i.invariant c.loop-i-test.true (sym (number-then-closes c) ∙ c.if-closes.true))
 
-tested : (c : After-is_opposing)
-    → c.is_opposing.result ≡ opposes (entry (head (told c))).args.row.now (entry (head (told c))).args.assignment.now (get_or (entry (head (told c))).args.rules.now (head (told c)).loop-i.i (pos 0))
+-- the callees' answers are about the list's number
+number-after-clause_end-end : (c : goal.After-clause_end-end) → c.closes.result ≡ closes (get_or c.args.rules.now c.loop-i.i (pos 0))
+number-after-clause_end-end c =
+    c.closes.ensures
+    ∙ ap closes (as_read (get_or c.args.rules.now c.loop-i.i (pos 0)) c.closes-arg-1.given)
+
+tested : (c : goal.After-clause_end-end)
+    → c.is_opposing.result ≡ opposes c.args.row.now c.args.assignment.now (get_or c.args.rules.now c.loop-i.i (pos 0))
 tested c =
-    let top = head (told c) in
-    let args = (entry top).args in
     c.is_opposing.ensures
-    ∙ ap (opposes args.row.now args.assignment.now) (as_read (get_or args.rules.now top.loop-i.i (pos 0)) c.is_opposing-arg-1.given)
+    ∙ ap (opposes c.args.row.now c.args.assignment.now) (as_read (get_or c.args.rules.now c.loop-i.i (pos 0)) c.is_opposing-arg-1.given)
 
 pub returns-then-not-is_opposing : goal.returns-then-not-is_opposing
 returns-then-not-is_opposing c =
-    let asked = c.before.before.before in
-    let now = told asked in
-    let top = head now in
-    let args = (entry top).args in
-    let row = args.row.now in
-    let a = args.assignment.now in
-    let l = args.rules.now in
-    let end = c.clause_end-end.result in
-    read_opposed row a l args.from end true
-    (passing_found (spares row a) l args.from top.loop-i.i top.loop-i.invariant now.loop-i-test.true (sym (number now) ∙ asked.if-closes.false)
-    (ap not (sym (tested asked)) ∙ c.if-not-is_opposing.true-raw) end c.clause_end-end.ensures)
+    read_opposed c.args.row.now c.args.assignment.now c.args.rules.now c.args.from c.clause_end-end.result true
+    (passing_found (spares c.args.row.now c.args.assignment.now) c.args.rules.now c.args.from c.loop-i.i c.loop-i.invariant c.loop-i-test.true (sym (number-after-clause_end-end c) ∙ c.if-closes.false)
+    (ap not (sym (tested c)) ∙ c.if-not-is_opposing.true-raw) c.clause_end-end.result c.clause_end-end.ensures)
 
 pub returns : goal.returns
 returns c =
-    let top = c.before.before in
-    let args = (entry top).args in
-    let row = args.row.now in
-    let a = args.assignment.now in
-    let l = args.rules.now in
-    let i = top.loop-i.i in
-    read_opposed row a l args.from i false (passing_past (spares row a) l args.from i top.loop-i.invariant c.loop-i-test.false)
+    read_opposed c.args.row.now c.args.assignment.now c.args.rules.now c.args.from c.loop-i.i false (passing_past (spares c.args.row.now c.args.assignment.now) c.args.rules.now c.args.from c.loop-i.i c.loop-i.invariant c.loop-i-test.false)

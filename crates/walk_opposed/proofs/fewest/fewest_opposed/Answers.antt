@@ -7,22 +7,12 @@ use Rattle.walk_opposed.specs.Laws.{none_short_same}
 use Rattle.walk_opposed.specs.Opposed.{KeepsShortest}
 use borrow.Author.Rules.{rules}
 use Rattle.walk_opposed.proofs.fewest.fewest_opposed.Goals as goal
-use Rattle.walk_opposed.proofs.fewest.fewest_opposed.Lts as lts
-use Rattle.walk_opposed.proofs.fewest.fewest_opposed.Reads as reads
-use Rattle.walk_opposed.proofs.fewest.fewest_opposed.Tie as tie
-
-abbrev After-known_told : Type 0
-After-known_told = lts.After-known_told tie.the-claims reads.Pre reads.Post
 
 -- where an opposed clause was found to begin
-first : (c : After-known_told)
+first : (c : goal.In-At)
     → KeepsShortest c.args.row.now c.args.assignment.now c.args.rules.now (At c.in-At.from)
 first c =
-    let args = c.args in
-    subst (KeepsShortest args.row.now args.assignment.now args.rules.now) c.in-At.is c.find_opposed.ensures
+    subst (KeepsShortest c.args.row.now c.args.assignment.now c.args.rules.now) c.in-At.is c.find_opposed.ensures
 
 pub shortest_opposed-shortest-requires : goal.shortest_opposed-shortest-requires
-shortest_opposed-shortest-requires c =
-    let start = c.before.before.before.before.before.before.before in
-    let l = start.args.rules.now in
-    (((first c.before).0, (first c.before).1), none_short_same start.args.row.now start.args.assignment.now (clauses l) (clauses (drop c.in-At.from l)) (first c.before).2 start.requires)
+shortest_opposed-shortest-requires c = record { first_in_bounds = ((first c).0, (first c).1); none_short = none_short_same c.args.row.now c.args.assignment.now (clauses c.args.rules.now) (clauses (drop c.in-At.from c.args.rules.now)) (first c).2 c.requires }

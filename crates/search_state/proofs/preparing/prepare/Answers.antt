@@ -1,0 +1,22 @@
+-- `search_state::preparing::prepare` meets its contract: where the clauses begin, which the arrangement has, are the first witnesses.
+use mathlib.Core.Path.{ap, ◌∙◌}
+use mathlib.Core.List.{List}
+use Prim.Native.Nat.{ℕ}
+use native.Mathlib.Omega.{arith}
+use lib.ListN.{length}
+use Rattle.walk_occurrences.specs.LayoutLaws.{begins-length}
+use Rattle.search_state.specs.ReadyLaws.{prepared}
+use Rattle.search_state.proofs.preparing.prepare.Goals as goal
+
+-- what is left of `arrangement`
+abbrev arrangement : goal.After-copy_numbers-arg-1 → List ℕ
+arrangement c = c.arrange.new.arrangement
+
+pub copy_numbers-requires : goal.copy_numbers-requires
+copy_numbers-requires c =
+    let long = begins-length (arrangement c) (omega (arith, c.arrange.ensures.room)) in
+    omega (arith, c.requires, ap length c.begins_of.ensures, long)
+
+pub returns : goal.returns
+returns c =
+    prepared c.arrange.ensures (c.copy_numbers.ensures ∙ c.begins_of.ensures) c.clause_count.ensures
