@@ -1,4 +1,6 @@
 // What a program writes on standard error where it refuses its files.
+#![tactic(auto)]
+
 mod line;
 mod spot;
 

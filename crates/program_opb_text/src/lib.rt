@@ -1,4 +1,6 @@
 // What the program opb prints: the rules, the wishes and the limit of two files as an OPB file.
+#![tactic(auto)]
+
 ghost use Rattle.std.specs.Prelude.{◌≡◌, ◌≤◌, length};
 ghost use Rattle.opb_format.specs.Sizes.{longest};
 ghost use Rattle.program_report.specs.Report.{fitted};

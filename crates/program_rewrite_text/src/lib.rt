@@ -1,4 +1,6 @@
 // What the rewriting program prints: the rule file of the rewritten rules.
+#![tactic(auto)]
+
 ghost use Rattle.std.specs.Prelude.{◌≡◌, ◌<◌, ◌≤◌, length};
 ghost use Rattle.replies.specs.Written.{reply_of};
 ghost use Rattle.limits.specs.Limits.{max_variables};

@@ -1,4 +1,6 @@
 // Where a state forks (document 01, steps 3 and 4).
+#![tactic(auto)]
+
 mod best;
 mod score;
 

@@ -44,45 +44,15 @@ pub assume_unless_broken-requires : goal.assume_unless_broken-requires
 assume_unless_broken-requires c =
     let w = said-after-assume_unless_broken-arg-in-Settled-2-1 c (Settled c.in-Settled.t) c.in-Settled.is in
     let long = w.3.searching.state.size in record {
-      a_value = ((
-        laws.still_none c.requires.0 c.requires.1 (assumable-after-assume_unless_broken-arg-in-Settled-2-1 c) w,
-        (
-          (
-            rw c.requires.0.wide (laws.among_with c.requires.0 c.requires.1),
-            omega (arith, c.requires.0.few, c.requires.0.room, c.requires.1, length-set c.args.assumed.now c.args.progress.assumed c.args.v.0),
-            c.requires.0.wide ∙ sym long,
-            omega (arith, long, c.requires.0.following.looking.few),
-            laws.bound_small c.requires.0 c.requires.1,
-          ),
-          laws.undoable_later c.requires.0 w.3,
-        ),
-      )).0;
-      among = ((
-        laws.still_none c.requires.0 c.requires.1 (assumable-after-assume_unless_broken-arg-in-Settled-2-1 c) w,
-        (
-          (
-            rw c.requires.0.wide (laws.among_with c.requires.0 c.requires.1),
-            omega (arith, c.requires.0.few, c.requires.0.room, c.requires.1, length-set c.args.assumed.now c.args.progress.assumed c.args.v.0),
-            c.requires.0.wide ∙ sym long,
-            omega (arith, long, c.requires.0.following.looking.few),
-            laws.bound_small c.requires.0 c.requires.1,
-          ),
-          laws.undoable_later c.requires.0 w.3,
-        ),
-      )).1;
-      settled_in_bounds = ((
-        laws.still_none c.requires.0 c.requires.1 (assumable-after-assume_unless_broken-arg-in-Settled-2-1 c) w,
-        (
-          (
-            rw c.requires.0.wide (laws.among_with c.requires.0 c.requires.1),
-            omega (arith, c.requires.0.few, c.requires.0.room, c.requires.1, length-set c.args.assumed.now c.args.progress.assumed c.args.v.0),
-            c.requires.0.wide ∙ sym long,
-            omega (arith, long, c.requires.0.following.looking.few),
-            laws.bound_small c.requires.0 c.requires.1,
-          ),
-          laws.undoable_later c.requires.0 w.3,
-        ),
-      )).2;
+      a_value = laws.still_none c.requires.0 c.requires.1 (assumable-after-assume_unless_broken-arg-in-Settled-2-1 c) w;
+      among = (
+        rw c.requires.0.wide (laws.among_with c.requires.0 c.requires.1),
+        omega (arith, c.requires.0.few, c.requires.0.room, c.requires.1, length-set c.args.assumed.now c.args.progress.assumed c.args.v.0),
+        c.requires.0.wide ∙ sym long,
+        omega (arith, long, c.requires.0.following.looking.few),
+        laws.bound_small c.requires.0 c.requires.1,
+      );
+      settled_in_bounds = laws.undoable_later c.requires.0 w.3;
     }
 
 -- the test
