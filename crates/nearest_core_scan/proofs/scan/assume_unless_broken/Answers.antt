@@ -24,10 +24,10 @@ module _ (c : goal.After-struct_known-1) where
   inside-after-struct_known-1 = omega (arith, known-after-struct_known-1, broken_inside c.args.row.now c.args.taken.now c.args.a.now)
 
   room-after-struct_known-1 : c.args.count + 1 ≤ length (set c.args.assumed.now c.args.count number-after-struct_known-1)
-  room-after-struct_known-1 = omega (arith, c.requires.among.0.1, length-set c.args.assumed.now c.args.count number-after-struct_known-1)
+  room-after-struct_known-1 = omega (arith, c.requires.among.1, length-set c.args.assumed.now c.args.count number-after-struct_known-1)
 
 pub overflow_cast-assumed : goal.overflow_cast-assumed
-overflow_cast-assumed c = record { fits = omega (arith, inside-after-struct_known-1 c, c.requires.among.0.3) }
+overflow_cast-assumed c = record { fits = omega (arith, inside-after-struct_known-1 c, c.requires.among.3) }
 
 -- the number of the lowest broken wish
 abbrev lowest-after-close_at-arg-in-Wish-1 : goal.After-close_at-arg-in-Wish-1 → ℕ
@@ -45,7 +45,7 @@ module _ (c : goal.After-close_at-arg-in-Wish-1) where
   inside-after-close_at-arg-in-Wish-1 = omega (arith, known-after-close_at-arg-in-Wish-1, broken_inside c.args.row.now c.args.taken.now c.args.a.now)
 
   room-after-close_at-arg-in-Wish-1 : c.args.count + 1 ≤ length (set c.args.assumed.now c.args.count number-after-close_at-arg-in-Wish-1)
-  room-after-close_at-arg-in-Wish-1 = omega (arith, c.requires.among.0.1, length-set c.args.assumed.now c.args.count number-after-close_at-arg-in-Wish-1)
+  room-after-close_at-arg-in-Wish-1 = omega (arith, c.requires.among.1, length-set c.args.assumed.now c.args.count number-after-close_at-arg-in-Wish-1)
 
 pub close_at-requires : goal.close_at-requires
-close_at-requires c = record { among = (rw (assumed_more c.args.assumed.now c.args.count (number-after-close_at-arg-in-Wish-1 c) c.requires.among.0.1) (among_more c.requires.among.0.0 (number-after-close_at-arg-in-Wish-1 c) (known-after-close_at-arg-in-Wish-1 c).0 (omega (arith, inside-after-close_at-arg-in-Wish-1 c, c.requires.among.0.2))), c.requires.among.0.4); to_in_bounds = c.requires.among.1 }
+close_at-requires c = record { among = (rw (assumed_more c.args.assumed.now c.args.count (number-after-close_at-arg-in-Wish-1 c) c.requires.among.1) (among_more c.requires.among.0 (number-after-close_at-arg-in-Wish-1 c) (known-after-close_at-arg-in-Wish-1 c).0 (omega (arith, inside-after-close_at-arg-in-Wish-1 c, c.requires.among.2))), c.requires.among.4); to_in_bounds = c.requires.settled_in_bounds }

@@ -19,7 +19,7 @@ after_colon-after-put_number-arg-1 c = reached 1 (after_name-after-put_number-ar
 
 pub put_number-second_colon-requires : goal.put_number-second_colon-requires
 put_number-second_colon-requires c =
-    reached_room (decimal c.args.line) 20 (after_colon-after-put_number-arg-1 c) (digits-most c.args.line c.before.before.before.fits.line.fits) (omega (arith, c.requires))
+    reached_room (decimal c.args.line) 20 (after_colon-after-put_number-arg-1 c) (digits-most c.args.line c.ranges.line.fits) (omega (arith, c.requires))
 
 -- how far the name, the first colon, the line, the second colon and the column reach
 after_name-after-put_byte-arg-2-1 : (c : goal.After-put_byte-arg-2-1) → Reached c.args.out.now c.put_bytes-colon.new.out c.put_bytes-colon.result (length c.args.name.now)
@@ -30,7 +30,7 @@ after_colon-after-put_byte-arg-2-1 c = reached 1 (after_name-after-put_byte-arg-
 
 after_line-after-put_byte-arg-2-1 : (c : goal.After-put_byte-arg-2-1) → Reached c.args.out.now c.put_number-second_colon.new.out c.put_number-second_colon.result (length c.args.name.now + 1 + 20)
 after_line-after-put_byte-arg-2-1 c =
-    reached 20 (after_colon-after-put_byte-arg-2-1 c) c.put_number-second_colon.ensures (digits-most c.args.line c.fits.line.fits)
+    reached 20 (after_colon-after-put_byte-arg-2-1 c) c.put_number-second_colon.ensures (digits-most c.args.line c.ranges.line.fits)
 
 pub put_byte-second-requires : goal.put_byte-second-requires
 put_byte-second-requires c =
@@ -45,14 +45,14 @@ after_colon-after-put_number-arg-2-1 c = reached 1 (after_name-after-put_number-
 
 after_line-after-put_number-arg-2-1 : (c : goal.After-put_number-arg-2-1) → Reached c.args.out.now c.put_number-second_colon.new.out c.put_number-second_colon.result (length c.args.name.now + 1 + 20)
 after_line-after-put_number-arg-2-1 c =
-    reached 20 (after_colon-after-put_number-arg-2-1 c) c.put_number-second_colon.ensures (digits-most c.args.line c.fits.line.fits)
+    reached 20 (after_colon-after-put_number-arg-2-1 c) c.put_number-second_colon.ensures (digits-most c.args.line c.ranges.line.fits)
 
 after_second-after-put_number-arg-2-1 : (c : goal.After-put_number-arg-2-1) → Reached c.args.out.now c.put_byte-second.new.out c.put_byte-second.result (length c.args.name.now + 1 + 20 + 1)
 after_second-after-put_number-arg-2-1 c = reached 1 (after_line-after-put_number-arg-2-1 c) c.put_byte-second.ensures (le_refl 1)
 
 pub put_number-third_colon-requires : goal.put_number-third_colon-requires
 put_number-third_colon-requires c =
-    reached_room (decimal c.args.column) 20 (after_second-after-put_number-arg-2-1 c) (digits-most c.args.column c.before.before.before.fits.column.fits) (omega (arith, c.requires))
+    reached_room (decimal c.args.column) 20 (after_second-after-put_number-arg-2-1 c) (digits-most c.args.column c.ranges.column.fits) (omega (arith, c.requires))
 
 -- how far the name, the first colon, the line, the second colon and the column reach
 after_name-after-put_bytes-arg-4-1 : (c : goal.After-put_bytes-arg-4-1) → Reached c.args.out.now c.put_bytes-colon.new.out c.put_bytes-colon.result (length c.args.name.now)
@@ -63,14 +63,14 @@ after_colon-after-put_bytes-arg-4-1 c = reached 1 (after_name-after-put_bytes-ar
 
 after_line-after-put_bytes-arg-4-1 : (c : goal.After-put_bytes-arg-4-1) → Reached c.args.out.now c.put_number-second_colon.new.out c.put_number-second_colon.result (length c.args.name.now + 1 + 20)
 after_line-after-put_bytes-arg-4-1 c =
-    reached 20 (after_colon-after-put_bytes-arg-4-1 c) c.put_number-second_colon.ensures (digits-most c.args.line c.fits.line.fits)
+    reached 20 (after_colon-after-put_bytes-arg-4-1 c) c.put_number-second_colon.ensures (digits-most c.args.line c.ranges.line.fits)
 
 after_second-after-put_bytes-arg-4-1 : (c : goal.After-put_bytes-arg-4-1) → Reached c.args.out.now c.put_byte-second.new.out c.put_byte-second.result (length c.args.name.now + 1 + 20 + 1)
 after_second-after-put_bytes-arg-4-1 c = reached 1 (after_line-after-put_bytes-arg-4-1 c) c.put_byte-second.ensures (le_refl 1)
 
 after-column-after-put_bytes-arg-4-1 : (c : goal.After-put_bytes-arg-4-1) → Reached c.args.out.now c.put_number-third_colon.new.out c.put_number-third_colon.result (length c.args.name.now + 1 + 20 + 1 + 20)
 after-column-after-put_bytes-arg-4-1 c =
-    reached 20 (after_second-after-put_bytes-arg-4-1 c) c.put_number-third_colon.ensures (digits-most c.args.column c.fits.column.fits)
+    reached 20 (after_second-after-put_bytes-arg-4-1 c) c.put_number-third_colon.ensures (digits-most c.args.column c.ranges.column.fits)
 
 pub put_bytes-requires : goal.put_bytes-requires
 put_bytes-requires c =
@@ -85,14 +85,14 @@ after_colon-after-slice_known-7-1 c = reached 1 (after_name-after-slice_known-7-
 
 after_line-after-slice_known-7-1 : (c : goal.After-slice_known-7-1) → Reached c.args.out.now c.put_number-second_colon.new.out c.put_number-second_colon.result (length c.args.name.now + 1 + 20)
 after_line-after-slice_known-7-1 c =
-    reached 20 (after_colon-after-slice_known-7-1 c) c.put_number-second_colon.ensures (digits-most c.args.line c.fits.line.fits)
+    reached 20 (after_colon-after-slice_known-7-1 c) c.put_number-second_colon.ensures (digits-most c.args.line c.ranges.line.fits)
 
 after_second-after-slice_known-7-1 : (c : goal.After-slice_known-7-1) → Reached c.args.out.now c.put_byte-second.new.out c.put_byte-second.result (length c.args.name.now + 1 + 20 + 1)
 after_second-after-slice_known-7-1 c = reached 1 (after_line-after-slice_known-7-1 c) c.put_byte-second.ensures (le_refl 1)
 
 after-column-after-slice_known-7-1 : (c : goal.After-slice_known-7-1) → Reached c.args.out.now c.put_number-third_colon.new.out c.put_number-third_colon.result (length c.args.name.now + 1 + 20 + 1 + 20)
 after-column-after-slice_known-7-1 c =
-    reached 20 (after_second-after-slice_known-7-1 c) c.put_number-third_colon.ensures (digits-most c.args.column c.fits.column.fits)
+    reached 20 (after_second-after-slice_known-7-1 c) c.put_number-third_colon.ensures (digits-most c.args.column c.ranges.column.fits)
 
 pub returns : goal.returns
 returns c = record {
