@@ -4,25 +4,41 @@ use crate::{search_case, show};
 use c_answers::Answer;
 use case_text::{held, words};
 
-pub fn answer(call: usize, n: usize, rules: &[i32], row: &[u8], d: usize, out: &mut [u8]) {
+pub fn answer(
+    to: &impl Print,
+    call: usize,
+    n: usize,
+    rules: &[i32],
+    row: &[u8],
+    d: usize,
+    out: &mut [u8],
+) {
     match call {
         SEARCH | PLAIN | NEAREST => {
-            search_case::answer(call, n, rules, row, d, out);
+            search_case::answer(to, call, n, rules, row, d, out);
         }
         _ => {
-            file(call, n, rules, row, d, out);
+            file(to, call, n, rules, row, d, out);
         }
     }
 }
 
-fn file(call: usize, n: usize, rules: &[i32], row: &[u8], d: usize, out: &mut [u8]) {
+fn file(
+    to: &impl Print,
+    call: usize,
+    n: usize,
+    rules: &[i32],
+    row: &[u8],
+    d: usize,
+    out: &mut [u8],
+) {
     let answer = called(call, n, rules, row, d, out);
     if call == READ_WISHES {
-        show::read(answer);
+        show::read(to, answer);
     } else {
-        show::one(answer, words::WRITTEN);
+        show::one(to, answer, words::WRITTEN);
     }
-    held::bytes(out);
+    held::bytes(to, out);
 }
 
 fn called(call: usize, n: usize, rules: &[i32], row: &[u8], d: usize, out: &mut [u8]) -> Answer {

@@ -4,26 +4,26 @@ use admission_steps::Admission;
 use case_text::{report, words};
 use search_state::Tried;
 
-pub fn answer(n: usize, rules: &[i32], row: &[u8], d: usize) {
+pub fn answer(to: &impl Print, n: usize, rules: &[i32], row: &[u8], d: usize) {
     let mut choice = case_text::bytes();
-    walk(n, rules, row, d, &mut choice);
+    walk(to, n, rules, row, d, &mut choice);
 }
 
-fn walk(n: usize, rules: &[i32], row: &[u8], d: usize, choice: &mut [u8]) {
+fn walk(to: &impl Print, n: usize, rules: &[i32], row: &[u8], d: usize, choice: &mut [u8]) {
     let admitted = admission::admit_wishes(n, rules, row, d);
     match admission_steps::with_room(admitted, n, choice.len()) {
-        Admission::Refused(r) => report::refused(r.number as u64, r.place as u64),
-        Admission::Admitted(_) => show(walk_root::walk_into(n, rules, row, d, choice)),
+        Admission::Refused(r) => report::refused(to, r.number as u64, r.place as u64),
+        Admission::Admitted(_) => show(to, walk_root::walk_into(n, rules, row, d, choice)),
     }
 }
 
-fn show(tried: Tried) {
+fn show(to: &impl Print, tried: Tried) {
     match tried {
         Tried::Found(_, forks) => {
-            report::value_line(words::FOUND_FORKS, forks as u64);
+            report::value_line(to, words::FOUND_FORKS, forks as u64);
         }
         Tried::Nothing(forks) => {
-            report::value_line(words::NONE_FORKS, forks as u64);
+            report::value_line(to, words::NONE_FORKS, forks as u64);
         }
     }
 }

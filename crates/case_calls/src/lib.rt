@@ -1,5 +1,7 @@
 // The calls on the values of a case, with what they answer written. Numbers name the calls. A call is in
 // the module of what it writes.
+#![tactic(auto)]
+
 pub mod bytes_case;
 pub mod call;
 mod forks_case;

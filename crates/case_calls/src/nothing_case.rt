@@ -2,10 +2,21 @@
 use crate::call::CHECK;
 use crate::{forks_case, show};
 
-pub fn answer(call: usize, n: usize, rules: &[i32], row: &[u8], d: usize, choice: &[u8]) {
+pub fn answer(
+    to: &impl Print,
+    call: usize,
+    n: usize,
+    rules: &[i32],
+    row: &[u8],
+    d: usize,
+    choice: &[u8],
+) {
     if call == CHECK {
-        show::checked(c_search_answers::of_checked(checking::check(n, rules, row, choice)));
+        show::checked(
+            to,
+            c_search_answers::of_checked(checking::check(n, rules, row, choice)),
+        );
     } else {
-        forks_case::answer(n, rules, row, d);
+        forks_case::answer(to, n, rules, row, d);
     }
 }

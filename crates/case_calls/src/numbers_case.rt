@@ -4,14 +4,22 @@ use crate::show;
 use c_answers::Answer;
 use case_text::held;
 
-pub fn answer(call: usize, n: usize, rules: &[i32], row: &[u8], d: usize, out: &mut [i32]) {
+pub fn answer(
+    to: &impl Print,
+    call: usize,
+    n: usize,
+    rules: &[i32],
+    row: &[u8],
+    d: usize,
+    out: &mut [i32],
+) {
     let answer = called(call, n, rules, row, d, out);
     if call == READ_RULES {
-        show::read(answer);
+        show::read(to, answer);
     } else {
-        show::rewritten(answer);
+        show::rewritten(to, answer);
     }
-    held::numbers(out);
+    held::numbers(to, out);
 }
 
 fn called(call: usize, n: usize, rules: &[i32], row: &[u8], d: usize, out: &mut [i32]) -> Answer {

@@ -7,27 +7,44 @@ use c_answers::Answer;
 use case_text::{held, report, words};
 use refusal::Verdict;
 
-pub fn answer(call: usize, n: usize, rules: &[i32], row: &[u8], d: usize, choice: &mut [u8]) {
+pub fn answer(
+    to: &impl Print,
+    call: usize,
+    n: usize,
+    rules: &[i32],
+    row: &[u8],
+    d: usize,
+    choice: &mut [u8],
+) {
     let answer = called(call, n, rules, row, d, choice);
     if answer.verdict == 0 {
-        show::unfound(answer);
-        held::bytes(choice);
+        show::unfound(to, answer);
+        held::bytes(to, choice);
         return;
     }
-    found(call, n, rules, row, d, answer.value[0], choice);
+    found(to, call, n, rules, row, d, answer.value[0], choice);
 }
 
 // What holds of a choice that was found, and what the buffer holds.
-fn found(call: usize, n: usize, rules: &[i32], row: &[u8], d: usize, broken: u64, choice: &[u8]) {
+fn found(
+    to: &impl Print,
+    call: usize,
+    n: usize,
+    rules: &[i32],
+    row: &[u8],
+    d: usize,
+    broken: u64,
+    choice: &[u8],
+) {
     if choice.len() < n {
-        report::line(words::NO_ROOM);
+        report::line(to, words::NO_ROOM);
         return;
     }
-    judge(call, n, rules, row, d, broken, &choice[0..n]);
+    judge(to, call, n, rules, row, d, broken, &choice[0..n]);
     if call == NEAREST {
-        held::bytes(choice);
+        held::bytes(to, choice);
     } else {
-        held::bytes(&choice[n..]);
+        held::bytes(to, &choice[n..]);
     }
 }
 
@@ -39,46 +56,55 @@ fn called(call: usize, n: usize, rules: &[i32], row: &[u8], d: usize, choice: &m
     }
 }
 
-fn judge(call: usize, n: usize, rules: &[i32], row: &[u8], d: usize, broken: u64, choice: &[u8]) {
+fn judge(
+    to: &impl Print,
+    call: usize,
+    n: usize,
+    rules: &[i32],
+    row: &[u8],
+    d: usize,
+    broken: u64,
+    choice: &[u8],
+) {
     if call == PLAIN {
-        report::value_line(words::FOUND, broken);
-        plain(rules, choice);
+        report::value_line(to, words::FOUND, broken);
+        plain(to, rules, choice);
         return;
     }
     let checked = c_search_answers::of_checked(checking::check(n, rules, row, choice));
     if call == SEARCH {
-        limited(checked, d, broken);
+        limited(to, checked, d, broken);
     } else {
-        report::value_line(words::FOUND, broken);
-        show::checked(checked);
+        report::value_line(to, words::FOUND, broken);
+        show::checked(to, checked);
     }
 }
 
 // Whether a choice keeps to the limit, and breaks as many wishes as the search said.
-fn limited(checked: Answer, d: usize, broken: u64) {
+fn limited(to: &impl Print, checked: Answer, d: usize, broken: u64) {
     let count = checked.value[0];
     if 0 < checked.refusal {
-        report::refused(checked.refusal, checked.place);
+        report::refused(to, checked.refusal, checked.place);
     } else if checked.verdict == 0 {
-        report::value_line(words::FOUND_UNMET, count);
+        report::value_line(to, words::FOUND_UNMET, count);
     } else if count != broken {
-        report::value_line(words::FOUND_MISCOUNTED, count);
+        report::value_line(to, words::FOUND_MISCOUNTED, count);
     } else if (d as u64) < count {
-        report::value_line(words::FOUND_PAST_LIMIT, count);
+        report::value_line(to, words::FOUND_PAST_LIMIT, count);
     } else {
-        report::line(words::FOUND_WITHIN);
+        report::line(to, words::FOUND_WITHIN);
     }
 }
 
 // The checking call takes no rules of plain search's largest sizes, so a choice is looked at by the two
 // parts of that call that do.
-fn plain(rules: &[i32], choice: &[u8]) {
+fn plain(to: &impl Print, rules: &[i32], choice: &[u8]) {
     if let Verdict::Refuse(r) = refusal_causes::scan_choice(choice) {
-        report::refused(r.number as u64, r.place as u64);
+        report::refused(to, r.number as u64, r.place as u64);
     }
     if formula::is_model(rules, choice) {
-        report::line(words::MET_WORD);
+        report::line(to, words::MET_WORD);
     } else {
-        report::line(words::UNMET_WORD);
+        report::line(to, words::UNMET_WORD);
     }
 }

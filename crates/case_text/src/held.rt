@@ -5,72 +5,64 @@ use crate::{report, words};
 // The longest buffer that is written whole.
 const SHORT: usize = 64;
 
-pub fn numbers(list: &[i32]) {
-    words::write(words::HOLDS);
+pub fn numbers(to: &impl Print, list: &[i32]) {
+    words::write(to, words::HOLDS);
     if list.len() <= SHORT {
-        each_number(list);
-        crate::line_feed();
+        each_number(to, list);
+        crate::line_feed(to);
     } else {
-        summed(list.len(), sum_of_numbers(list));
+        summed(to, list.len(), sum_of_numbers(list));
     }
 }
 
-pub fn bytes(list: &[u8]) {
-    words::write(words::HOLDS);
+pub fn bytes(to: &impl Print, list: &[u8]) {
+    words::write(to, words::HOLDS);
     if list.len() <= SHORT {
-        each_byte(list);
-        crate::line_feed();
+        each_byte(to, list);
+        crate::line_feed(to);
     } else {
-        summed(list.len(), sum_of_bytes(list));
+        summed(to, list.len(), sum_of_bytes(list));
     }
 }
 
-fn summed(length: usize, sum: usize) {
-    report::value(words::BLANK, length as u64);
-    report::value_line(words::SUM, sum as u64);
+fn summed(to: &impl Print, length: usize, sum: usize) {
+    report::value(to, words::BLANK, length as u64);
+    report::value_line(to, words::SUM, sum as u64);
 }
 
-fn each_number(list: &[i32]) {
-    let mut i = 0;
-    while i < list.len() {
-        element(list[i]);
-        i += 1;
+fn each_number(to: &impl Print, list: &[i32]) {
+    for x in list {
+        element(to, *x);
     }
 }
 
-fn element(x: i32) {
+fn element(to: &impl Print, x: i32) {
     let magnitude = literal::variable_of(x).0 as u64;
     if literal::wanted_by(x) == 0 {
-        report::value(words::MINUS, magnitude);
+        report::value(to, words::MINUS, magnitude);
     } else {
-        report::value(words::BLANK, magnitude);
+        report::value(to, words::BLANK, magnitude);
     }
 }
 
-fn each_byte(list: &[u8]) {
-    let mut i = 0;
-    while i < list.len() {
-        report::value(words::BLANK, natural(list[i]) as u64);
-        i += 1;
+fn each_byte(to: &impl Print, list: &[u8]) {
+    for byte in list {
+        report::value(to, words::BLANK, natural(*byte) as u64);
     }
 }
 
 fn sum_of_numbers(list: &[i32]) -> usize {
     let mut sum: usize = 0;
-    let mut i = 0;
-    while i < list.len() {
-        sum = joined(sum, signed(list[i]));
-        i += 1;
+    for x in list {
+        sum = joined(sum, signed(*x));
     }
     sum
 }
 
 pub fn sum_of_bytes(list: &[u8]) -> usize {
     let mut sum: usize = 0;
-    let mut i = 0;
-    while i < list.len() {
-        sum = joined(sum, natural(list[i]));
-        i += 1;
+    for byte in list {
+        sum = joined(sum, natural(*byte));
     }
     sum
 }

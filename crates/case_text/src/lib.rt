@@ -8,6 +8,7 @@
 
 mod arrays;
 pub mod held;
+mod input;
 mod list;
 mod output;
 pub mod report;
@@ -16,9 +17,10 @@ pub mod words;
 ghost use Rattle.std.specs.Prelude.{◌≤◌, length};
 
 pub use arrays::{bytes, file, numbers};
+pub use input::read_full;
 pub use list::{Filled, read_bytes_if, read_numbers_if};
 use literal::Variable;
-pub use output::{line_feed, write_line};
+pub use output::{line_feed, write, write_line, write_number};
 
 const LINE_FEED: u8 = 10;
 

@@ -47,8 +47,9 @@ pub const BAD_CASE: usize = 22;
 
 pub const TOO_LONG: usize = 23;
 
-pub fn write(number: usize) {
+pub fn write(to: &impl Print, number: usize) {
     crate::write_line(
+        to,
         b"refused \n at \nmet \nunmet \nmet\nunmet\nread\nwritten \n rewritten to \nnone\nfound \nfound, unmet \nfound, miscounted \nfound, past the limit \nfound within the limit\nfound without room\nfound after forks: \nnone after forks: \nholds\n elements of sum \n \n -\nbad case\nthe input is too long\n",
         number,
     );

@@ -3,32 +3,41 @@ use case_calls::call::{BYTES, CALLS, Form, NUMBERS};
 use case_calls::{bytes_case, call, nothing_case, numbers_case};
 use case_text::report;
 
-pub fn run(line: &[u8], call: usize) {
+pub fn run(to: &impl Print, line: &[u8], call: usize) {
     if CALLS <= call {
-        report::malformed();
+        report::malformed(to);
         return;
     }
     let has = call::form_of(call);
     let n = case_text::read_number_if(has.n, line, case_text::word_end(line));
-    with_n(line, call, has, n.value, n.next);
+    with_n(to, line, call, has, n.value, n.next);
 }
 
-fn with_n(line: &[u8], call: usize, has: Form, n: usize, at: usize) {
+fn with_n(to: &impl Print, line: &[u8], call: usize, has: Form, n: usize, at: usize) {
     let mut rules = case_text::numbers();
     let filled = case_text::read_numbers_if(has.rules, line, at, &mut rules);
     let end = filled.end;
-    with_rules(line, call, has, n, &rules[..end], filled.next);
+    with_rules(to, line, call, has, n, &rules[..end], filled.next);
 }
 
-fn with_rules(line: &[u8], call: usize, has: Form, n: usize, rules: &[i32], at: usize) {
+fn with_rules(
+    to: &impl Print,
+    line: &[u8],
+    call: usize,
+    has: Form,
+    n: usize,
+    rules: &[i32],
+    at: usize,
+) {
     let mut row = case_text::file();
     let filled = case_text::read_bytes_if(has.row, line, at, &mut row);
     let end = filled.end;
     let d = case_text::read_number_if(has.d, line, filled.next);
-    with_row(line, call, has, n, rules, &row[..end], d.value, d.next);
+    with_row(to, line, call, has, n, rules, &row[..end], d.value, d.next);
 }
 
 fn with_row(
+    to: &impl Print,
     line: &[u8],
     call: usize,
     has: Form,
@@ -39,13 +48,14 @@ fn with_row(
     at: usize,
 ) {
     if call::longest_row(call) < row.len() {
-        report::malformed();
+        report::malformed(to);
         return;
     }
     let mut choice = case_text::bytes();
     let filled = case_text::read_bytes_if(has.choice, line, at, &mut choice);
     let end = filled.end;
     with_choice(
+        to,
         line,
         call,
         has.buffer,
@@ -60,6 +70,7 @@ fn with_row(
 
 // The buffer comes last, if there is one.
 fn with_choice(
+    to: &impl Print,
     line: &[u8],
     call: usize,
     buffer: usize,
@@ -72,22 +83,23 @@ fn with_choice(
 ) {
     match buffer {
         NUMBERS => {
-            with_numbers(line, call, n, rules, row, d, at);
+            with_numbers(to, line, call, n, rules, row, d, at);
         }
         BYTES => {
-            with_bytes(line, call, n, rules, row, d, at);
+            with_bytes(to, line, call, n, rules, row, d, at);
         }
         _ => {
             if at == line.len() {
-                nothing_case::answer(call, n, rules, row, d, choice);
+                nothing_case::answer(to, call, n, rules, row, d, choice);
             } else {
-                report::malformed();
+                report::malformed(to);
             }
         }
     }
 }
 
 fn with_numbers(
+    to: &impl Print,
     line: &[u8],
     call: usize,
     n: usize,
@@ -99,20 +111,29 @@ fn with_numbers(
     let mut numbers = case_text::numbers();
     let filled = case_text::read_numbers_if(true, line, at, &mut numbers);
     if filled.next != line.len() {
-        report::malformed();
+        report::malformed(to);
         return;
     }
     let end = filled.end;
-    numbers_case::answer(call, n, rules, row, d, &mut numbers[..end]);
+    numbers_case::answer(to, call, n, rules, row, d, &mut numbers[..end]);
 }
 
-fn with_bytes(line: &[u8], call: usize, n: usize, rules: &[i32], row: &[u8], d: usize, at: usize) {
+fn with_bytes(
+    to: &impl Print,
+    line: &[u8],
+    call: usize,
+    n: usize,
+    rules: &[i32],
+    row: &[u8],
+    d: usize,
+    at: usize,
+) {
     let mut bytes = case_text::file();
     let filled = case_text::read_bytes_if(true, line, at, &mut bytes);
     if filled.next != line.len() {
-        report::malformed();
+        report::malformed(to);
         return;
     }
     let end = filled.end;
-    bytes_case::answer(call, n, rules, row, d, &mut bytes[..end]);
+    bytes_case::answer(to, call, n, rules, row, d, &mut bytes[..end]);
 }

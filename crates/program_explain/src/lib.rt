@@ -3,11 +3,10 @@
 
 ghost use Rattle.std.specs.Prelude.{◌≡◌, ◌≤◌, length};
 
-use libc::STDERR_FILENO;
-
 // Writes the line of two files, each with its name, if a program refuses them; its call may ask that every
 // rule has entries. No path that a file is opened by is longer than 4,096 bytes.
 pub fn explain_refusal(
+    err: &impl Print,
     rules_path: &[u8],
     wish_path: &[u8],
     rules: &[u8],
@@ -25,7 +24,7 @@ pub fn explain_refusal(
         asks_entries,
         &mut line,
     );
-    io::write_all(STDERR_FILENO, &line[..n]);
+    let _ = err.write_all(&line[..n]);
 }
 
 // Space for a path of 4,096 bytes and `most` (program_diagnostics/specs/Diagnostic.antt) behind it.

@@ -1,11 +1,14 @@
 -- How much of the lent bytes the files filled.
-use Rattle.std.specs.Prelude.{◌≡◌, List, ℕ}
+use Rattle.std.specs.Prelude.{◌≡◌, List, ℕ, ◌≤◌, length, take}
 use Rattle.std.proofs.Common.{subst}
-use Rattle.io.specs.Counts.{IsPrefixLen}
 use Rattle.program_input.specs.declared.FileRead.{FileRead}
 use Rattle.program_input.specs.declared.FileRead.TheVariants.{Failed, Bytes}
 use Rattle.program_input.specs.declared.FilesRead as both
 use Rattle.program_input.specs.declared.FilesRead.{FilesRead}
+
+-- the first n bytes can be lent; the second part follows from the first, and is what lending them asks for
+abbrev pub IsPrefixLen : ℕ → List ℕ → Type 0
+IsPrefixLen n xs = (n ≤ length xs) × (n ≡ length (take n xs))
 
 -- the bytes read are at the front, so that this part can be lent
 abbrev pub Filled : FileRead → List ℕ → Type 0

@@ -5,6 +5,10 @@
 ghost use Rattle.std.specs.Prelude.{◌≡◌, ◌<◌, length};
 ghost use Rattle.program_input.specs.Filled.{Filled, BothFilled};
 
+use std::io::{ErrorKind, Read};
+use std::rt::Files;
+use std::{fs, io, str};
+
 // How many bytes were read, unless the file could not be read.
 #[derive(Clone, Copy)]
 enum FileRead {
@@ -28,6 +32,8 @@ pub fn space() -> [u8; 65537]
 
 // Reads a rule file and then a wish file, each to its end.
 pub fn read_files(
+    files: &impl Files,
+    err: &impl Print,
     rules_path: &[u8],
     wish_path: &[u8],
     rules: &mut [u8],
@@ -36,10 +42,10 @@ pub fn read_files(
     requires { (65536 < length rules.old) × (65536 < length wishes.old) }
     ensures { BothFilled result rules.new wishes.new }
 {
-    let FileRead::Bytes(k) = read_file(rules_path, rules) else {
+    let FileRead::Bytes(k) = read_file(files, err, rules_path, rules) else {
         return FilesRead::Failed;
     };
-    let FileRead::Bytes(w) = read_file(wish_path, wishes) else {
+    let FileRead::Bytes(w) = read_file(files, err, wish_path, wishes) else {
         return FilesRead::Failed;
     };
     FilesRead::Bytes(k, w)
@@ -48,35 +54,44 @@ pub fn read_files(
 // Reads a file to its end, or as far as there is room: for one byte more than the 65,536 that document
 // 01 allows a program's file, so that a longer file shows. Where that fails, a line on standard error
 // has the file's name and why.
-fn read_file(path: &[u8], buf: &mut [u8]) -> FileRead
+fn read_file(files: &impl Files, err: &impl Print, path: &[u8], buf: &mut [u8]) -> FileRead
     requires { 65536 < length buf.old }
     ensures { Filled result buf.new }
 {
-    let file = os::open_read(path);
-    if file < 0 {
-        os::fail(path);
-        return FileRead::Failed;
+    match open(files, path) {
+        Ok(mut file) => read_to_end(&mut file, err, path, buf),
+        Err(error) => {
+            program_failure::say_failure(err, path, &error);
+            FileRead::Failed
+        }
     }
-    let read = read_to_end(file, path, buf);
-    libc::close(file);
-    read
 }
 
-fn read_to_end(file: i32, path: &[u8], buf: &mut [u8]) -> FileRead
+// std opens only what is named by text.
+fn open<R: Files>(files: &R, path: &[u8]) -> io::Result<R::File> {
+    match str::from_utf8(path) {
+        Ok(text) => fs::open(files, text),
+        Err(_) => Err(io::Error::new(ErrorKind::InvalidInput, "file name is not UTF-8")),
+    }
+}
+
+fn read_to_end(file: &mut impl Read, err: &impl Print, path: &[u8], buf: &mut [u8]) -> FileRead
     ensures { Filled result buf.new }
 {
     let mut at = 0;
     while at < buf.len() {
-        let got = libc::read(file, &mut buf[at..]);
-        if got < 0 {
-            os::fail(path);
-            return FileRead::Failed;
+        match file.read(&mut buf[at..]) {
+            Ok(0) => {
+                return FileRead::Bytes(at);
+            }
+            Ok(more) => {
+                at += more;
+            }
+            Err(error) => {
+                program_failure::say_failure(err, path, &error);
+                return FileRead::Failed;
+            }
         }
-        let more = io::count(got, &buf[at..]);
-        if more == 0 {
-            return FileRead::Bytes(at);
-        }
-        at += more;
     }
     FileRead::Bytes(at)
 }

@@ -6,31 +6,38 @@
 ghost use Rattle.std.specs.Prelude.{◌≡◌, ◌≤◌, length};
 ghost use Rattle.program_rewrite_text.specs.Printed.{longest};
 
-use libc::STDOUT_FILENO;
 use program_input::FilesRead;
 use program_options::Asked;
 
-fn main() {
-    match program_options::first_asked() {
+fn main(rt: HostRuntime) {
+    let out = rt.stdout();
+    let err = rt.stderr();
+    match program_options::first_asked(&rt) {
         Asked::Help => program_options::print_help(
+            &out,
+            &err,
             b"usage: rewrite\n\nPrints a rule file of plain rules: a choice can be completed to meet them exactly when it\nmeets the given rules and breaks no more wishes than the limit of the wish file.\n\nThe files are rules.cnf and wish.txt of the current folder, of at most 65536 bytes each.\n",
         ),
-        Asked::Version => program_options::print_version(b"rewrite"),
+        Asked::Version => program_options::print_version(&out, &err, b"rewrite"),
         Asked::Nothing => {
             program_options::warn_of_arguments(
+                &rt,
+                &err,
                 b"rewrite: it takes no file names, and reads rules.cnf and wish.txt of the current folder\n",
             );
-            run(b"rules.cnf", b"wish.txt");
+            run(&rt, b"rules.cnf", b"wish.txt");
         }
     }
 }
 
-fn run(rules_path: &[u8], wish_path: &[u8])
+fn run(rt: &HostRuntime, rules_path: &[u8], wish_path: &[u8])
     requires { (length rules_path.now ≤ 4096) × (length wish_path.now ≤ 4096) }
 {
     let mut rules = program_input::space();
     let mut wishes = program_input::space();
     let FilesRead::Bytes(k, w) = program_input::read_files(
+        rt,
+        &rt.stderr(),
         rules_path,
         wish_path,
         &mut rules,
@@ -38,23 +45,21 @@ fn run(rules_path: &[u8], wish_path: &[u8])
     ) else {
         return;
     };
-    tell(rules_path, wish_path, &rules[..k], &wishes[..w]);
+    tell(rt, rules_path, wish_path, &rules[..k], &wishes[..w]);
 }
 
 // Prints the answer, and says why if it is a refusal.
-fn tell(rules_path: &[u8], wish_path: &[u8], rules: &[u8], wishes: &[u8])
+fn tell(rt: &HostRuntime, rules_path: &[u8], wish_path: &[u8], rules: &[u8], wishes: &[u8])
     requires { (length rules_path.now ≤ 4096) × (length wish_path.now ≤ 4096) }
 {
-    show(rules, wishes);
-    program_explain::explain_refusal(rules_path, wish_path, rules, wishes, false);
+    show(rt, rules, wishes);
+    program_explain::explain_refusal(&rt.stderr(), rules_path, wish_path, rules, wishes, false);
 }
 
-fn show(rules: &[u8], wishes: &[u8]) {
+fn show(rt: &HostRuntime, rules: &[u8], wishes: &[u8]) {
     let mut out = text();
     let n = program_rewrite_text::print_rewritten(rules, wishes, &mut out);
-    if !io::write_all(STDOUT_FILENO, &out[..n]) {
-        os::fail(b"standard output");
-    }
+    program_failure::say_unless_printed(&rt.stderr(), rt.write_all(&out[..n]));
 }
 
 // Space for the longest text.

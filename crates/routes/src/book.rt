@@ -3,22 +3,30 @@ use crate::{report, single, survey, words};
 use rule_file_reader::ReadRules;
 use wish_file_reader::ReadWishes;
 
-pub fn run(rule_file: &[u8], wish_file: &[u8], limits: usize) {
+pub fn run(to: &impl Print, rule_file: &[u8], wish_file: &[u8], limits: usize) {
     let mut rules = case_text::numbers();
     let mut row = case_text::bytes();
-    read(rule_file, wish_file, limits, &mut rules, &mut row);
-    case_text::line_feed();
+    read(to, rule_file, wish_file, limits, &mut rules, &mut row);
+    case_text::line_feed(to);
 }
 
-fn read(rule_file: &[u8], wish_file: &[u8], limits: usize, rules: &mut [i32], row: &mut [u8]) {
+fn read(
+    to: &impl Print,
+    rule_file: &[u8],
+    wish_file: &[u8],
+    limits: usize,
+    rules: &mut [i32],
+    row: &mut [u8],
+) {
     match rule_file_reader::read_rules(rule_file, rules) {
         ReadRules::Refused(r) => {
-            report::refused(r.number, r.place);
+            report::refused(to, r.number, r.place);
         }
         ReadRules::Read(counts) => {
-            report::value(words::SETTINGS, counts.variables);
-            report::value(words::RULES, counts.clauses);
+            report::value(to, words::SETTINGS, counts.variables);
+            report::value(to, words::RULES, counts.clauses);
             ruled(
+                to,
                 counts.variables,
                 rules,
                 counts.length,
@@ -30,19 +38,28 @@ fn read(rule_file: &[u8], wish_file: &[u8], limits: usize, rules: &mut [i32], ro
     }
 }
 
-fn ruled(n: usize, rules: &[i32], end: usize, wish_file: &[u8], limits: usize, row: &mut [u8]) {
+fn ruled(
+    to: &impl Print,
+    n: usize,
+    rules: &[i32],
+    end: usize,
+    wish_file: &[u8],
+    limits: usize,
+    row: &mut [u8],
+) {
     if rules.len() < end {
-        words::write(words::NO_ROOM);
+        words::write(to, words::NO_ROOM);
         return;
     }
     match wish_file_reader::read_wishes(wish_file, row) {
         ReadWishes::Refused(r) => {
-            report::refused(r.number, r.place);
+            report::refused(to, r.number, r.place);
         }
         ReadWishes::Read(header) => {
-            report::value(words::WISHES, header.wishes);
-            report::value(words::LIMIT, header.limit);
+            report::value(to, words::WISHES, header.wishes);
+            report::value(to, words::LIMIT, header.limit);
             wished(
+                to,
                 n,
                 &rules[0..end],
                 row,
@@ -54,17 +71,25 @@ fn ruled(n: usize, rules: &[i32], end: usize, wish_file: &[u8], limits: usize, r
     }
 }
 
-fn wished(n: usize, rules: &[i32], row: &[u8], end: usize, limit: usize, limits: usize) {
+fn wished(
+    to: &impl Print,
+    n: usize,
+    rules: &[i32],
+    row: &[u8],
+    end: usize,
+    limit: usize,
+    limits: usize,
+) {
     if row.len() < end {
-        words::write(words::NO_ROOM);
+        words::write(to, words::NO_ROOM);
         return;
     }
-    searched(n, rules, &row[0..end], limit, limits);
+    searched(to, n, rules, &row[0..end], limit, limits);
 }
 
-fn searched(n: usize, rules: &[i32], row: &[u8], limit: usize, limits: usize) {
-    single::nearest(n, rules, row);
-    single::wished(n, rules, row, limit);
-    single::plain(n, rules, row);
-    survey::every(n, rules, row, limits);
+fn searched(to: &impl Print, n: usize, rules: &[i32], row: &[u8], limit: usize, limits: usize) {
+    single::nearest(to, n, rules, row);
+    single::wished(to, n, rules, row, limit);
+    single::plain(to, n, rules, row);
+    survey::every(to, n, rules, row, limits);
 }

@@ -4,7 +4,6 @@
 ghost use Rattle.std.specs.Prelude.{◌≤◌, length};
 
 use crate::{book, words};
-use libc::STDOUT_FILENO;
 
 // What the first line of a book says. The name is the rest of the line from a place.
 #[derive(Clone, Copy)]
@@ -15,34 +14,39 @@ struct Heading {
     name: usize,
 }
 
-pub fn run(input: &[u8]) {
+pub fn run(to: &impl Print, input: &[u8]) {
     let mut from = 0;
     while from < input.len() {
         let end = case_text::line_end(input, from);
-        from = book(input, from, end) + 1;
+        from = book(to, input, from, end) + 1;
     }
 }
 
 // One book, whose first line stands from one place to another. The place after it.
-fn book(input: &[u8], from: usize, end: usize) -> usize
+fn book(to: &impl Print, input: &[u8], from: usize, end: usize) -> usize
     requires { (from ≤ end) × (end ≤ length input.now) }
     ensures { (end ≤ result) × (result ≤ length input.now) }
 {
     let line = &input[from..end];
     let heading = heading_of(line);
-    name(line, heading.name);
-    files(input, end, heading)
+    name(to, line, heading.name);
+    files(to, input, end, heading)
 }
 
 // Its two files, from the end of its first line on.
-fn files(input: &[u8], end: usize, heading: Heading) -> usize
+fn files(to: &impl Print, input: &[u8], end: usize, heading: Heading) -> usize
     requires { end ≤ length input.now }
     ensures { (end ≤ result) × (result ≤ length input.now) }
 {
     let rules = past(input, end, 1);
     let wishes = past(input, rules, heading.rules);
     let next = past(input, wishes, heading.wishes);
-    book::run(&input[rules..wishes], &input[wishes..next], heading.limits);
+    book::run(
+        to,
+        &input[rules..wishes],
+        &input[wishes..next],
+        heading.limits,
+    );
     next
 }
 
@@ -69,10 +73,10 @@ fn past(input: &[u8], from: usize, size: usize) -> usize
     input.len()
 }
 
-fn name(line: &[u8], from: usize) {
+fn name(to: &impl Print, line: &[u8], from: usize) {
     if from <= line.len() {
-        io::write_all(STDOUT_FILENO, &line[from..]);
+        case_text::write(to, &line[from..]);
     } else {
-        words::write(words::BAD_BOOK);
+        words::write(to, words::BAD_BOOK);
     }
 }

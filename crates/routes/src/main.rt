@@ -1,6 +1,8 @@
 // Runs the searches, the export to OPB and both routes on the rule books of standard input, and writes a line
 // for each.
 // What it must write was made from the results of solvers from elsewhere (tests/solvers).
+#![tactic(auto)]
+
 mod book;
 mod books;
 mod export;
@@ -14,8 +16,6 @@ mod words;
 
 ghost use Rattle.std.specs.Prelude.{◌≡◌, length};
 
-use libc::STDIN_FILENO;
-
 // The input must be shorter than this.
 const INPUT: usize = 1048576;
 
@@ -25,13 +25,15 @@ fn input() -> [u8; 1048576]
     [0; 1048576]
 }
 
-fn main() {
+fn main(rt: HostRuntime) {
+    let mut stdin = rt.stdin();
+    let to = rt.stdout();
     let mut space = input();
-    let n = io::read_full(STDIN_FILENO, &mut space);
+    let n = case_text::read_full(&mut stdin, &mut space);
     if n < INPUT {
-        books::run(&space[..n]);
+        books::run(&to, &space[..n]);
     } else {
-        words::write(words::TOO_LONG);
-        case_text::line_feed();
+        words::write(&to, words::TOO_LONG);
+        case_text::line_feed(&to);
     }
 }

@@ -7,53 +7,53 @@ const GREATEST: usize = 64;
 
 // Nearest with its choice, and the wish search at its count, at one below and at 0; at the greatest limit
 // and at 0 where it finds none.
-pub fn nearest(n: usize, rules: &[i32], row: &[u8]) {
+pub fn nearest(to: &impl Print, n: usize, rules: &[i32], row: &[u8]) {
     let mut choice = unset::choice();
-    nearest_into(n, rules, row, &mut choice);
+    nearest_into(to, n, rules, row, &mut choice);
 }
 
-fn nearest_into(n: usize, rules: &[i32], row: &[u8], choice: &mut [u8]) {
+fn nearest_into(to: &impl Print, n: usize, rules: &[i32], row: &[u8], choice: &mut [u8]) {
     let answer = search_nearest::search(n, rules, row, choice);
-    words::write(words::NEAREST);
+    words::write(to, words::NEAREST);
     match answer {
         Searched::Refused(r) => {
-            report::refused(r.number, r.place);
+            report::refused(to, r.number, r.place);
         }
         Searched::Nothing => {
-            words::write(words::NONE);
-            wished(n, rules, row, GREATEST);
-            wished(n, rules, row, 0);
+            words::write(to, words::NONE);
+            wished(to, n, rules, row, GREATEST);
+            wished(to, n, rules, row, 0);
         }
         Searched::Found(count) => {
-            report::value(words::BLANK, count);
-            report::outcome(outcome::wished(n, rules, row, count, answer, choice));
-            report::choice(n, choice);
-            around(n, rules, row, count);
+            report::value(to, words::BLANK, count);
+            report::outcome(to, outcome::wished(n, rules, row, count, answer, choice));
+            report::choice(to, n, choice);
+            around(to, n, rules, row, count);
         }
     }
 }
 
-fn around(n: usize, rules: &[i32], row: &[u8], count: usize) {
-    wished(n, rules, row, count);
+fn around(to: &impl Print, n: usize, rules: &[i32], row: &[u8], count: usize) {
+    wished(to, n, rules, row, count);
     if 0 < count {
-        wished(n, rules, row, count - 1);
+        wished(to, n, rules, row, count - 1);
     }
     if 1 < count {
-        wished(n, rules, row, 0);
+        wished(to, n, rules, row, 0);
     }
 }
 
 // The wish search and the export at a limit.
-pub fn wished(n: usize, rules: &[i32], row: &[u8], d: usize) {
-    report::value(words::AT_LIMIT, d);
-    report::outcome(route::first(n, rules, row, d));
-    export::at_limit(n, rules, row, d);
+pub fn wished(to: &impl Print, n: usize, rules: &[i32], row: &[u8], d: usize) {
+    report::value(to, words::AT_LIMIT, d);
+    report::outcome(to, route::first(n, rules, row, d));
+    export::at_limit(to, n, rules, row, d);
 }
 
 // Plain search on the given rules, whatever wishes its choice breaks.
-pub fn plain(n: usize, rules: &[i32], row: &[u8]) {
+pub fn plain(to: &impl Print, n: usize, rules: &[i32], row: &[u8]) {
     let mut choice = unset::choice();
     let answer = search_plain::search(n, rules, &mut choice);
-    words::write(words::PLAIN);
-    report::outcome(outcome::plain(n, rules, row, GREATEST, answer, &choice));
+    words::write(to, words::PLAIN);
+    report::outcome(to, outcome::plain(n, rules, row, GREATEST, answer, &choice));
 }

@@ -21,22 +21,20 @@ struct Survey {
     found: usize,
 }
 
-pub fn every(n: usize, rules: &[i32], row: &[u8], limits: usize) {
+pub fn every(to: &impl Print, n: usize, rules: &[i32], row: &[u8], limits: usize) {
     let mut survey = start();
-    let mut d = 0;
-    while d < limits {
+    for d in 0..limits {
         let first = route::first(n, rules, row, d);
         let second = route::second(n, rules, row, d);
         survey = seen(survey, d, compare(first, second));
-        d += 1;
     }
-    show(survey);
+    show(to, survey);
 }
 
-fn show(survey: Survey) {
-    report::range(words::AGREE, 0, survey.agreed);
-    report::range(words::BOTH_NONE, 0, survey.none);
-    report::range(words::BOTH_FOUND, survey.none, survey.found);
+fn show(to: &impl Print, survey: Survey) {
+    report::range(to, words::AGREE, 0, survey.agreed);
+    report::range(to, words::BOTH_NONE, 0, survey.none);
+    report::range(to, words::BOTH_FOUND, survey.none, survey.found);
 }
 
 // No limit has been tried.

@@ -53,8 +53,9 @@ pub const BAD_BOOK: usize = 25;
 
 pub const TOO_LONG: usize = 26;
 
-pub fn write(number: usize) {
+pub fn write(to: &impl Print, number: usize) {
     case_text::write_line(
+        to,
         b": settings \n rules \n no room\n wishes \n limit \n; nearest\n; limit \n; plain\n found, met\n none\n found, unmet\n found, miscounted\n found, past the limit\n refused \n at \n; routes agree \n, none \n, found \n..\nnowhere\n \n, OPB\n of \n bytes, sum \n, \nbad book\nthe input is too long\n",
         number,
     );

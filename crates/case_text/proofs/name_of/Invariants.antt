@@ -1,6 +1,5 @@
 -- `case_text::name_of` meets its contract.
-use Prim.Native.Nat.{◌-◌, ◌≤◌}
-use lib.ListN.{length}
+use Rattle.std.proofs.Common.{◌-◌, ◌≤◌, length}
 use Rattle.case_text.proofs.name_of.Given as goal
 
 abbrev pub invariant-loop-from : goal.invariant-loop-from

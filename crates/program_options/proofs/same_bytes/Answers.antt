@@ -1,5 +1,4 @@
-use mathlib.Core.Path.{sym}
-use Prim.Native.Nat.{◌-◌}
+use Rattle.std.proofs.Common.{sym}
 use Rattle.program_options.specs.Laws.{unequal}
 use Rattle.program_options.proofs.same_bytes.Goals as goal
 

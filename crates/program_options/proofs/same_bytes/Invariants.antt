@@ -1,7 +1,5 @@
--- `program_options::same_bytes_lem` meets its contract. The loop's invariant: the bytes before agree.
-use mathlib.Core.Path.{◌≡◌}
-use Prim.Native.Nat.{◌-◌}
-use lib.ListN.{length, drop}
+-- `program_options::same_bytes` meets its contract. The loop's invariant: the bytes before agree.
+use Rattle.std.proofs.Common.{◌≡◌, ◌-◌, length, drop}
 use Rattle.program_options.specs.Options.{same_bytes}
 use Rattle.program_options.proofs.same_bytes.Given as goal
 

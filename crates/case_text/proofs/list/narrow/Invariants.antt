@@ -1,7 +1,5 @@
 -- `case_text::list::narrow` meets its contract.
-use mathlib.Core.Path.{◌≡◌}
-use Prim.Native.Nat.{◌-◌}
-use lib.ListN.{length}
+use Rattle.std.proofs.Common.{◌≡◌, ◌-◌, length}
 use Rattle.case_text.proofs.list.narrow.Given as goal
 
 abbrev pub invariant-loop-i : goal.invariant-loop-i

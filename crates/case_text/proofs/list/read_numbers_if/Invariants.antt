@@ -1,7 +1,5 @@
 -- `case_text::list::read_numbers_if` meets its contract.
-use mathlib.Core.Path.{◌≡◌}
-use Prim.Native.Nat.{◌-◌}
-use lib.ListN.{length}
+use Rattle.std.proofs.Common.{◌≡◌, ◌-◌, length}
 use Rattle.case_text.proofs.list.read_numbers_if.Given as goal
 
 abbrev pub invariant-loop-i : goal.invariant-loop-i
