@@ -1,20 +1,11 @@
 -- What the answers of both routes say: whether some choice meets the rules with at most d broken wishes.
-use Rattle.std.specs.Prelude.{◌≡◌, refl, List, ℕ, ◌≤◌, ℤ, take, replicate}
-use Rattle.std.proofs.Math.Option.{Option, none, some}
-use Rattle.std.proofs.Common.{arith}
+use Rattle.std.specs.Prelude.{◌≡◌, List, ℕ, ◌≤◌, ℤ}
+use Rattle.std.proofs.Math.Option.{none, some}
 use Rattle.formula.specs.Formula.{clauses}
 use Rattle.distance.specs.Distance.{disagreement}
 use Rattle.choices.specs.Choices.{Model}
 use Rattle.refusal.specs.Reply.{Reply}
-use Rattle.walk.specs.Walk.{Answer, walk, plain_walk}
-use Rattle.totalizer.specs.Completion.{completion_choice}
-use Rattle.totalizer.specs.Totalizer.{rewritten_variables, rewritten, completion}
-use Rattle.totalizer.specs.Theorems.{found_within, within_found}
-use Rattle.refusal_causes.specs.Admitted.{Admitted}
-use Rattle.refusal_causes.specs.Lent.{wished_problem}
-use Rattle.search_meaning.specs.Meaning.{search_found, search_none, plain-nothing}
-use Rattle.search_meaning.specs.Searches.{found, broken_by}
-use Rattle.agreement.specs.Second.{outcome, sound}
+use Rattle.search_meaning.specs.Searches.{found}
 
 -- some choice meets the rules with at most d broken wishes
 abbrev pub Reached : ℕ → List ℤ → List ℕ → ℕ → Type 0
@@ -24,36 +15,3 @@ Reached n rules row d = (a : List ℕ) × Model n (clauses rules) a × (disagree
 pub data Decided (Holds : Type 0) (most : ℕ) (reply : Reply) : Type 0 where
   yes : (broken : ℕ) → broken ≤ most → reply ≡ found (some broken) → Holds → Decided Holds most reply
   no : reply ≡ found none → (Holds → ⊥) → Decided Holds most reply
-
-module _ (n : ℕ) (rules : List ℤ) (row : List ℕ) (d : ℕ) (ok : Admitted (wished_problem n rules row d)) where
-  -- the wish search
-  pub search_decides : Decided (Reached n rules row d) d (found (broken_by (walk n (clauses rules) row d).answer))
-  search_decides = go (walk n (clauses rules) row d).answer refl
-    where
-      go : (o : Option Answer) → (walk n (clauses rules) row d).answer ≡ o → Decided (Reached n rules row d) d (found (broken_by o))
-      go none e = no refl (λ r. omega (arith, (search_none n rules ok.sound_rules row d).0 e r.0 r.1, r.2))
-      go (some x) e =
-          let f = search_found n rules ok.sound_rules row d x e in
-          yes x.broken f.limited refl (x.choice, f.model, omega (arith, f.own_count, f.limited))
-
-  -- plain search on the rewritten rules
-  pub plain_decides : Decided (Reached n rules row d) 0 (outcome n rules row d)
-  plain_decides = go (plain_walk N (clauses R)).answer refl
-    where
-      N : ℕ
-      N = rewritten_variables n row
-
-      R : List ℤ
-      R = rewritten n rules row d
-
-      go : (o : Option Answer) → (plain_walk N (clauses R)).answer ≡ o → Decided (Reached n rules row d) 0 (found (broken_by o))
-      go none e = no refl (λ r.
-          (plain-nothing N R (sound n rules row d ok)).0 e (completion row r.0)
-          (record {
-            choice = completion_choice n row r.0 r.1.choice;
-            satisfies = within_found n rules row d r.0 ok.sound_rules ok.long_row r.1.choice r.1.satisfies r.2;
-          }))
-      go (some x) e =
-          let f = search_found N R (sound n rules row d ok) (replicate N 2) 0 x e in
-          let (choice, met, near) = found_within n rules row d x.choice ok.sound_rules ok.long_row f.model.choice f.model.satisfies in
-          yes x.broken f.limited refl (take n x.choice, record { choice = choice; satisfies = met }, near)

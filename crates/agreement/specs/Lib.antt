@@ -1,8 +1,4 @@
-pub mod Agreement
 pub mod Causes
 pub mod Claim
-pub mod Completing
 pub mod Decided
-pub mod Example
-pub mod First
 pub mod Second

@@ -4,7 +4,8 @@ use Rattle.refusal.specs.Passing.{some-cause, by_place}
 use Rattle.refusal.specs.Reply.{place_if}
 use Rattle.rule_file.specs.Format as rule-file
 use Rattle.wish_file.specs.Format as wish-file
-use Rattle.file_causes.specs.Causes.{rule_causes, wish_causes, each, rule_number, wish_number}
+use Rattle.file_causes.specs.Causes.{rule_causes, wish_causes}
+use Rattle.file_causes.proofs.Causes.{each, rule_number, wish_number}
 use Rattle.rule_file_reader.specs.Read as rules
 use Rattle.wish_file_reader.specs.Read as wishes
 use Rattle.c_answer_meaning.specs.Numbers.{ordinary}

@@ -9,7 +9,7 @@ use Rattle.refusal.specs.Laws.{room_enough}
 use Rattle.refusal_causes.specs.Lent.{plain_problem, refusal_of}
 use Rattle.refusal_causes.specs.Admitted.{plain_admitted, admitted_room}
 use Rattle.rule_list.specs.Sound.{unread}
-use Rattle.rule_file.specs.Accepted.{accepted, written_read}
+use Rattle.rule_file.proofs.Accepted.{accepted, written_read}
 use Rattle.rule_file.specs.Format.{stored, Reading, refuses, gives, reading}
 use Rattle.rule_file.specs.Written.{written}
 use Rattle.rule_file_writer.specs.Write.{lent_to_write, write_reply, write_output}

@@ -8,7 +8,7 @@ use Rattle.refusal.specs.Reply.{answering}
 use Rattle.refusal_causes.specs.Admitted.{unrefused}
 use Rattle.refusal_causes.specs.Lent.{plain_problem, refusal_of}
 use Rattle.rule_file.specs.Format.{gives, reading}
-use Rattle.rule_file.specs.RoundTrip.{read_written}
+use Rattle.rule_file.proofs.RoundTrip.{read_written}
 use Rattle.rule_file.specs.Written.{written}
 use Rattle.rule_file_writer.specs.Write.{lent_to_write, write_output}
 use Rattle.rule_file_reader.specs.Read.{read_reply, read_output}

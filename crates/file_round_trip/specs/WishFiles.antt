@@ -8,7 +8,8 @@ use Rattle.refusal.specs.Laws.{room_enough}
 use Rattle.refusal_causes.specs.Lent.{wishes_alone, refusal_of}
 use Rattle.refusal_causes.specs.Admitted.{alone_admitted, admitted_room}
 use Rattle.wish_file.specs.Format.{Reading, refuses, gives, written, reading}
-use Rattle.wish_file.specs.RoundTrip.{Accepted, accepted}
+use Rattle.wish_file.specs.RoundTrip.{Accepted}
+use Rattle.wish_file.proofs.RoundTrip.{accepted}
 use Rattle.wish_file_writer.specs.Write.{lent_to_write, write_reply, write_output}
 use Rattle.wish_file_reader.specs.Read.{read_reply, read_output}
 

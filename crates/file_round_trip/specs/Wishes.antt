@@ -8,7 +8,7 @@ use Rattle.refusal.specs.Reply.{answering}
 use Rattle.refusal_causes.specs.Lent.{refusal_of, wishes_alone}
 use Rattle.refusal_causes.specs.Admitted.{Admitted, unrefused}
 use Rattle.wish_file.specs.Format.{written, gives, reading}
-use Rattle.wish_file.specs.RoundTrip.{read_written}
+use Rattle.wish_file.proofs.RoundTrip.{read_written}
 use Rattle.wish_file_writer.specs.Write.{lent_to_write, write_output}
 use Rattle.wish_file_reader.specs.Read.{read_reply, read_output}
 

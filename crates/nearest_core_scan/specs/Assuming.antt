@@ -10,12 +10,13 @@ use Rattle.wish.specs.Laws.{wished_bit, cost-most}
 use Rattle.distance.specs.Distance.{disagreement}
 use Rattle.limits.specs.Limits.{max_variables}
 use Rattle.walk.specs.Propagation.{propagate}
-use Rattle.walk.specs.PropagationLaws.{propagate_state}
+use Rattle.walk.proofs.PropagationLaws.{propagate_state}
 use Rattle.walk.specs.State.{is_falsified}
 use Rattle.walk.specs.Walk.{is_dead_end}
 use Rattle.walk_unit_queue.specs.Due.{NoneDue}
 use Rattle.walk_unit_queue.specs.Queue.{follow}
-use Rattle.walk_unit_queue.specs.Theorems.{Covers, fork_covers, follow_alike, settled_none_due}
+use Rattle.walk_unit_queue.specs.Theorems.{Covers}
+use Rattle.walk_unit_queue.proofs.Theorems.{fork_covers, follow_alike, settled_none_due}
 use Rattle.walk_tally.specs.declared.Tally.{Tally}
 use Rattle.walk_propagation.specs.Assigned.{AssignedTo, assigned_searching, assigned_grown}
 use Rattle.walk_propagation.specs.Looked.{pending, Moved, moved_more, ComesTo}

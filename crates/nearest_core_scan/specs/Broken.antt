@@ -8,7 +8,8 @@ use Rattle.literal.specs.declared.Variable.{Variable}
 use Rattle.wish.specs.Wish.{cost, breaks}
 use Rattle.wish.specs.Laws.{cost-unassigned, free_cost}
 use Rattle.distance.specs.Distance.{disagreement}
-use Rattle.walk.specs.Extension.{Extends, disagreement_grows}
+use Rattle.walk.specs.Extension.{Extends}
+use Rattle.walk.proofs.Extension.{disagreement_grows}
 use Rattle.nearest_cores.specs.Cores.{is_left, is_broken, broken_from, first_broken}
 use Rattle.nearest_core_scan.specs.Lowest.{lowest_of}
 use Rattle.nearest_core_scan.specs.declared.broken.Lowest.TheVariants.{Nothing, Wish}

@@ -6,10 +6,11 @@ use Rattle.std.proofs.Math.Seq.{slice, slice_empty, append_snoc}
 use Rattle.formula.specs.Formula.{any, clauses}
 use Rattle.literal.specs.Literal.{value}
 use Rattle.wish.specs.Wish.{is_wish, wished_value}
-use Rattle.walk.specs.Assignment.{assign_extends}
-use Rattle.walk.specs.Extension.{Extends, extends_trans}
+use Rattle.walk.proofs.Assignment.{assign_extends}
+use Rattle.walk.specs.Extension.{Extends}
+use Rattle.walk.proofs.Extension.{extends_trans}
 use Rattle.walk.specs.Propagation.{propagate}
-use Rattle.walk.specs.PropagationLaws.{propagate_extends}
+use Rattle.walk.proofs.PropagationLaws.{propagate_extends}
 use Rattle.walk.specs.State.{is_unset, is_falsified}
 use Rattle.walk_tally.specs.declared.Tally.{Tally}
 use Rattle.walk_propagation.specs.Looked.{Moved}
@@ -18,7 +19,7 @@ use Rattle.walk_propagation.specs.Searching.{searching_kept, settled_most, undoa
 use Rattle.walk_propagation.specs.Trail.{undone, grown_undone}
 use Rattle.walk_propagation.specs.declared.propagated.Propagated.TheVariants.{Dead, Settled}
 use Rattle.nearest_cores.specs.Cores.{Scan, is_left, is_assumable, keep_wish, first_broken, least_weight, take_each, close_core, with_broken, after_assuming, scan_wish}
-use Rattle.nearest_cores.specs.Taken.{take-length}
+use Rattle.nearest_cores.proofs.Taken.{take-length}
 use Rattle.nearest_core_scan.specs.declared.progress.Progress.{Progress}
 use Rattle.nearest_core_scan.specs.Assuming.{AssumedBy}
 use Rattle.nearest_core_scan.specs.Broken.{Unbroken, unbroken_none, none_unbroken, free_unbroken, unbroken_still}

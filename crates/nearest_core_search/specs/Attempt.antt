@@ -5,7 +5,7 @@ use Rattle.std.proofs.Math.Option.{some}
 use Rattle.std.proofs.Math.Seq.{slice}
 use Rattle.formula.specs.Formula.{models}
 use Rattle.walk_opposed.specs.Opposed.{NoneShort}
-use Rattle.walk.specs.BranchingLaws.{opposed_open}
+use Rattle.walk.proofs.BranchingLaws.{opposed_open}
 use Rattle.walk.specs.Promises.{Branches}
 use Rattle.walk.specs.State.{fits, unassigned, unassigned_in}
 use Rattle.walk.specs.Walk.{Outcome, dead_end, is_dead_end, complete, fork}
@@ -18,7 +18,7 @@ use Rattle.walk_propagation.specs.Looked.{Moved, ComesTo}
 use Rattle.walk_propagation.specs.Searching.{Searching}
 use Rattle.walk_propagation.specs.Trail.{undone}
 use Rattle.walk_unit_queue.specs.Due.{NoneDue}
-use Rattle.walk_unit_queue.specs.Theorems.{settled_none_due}
+use Rattle.walk_unit_queue.proofs.Theorems.{settled_none_due}
 use Rattle.search_state.specs.declared.result.Tried.{Tried}
 use Rattle.search_state.specs.declared.result.Tried.TheVariants.{Found, Nothing}
 use Rattle.search_state.specs.Result.{clip}
@@ -26,8 +26,9 @@ use Rattle.search_state.specs.Tried.{TriedBy, unwound}
 use Rattle.search_state.specs.Undoing.{dead_undone, fork-undone}
 use Rattle.nearest_cores.specs.Narrow.{narrow}
 use Rattle.nearest_cores.specs.Search.{completed_by, onward, search_from}
-use Rattle.nearest_cores.specs.NarrowRight.{Narrowed, NarrowedTo, narrow_right}
-use Rattle.nearest_cores.specs.SearchRight.{search_step}
+use Rattle.nearest_cores.specs.NarrowRight.{Narrowed, NarrowedTo}
+use Rattle.nearest_cores.proofs.NarrowRight.{narrow_right}
+use Rattle.nearest_cores.proofs.SearchRight.{search_step}
 
 -- the state before the variables from a place of the trail on were assigned
 abbrev pub before : ℕ → Tally → List ℕ → List ℕ → List ℕ

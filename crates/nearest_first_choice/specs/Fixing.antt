@@ -7,7 +7,7 @@ use Rattle.walk_tally.specs.declared.Tally.{Tally}
 use Rattle.walk_propagation.specs.Searching.{Searching}
 use Rattle.search_meaning.specs.Fits.{sound_fits}
 use Rattle.walk_unit_queue.specs.Due.{NoneDue}
-use Rattle.walk_unit_queue.specs.Theorems.{settled_none_due}
+use Rattle.walk_unit_queue.proofs.Theorems.{settled_none_due}
 use Rattle.walk.specs.Propagation.{propagate}
 use Rattle.nearest_first_choice.specs.Refining.{Refining, refining_propagated, refining_alive}
 

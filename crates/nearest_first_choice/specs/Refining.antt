@@ -5,17 +5,20 @@ use Rattle.std.proofs.Math.Option.{Option, none, some}
 use Rattle.std.proofs.Math.Decide.{ℕ_discrete}
 use Rattle.literal.specs.Literal.{value}
 use Rattle.distance.specs.Distance.{disagreement}
-use Rattle.choices.specs.Choices.{Model, choice_value}
+use Rattle.choices.specs.Choices.{Model}
+use Rattle.choices.proofs.Choices.{choice_value}
 use Rattle.choices.specs.Order.{Before, FirstWithin}
 use Rattle.walk.specs.State.{State, assign}
 use Rattle.walk.specs.Propagation.{propagate}
 use Rattle.walk.specs.Walk.{Answer, is_dead_end}
 use Rattle.walk.specs.Promises.{ModelWithin}
-use Rattle.walk.specs.Extension.{Extends, extends_refl, extends_trans, keeps_value}
-use Rattle.walk.specs.Assignment.{extends_assign, assign_extends, assign_state, assign_value}
-use Rattle.walk.specs.PropagationLaws.{propagate_state, propagate_extends, propagate_forced}
-use Rattle.walk.specs.WalkLaws.{dead_none}
-use Rattle.walk.specs.Correctness.{start_state, start_extends, Right}
+use Rattle.walk.specs.Extension.{Extends}
+use Rattle.walk.proofs.Extension.{extends_refl, extends_trans, keeps_value}
+use Rattle.walk.proofs.Assignment.{extends_assign, assign_extends, assign_state, assign_value}
+use Rattle.walk.proofs.PropagationLaws.{propagate_state, propagate_extends, propagate_forced}
+use Rattle.walk.proofs.WalkLaws.{dead_none}
+use Rattle.walk.specs.Correctness.{Right}
+use Rattle.walk.proofs.Correctness.{start_state, start_extends}
 
 -- In the state a the variables 1 to v have the values that the first model within d has. The choice at hand, c, is a model within d that extends a, and every model within d extends a or comes after all that do.
 pub record Refining (n : ℕ) (f : List (List ℤ)) (row : List ℕ) (d v : ℕ) (a c : List ℕ) : Type 0 where

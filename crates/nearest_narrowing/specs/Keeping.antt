@@ -5,17 +5,18 @@ use Rattle.std.proofs.Math.Seq.{slice}
 use Rattle.literal.specs.Literal.{value}
 use Rattle.wish.specs.Wish.{wished_value, weight}
 use Rattle.wish.specs.Laws.{wished_bit}
-use Rattle.walk.specs.Assignment.{assign_other}
+use Rattle.walk.proofs.Assignment.{assign_other}
 use Rattle.walk.specs.State.{assign}
 use Rattle.walk_tally.specs.declared.Tally.{Tally}
 use Rattle.walk_propagation.specs.Assigned.{AssignedTo, assigned_searching, assigned_grown}
 use Rattle.walk_propagation.specs.Looked.{pending, Moved, moved_none, moved_more}
 use Rattle.walk_propagation.specs.Searching.{Searching, not_all}
 use Rattle.walk_propagation.specs.Trail.{slice-stored}
-use Rattle.walk_unit_queue.specs.Theorems.{Covers, assign_covers}
+use Rattle.walk_unit_queue.specs.Theorems.{Covers}
+use Rattle.walk_unit_queue.proofs.Theorems.{assign_covers}
 use Rattle.nearest_cores.specs.Cores.{is_left, keep_wish}
 use Rattle.nearest_cores.specs.Narrow.{must_keep, keep_if, keep_from, keep_all}
-use Rattle.nearest_cores.specs.NarrowRight.{must_both}
+use Rattle.nearest_cores.proofs.NarrowRight.{must_both}
 
 -- From one state of the search to a later one, with the variables assigned since in the queue: where only clauses of a queue's variables can ask for anything, that stays so.
 pub record KeptTo (n : ℕ) (row : List ℕ) (t : Tally) (a trail : List ℕ) (t' : Tally) (a' trail' : List ℕ) : Type 0 where

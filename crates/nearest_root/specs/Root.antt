@@ -5,7 +5,8 @@ use Rattle.std.proofs.Math.Option.{none, some}
 use Rattle.distance.specs.Distance.{disagreement}
 use Rattle.choices.specs.Choices.{Model}
 use Rattle.walk.specs.Promises.{ModelWithin}
-use Rattle.walk.specs.Correctness.{Right, start_extends}
+use Rattle.walk.specs.Correctness.{Right}
+use Rattle.walk.proofs.Correctness.{start_extends}
 use Rattle.search_state.specs.declared.result.Tried.{Tried}
 use Rattle.search_state.specs.declared.result.Tried.TheVariants.{Found, Nothing}
 

@@ -12,22 +12,25 @@ use Rattle.walk_tally.specs.declared.Tally.{Tally}
 use Rattle.walk_propagation.specs.declared.propagated.Propagated.TheVariants.{Dead, Settled}
 use Rattle.walk_propagation.specs.Looked.{pending}
 use Rattle.walk_unit_queue.specs.Due.{NoneDue}
-use Rattle.walk_unit_queue.specs.Theorems.{Covers, none_covers}
-use Rattle.walk.specs.Correctness.{Right, start_extends}
+use Rattle.walk_unit_queue.specs.Theorems.{Covers}
+use Rattle.walk_unit_queue.proofs.Theorems.{none_covers}
+use Rattle.walk.specs.Correctness.{Right}
+use Rattle.walk.proofs.Correctness.{start_extends}
 use Rattle.walk.specs.Extension.{Extends}
 use Rattle.walk.specs.Propagation.{propagate}
-use Rattle.walk.specs.PropagationLaws.{propagate_forced}
+use Rattle.walk.proofs.PropagationLaws.{propagate_forced}
 use Rattle.walk.specs.State.{fits}
 use Rattle.walk.specs.Walk.{Answer}
-use Rattle.walk.specs.WalkLaws.{dead_none}
+use Rattle.walk.proofs.WalkLaws.{dead_none}
 use Rattle.search_state.specs.declared.result.Tried.{Tried}
 use Rattle.search_state.specs.declared.result.Tried.TheVariants.{Found, Nothing}
 use Rattle.search_state.specs.Root.{SettledRoot}
 use Rattle.search_state.specs.Tried.{TriedBy}
 use Rattle.nearest_cores.specs.Cores.{scan}
-use Rattle.nearest_cores.specs.NarrowRight.{bound_broken}
+use Rattle.nearest_cores.proofs.NarrowRight.{bound_broken}
 use Rattle.nearest_cores.specs.Search.{search_from}
-use Rattle.nearest_cores.specs.SearchRight.{Guides, search_right}
+use Rattle.nearest_cores.specs.SearchRight.{Guides}
+use Rattle.nearest_cores.proofs.SearchRight.{search_right}
 use Rattle.nearest_root.specs.Root.{RootRight}
 
 -- where no clause asks for anything, nothing need be in the queue

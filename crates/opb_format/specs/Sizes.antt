@@ -17,7 +17,8 @@ use Rattle.refusal_causes.specs.Laws.{sound_weight}
 use Rattle.refusal_causes.specs.Lent.{wished_problem}
 use Rattle.opb_pseudo_boolean.specs.Export.{term, negatives, rule_constraint, wish_terms, wish_constraint, wish_constraints, exported}
 use Rattle.opb_pseudo_boolean.specs.PseudoBoolean.{Constraint}
-use Rattle.opb_pseudo_boolean.specs.Variables.{Over, sound_over}
+use Rattle.opb_pseudo_boolean.specs.Variables.{Over}
+use Rattle.opb_pseudo_boolean.proofs.Variables.{sound_over}
 use Rattle.opb_format.specs.Laws.{term-size, difference_less, difference_more, bound_size, header-size}
 use Rattle.opb_format.specs.Opb.{term_text, terms_text, bound_text, line_text, lines_text, header_text, opb_of}
 

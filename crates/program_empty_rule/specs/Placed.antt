@@ -1,18 +1,18 @@
 -- The place in the file and refusal 16 (document 02, L2), whose place is an index in the list: in a file that was read they name the same closing zero, and where there is no such refusal no place is found.
-use Rattle.std.specs.Prelude.{◌≡◌, refl, ◌↔◌, Bool, true, false, cond, List, [], ◌∷◌, ◌++◌, map, ℕ, suc, ◌+◌, ◌<◌, ℤ, pos, length}
+use Rattle.std.specs.Prelude.{◌≡◌, refl, Bool, true, false, cond, List, [], ◌∷◌, ◌++◌, map, ℕ, suc, ◌+◌, ◌<◌, ℤ, pos, length}
 use Rattle.std.proofs.Common.{sym, ap, ◌∙◌, subst, true≢false, arith, ne_eqb}
 use Rattle.std.proofs.Math.Option.{Option, none, some, get_or, some-ne-none}
-use Rattle.words.specs.Words.{ascii}
 use Rattle.formula.specs.Formula.{closes, onto, clauses}
 use Rattle.refusal.specs.Reply.{refusal}
 use Rattle.rule_list.specs.Laws.{scan}
 use Rattle.rule_list.specs.Sound.{Scan, unread, unclosed}
 use Rattle.refusal_causes.specs.Empty.{empty_clause}
-use Rattle.rule_file.specs.Accepted.{Parts, accepted_parts, past_header, first_good}
-use Rattle.rule_file.specs.Class.{class_of}
+use Rattle.rule_file.specs.Accepted.{Parts, past_header}
+use Rattle.rule_file.proofs.Accepted.{first_good}
 use Rattle.rule_file.specs.Format.{past_comments, signed, element, repeats, past, bad_token, bad_tokens, stored, rules_of, gives, reading}
-use Rattle.rule_file.specs.Stored.{repeat_dropped, zero-stored, literal-stored}
-use Rattle.rule_file.specs.TokenLaws.{First, Shaped, shaped}
+use Rattle.rule_file.proofs.Stored.{repeat_dropped, zero-stored, literal-stored}
+use Rattle.rule_file.specs.TokenLaws.{First, Shaped}
+use Rattle.rule_file.proofs.TokenLaws.{shaped}
 use Rattle.rule_file.specs.Tokens.{Token, tokens_from}
 use Rattle.program_empty_rule.specs.Empty.{empty_among, empty_behind, empty_rule}
 
@@ -172,20 +172,3 @@ module _ (file : List ℕ) (n c : ℕ) (l : List ℤ) (p : Parts file n c l) whe
   inside place none q = (λ h e. omega arith, λ f. absurd (f refl))
   inside place (some j) q =
       (λ h e. some-ne-none j e, λ f. token_inside file (past_comments false 0 file + p.size) q.before (record { place = place; bytes = q.bytes }) q.behind q.split)
-
--- "16, a rule without entries" applies to what was read exactly where the file has a place for it.
-pub empty_refused : (file : List ℕ) (n c : ℕ) (l : List ℤ) → reading file ≡ gives n c l → (empty_rule file < length file) ↔ (empty_clause 0 (clauses l) ≡ none → ⊥)
-empty_refused file n c l e =
-    let p : Parts file n c l = accepted_parts file n c l e in
-    inside file n c l p (empty_rule file) (empty_clause 0 (clauses l)) (placed file n c l p)
-
--- the second rule has no entries, and its 0 stands at byte 18 and, without the repeat, at index 2
-abbrev example : List ℕ
-example = ascii "p cnf 1 2\nc\n1 1 0\n0\n"
-
-abbrev example_list : List ℤ
-example_list = pos 1 ∷ pos 0 ∷ pos 0 ∷ []
-
-example_placed : (reading example ≡ gives 1 2 example_list) × (empty_rule example ≡ 18) × (empty_clause 0 (clauses example_list) ≡ some 2)
-unfolding class_of
-example_placed = (refl, refl, refl)

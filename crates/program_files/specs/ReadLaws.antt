@@ -5,12 +5,12 @@ use Rattle.std.proofs.Math.Option.{Option, none}
 use Rattle.refusal.specs.declared.Refusal.{Refusal}
 use Rattle.refusal.specs.Laws.{room_enough}
 use Rattle.refusal.specs.Reply.{refusing, answering, unless, too_short, filled}
-use Rattle.rule_file.specs.Accepted as accepted-rules
+use Rattle.rule_file.proofs.Accepted as accepted-rules
 use Rattle.rule_file.specs.Format as rule
-use Rattle.rule_file.specs.Sizes.{sound_length}
+use Rattle.rule_file.proofs.Sizes.{sound_length}
 use Rattle.rule_file_reader.specs.Read as rules
 use Rattle.wish_file.specs.Format as wish
-use Rattle.wish_file.specs.RoundTrip as accepted-wishes
+use Rattle.wish_file.proofs.RoundTrip as accepted-wishes
 use Rattle.wish_file_reader.specs.Read as wishes
 use Rattle.program_files.specs.Problem.{Problem, silent, max_file, together, problem}
 

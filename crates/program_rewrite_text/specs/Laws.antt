@@ -8,9 +8,9 @@ use Rattle.refusal_causes.specs.Lent.{refusal_of, plain_problem, wished_problem}
 use Rattle.refusal_causes.specs.Admitted.{Admitted, admitted_room, plain_admitted}
 use Rattle.limits.specs.Limits.{max_variables}
 use Rattle.rule_list.specs.Sound.{unread, bad_rule, SoundList}
-use Rattle.rule_file.specs.Sizes.{sound_length}
+use Rattle.rule_file.proofs.Sizes.{sound_length}
 use Rattle.rule_file.specs.Written.{written}
-use Rattle.totalizer.specs.Theorems.{rewritten_variables_lem, rewritten_sound}
+use Rattle.totalizer.proofs.Theorems.{rewritten_variables_lem, rewritten_sound}
 use Rattle.totalizer.specs.Totalizer.{rewritten_variables, rewritten}
 use Rattle.totalizer_encoding.specs.Rewrite.{lent_to_rewrite, rewrite_reply, rewrite_output}
 use Rattle.rule_file_writer.specs.Write.{lent_to_write, write_reply, write_output}

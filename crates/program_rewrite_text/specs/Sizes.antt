@@ -10,8 +10,8 @@ use Rattle.decimal.specs.Laws.{count_most}
 use Rattle.rule_list_soundness.specs.Laws.{and_left}
 use Rattle.text.specs.Laws.{numeral-most}
 use Rattle.text.specs.Text.{numeral}
-use Rattle.rule_file.specs.RoundTrip.{header-length}
-use Rattle.rule_file.specs.Sizes.{sound_step, sound_length, sound_clauses}
+use Rattle.rule_file.proofs.RoundTrip.{header-length}
+use Rattle.rule_file.proofs.Sizes.{sound_step, sound_length, sound_clauses}
 use Rattle.rule_file.specs.Written.{separator, body, header_text, written}
 use Rattle.program_rewrite_text.specs.Printed.{longest}
 

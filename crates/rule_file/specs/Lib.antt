@@ -1,10 +1,7 @@
 pub mod Accepted
 pub mod Class
 pub mod Format
-pub mod Laws
 pub mod RoundTrip
-pub mod Sizes
-pub mod Stored
 pub mod TokenLaws
 pub mod Tokens
 pub mod Written

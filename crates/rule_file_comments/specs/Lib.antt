@@ -4,6 +4,3 @@ pub mod Headers
 pub mod Lines
 pub mod Moved
 pub mod Preface
-pub mod Shifted
-pub mod Skipped
-pub mod Text

@@ -8,7 +8,7 @@ use Rattle.rule_file.specs.Class.{letter_c, class_of}
 use Rattle.rule_file.specs.Format.{past_comments, preamble, starts_with, before, beyond, Header, header, numbered}
 use Rattle.rule_file_header.specs.declared.ReadHeader as D
 use Rattle.rule_file_header.specs.Header.{header_as}
-use Rattle.rule_file.specs.Laws.{run_inside, run_take}
+use Rattle.rule_file.proofs.Laws.{run_inside, run_take}
 
 -- comment lines: a line that begins with c, one that does not, a byte inside, a line feed, the end
 module _ (s : List ℕ) (i : ℕ) (h : i < length s) where

@@ -20,9 +20,10 @@ use Rattle.limits.specs.Limits.{max_variables, max_clauses}
 use Rattle.rule_list.specs.Laws.{scan}
 use Rattle.rule_list.specs.Sound.{Scan}
 use Rattle.rule_list.specs.Stamps.{slots, Stamped, stamped_none, stamped_closed, stamped_joined}
-use Rattle.rule_file.specs.Accepted.{Next, good_next, first_good}
+use Rattle.rule_file.specs.Accepted.{Next}
+use Rattle.rule_file.proofs.Accepted.{good_next, first_good}
 use Rattle.rule_file.specs.Format.{signed, element, repeats, past, bad_token, bad_tokens, stored, rules_of}
-use Rattle.rule_file.specs.Stored.{stamp_repeats, repeat_dropped, zero-stored, literal-stored}
+use Rattle.rule_file.proofs.Stored.{stamp_repeats, repeat_dropped, zero-stored, literal-stored}
 use Rattle.rule_file.specs.Tokens.{Token, tokens_from}
 use Rattle.rule_file_tokens.specs.declared.NextToken as T
 use Rattle.rule_file_tokens.specs.Laws.{Good, token_end, token_bad, token_good, token_numbers, number-held}

@@ -16,7 +16,7 @@ use Rattle.rule_list.specs.Laws.{scan}
 use Rattle.rule_list.specs.Sound.{Scan, unread, unclosed}
 use Rattle.rule_list.specs.Stamps.{slots, Stamped, stamped_none, stamped_closed, stamped_joined}
 use Rattle.rule_file.specs.Format.{element, repeats, past, bad_tokens, stored, rules_of}
-use Rattle.rule_file.specs.Stored.{stamp_repeats, repeat_dropped, zero-stored, literal-stored}
+use Rattle.rule_file.proofs.Stored.{stamp_repeats, repeat_dropped, zero-stored, literal-stored}
 use Rattle.rule_file.specs.Tokens.{Token, tokens_from}
 use Rattle.rule_file_tokens.specs.declared.NextToken as T
 use Rattle.rule_file_tokens.specs.Laws.{Good, token_end, token_bad, token_good, token_numbers}

@@ -8,9 +8,10 @@ use Rattle.std.proofs.lemmas.Int.{to_z-of_z}
 use Rattle.decimal.specs.Decimal.{number}
 use Rattle.decimal.specs.Laws.{number_small}
 use Rattle.rule_file.specs.Class.{minus, class_of}
-use Rattle.rule_file.specs.Laws.{run_take, run_inside}
+use Rattle.rule_file.proofs.Laws.{run_take, run_inside}
 use Rattle.rule_file.specs.Format.{positive, negative, signed, element}
-use Rattle.rule_file.specs.TokenLaws.{First, Shaped, shaped}
+use Rattle.rule_file.specs.TokenLaws.{First, Shaped}
+use Rattle.rule_file.proofs.TokenLaws.{shaped}
 use Rattle.rule_file.specs.Tokens.{leading, in_token, Token, tokens_from}
 use Rattle.rule_file_tokens.specs.declared.NextToken as T
 use Rattle.rule_file_tokens.specs.declared.signed.Signed as L

@@ -5,11 +5,13 @@ use Rattle.std.proofs.Math.Option.{Option, none, some, map, some-injective, none
 use Rattle.formula.specs.Formula.{clauses}
 use Rattle.wish.specs.Wish.{free_byte}
 use Rattle.distance.specs.Distance.{disagreement, nearest, first_nearest}
-use Rattle.choices.specs.Choices.{Model, nearest_none}
-use Rattle.choices.specs.Order.{FirstNearest, first_nearest_lem, first_count}
+use Rattle.choices.specs.Choices.{Model}
+use Rattle.choices.proofs.Choices.{nearest_none}
+use Rattle.choices.specs.Order.{FirstNearest}
+use Rattle.choices.proofs.Order.{first_nearest_lem, first_count}
 use Rattle.rule_list.specs.Sound.{SoundList}
 use Rattle.walk.specs.Promises.{ModelWithin}
-use Rattle.walk.specs.Theorems.{walk_sound, walk_none, plain_none}
+use Rattle.walk.proofs.Theorems.{walk_sound, walk_none, plain_none}
 use Rattle.walk.specs.Walk.{Answer, walk, plain_walk}
 use Rattle.search_meaning.specs.Fits.{sound_fits}
 use Rattle.search_meaning.specs.Searches.{broken_by, with_broken, nearest_answer}

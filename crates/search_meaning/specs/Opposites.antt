@@ -7,8 +7,8 @@ use Rattle.literal.specs.Literal.{variable}
 use Rattle.formula.specs.Formula.{all, clauses, satisfied}
 use Rattle.rule_list.specs.Sound.{SoundList}
 use Rattle.choices.specs.Choices.{Choice}
-use Rattle.choices.specs.Lists.{all_at}
-use Rattle.choices.specs.Opposites.{opposites_met}
+use Rattle.choices.proofs.Lists.{all_at}
+use Rattle.choices.proofs.Opposites.{opposites_met}
 use Rattle.walk.specs.State.{has_variable}
 use Rattle.search_meaning.specs.Fits.{sound_fits}
 

@@ -5,7 +5,7 @@ use Rattle.std.proofs.Math.Option.{Option, none, map}
 use Rattle.formula.specs.Formula.{clauses}
 use Rattle.distance.specs.Distance.{disagreement, nearest}
 use Rattle.choices.specs.Choices.{Model}
-use Rattle.choices.specs.Order.{first_count, twins}
+use Rattle.choices.proofs.Order.{first_count, twins}
 use Rattle.refusal_causes.specs.Lent.{refusal_of}
 use Rattle.search_meaning.specs.Searches.{found, with_broken, choice_after, lent_to_search, nearest_reply, nearest_choice}
 

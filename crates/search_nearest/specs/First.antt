@@ -6,11 +6,12 @@ use Rattle.formula.specs.Formula.{clauses}
 use Rattle.wish.specs.Wish.{total_weight}
 use Rattle.distance.specs.Distance.{disagreement, first_within, nearest}
 use Rattle.distance.specs.Laws.{disagreement-most}
-use Rattle.choices.specs.Choices.{Model, nearest_none, nearest-some}
-use Rattle.choices.specs.Order.{first_at}
+use Rattle.choices.specs.Choices.{Model}
+use Rattle.choices.proofs.Choices.{nearest_none, nearest-some}
+use Rattle.choices.proofs.Order.{first_at}
 use Rattle.rule_list.specs.Sound.{SoundList}
 use Rattle.walk.specs.Promises.{ModelWithin}
-use Rattle.walk.specs.Theorems.{walk_sound, walk_none}
+use Rattle.walk.proofs.Theorems.{walk_sound, walk_none}
 use Rattle.walk.specs.Walk.{Answer, walk}
 use Rattle.search_meaning.specs.Fits.{sound_fits}
 use Rattle.search_meaning.specs.Meaning.{nearest_is}

@@ -11,7 +11,8 @@ use Rattle.walk_propagation.specs.Assigned.{AssignedTo, assigned_searching, assi
 use Rattle.walk_propagation.specs.Looked.{pending}
 use Rattle.walk_propagation.specs.Searching.{Searching, not_all, searching_kept}
 use Rattle.walk_propagation.specs.Trail.{undone, slice-stored, Grown}
-use Rattle.walk_unit_queue.specs.Theorems.{Covers, fork_covers}
+use Rattle.walk_unit_queue.specs.Theorems.{Covers}
+use Rattle.walk_unit_queue.proofs.Theorems.{fork_covers}
 use Rattle.search_state.specs.declared.result.Tried.{Tried}
 use Rattle.search_state.specs.declared.result.Tried.TheVariants.{Found, Nothing}
 use Rattle.search_state.specs.Result.{clip, with_forks}

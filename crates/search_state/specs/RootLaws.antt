@@ -4,7 +4,7 @@ use Rattle.std.proofs.Common.{sym, ap, ap₂, subst, ◌∙◌, arith}
 use Rattle.formula.specs.Formula.{clauses}
 use Rattle.distance.specs.Distance.{disagreement}
 use Rattle.wish.specs.Laws.{cost-unassigned}
-use Rattle.walk.specs.Correctness.{start_state, start-unassigned}
+use Rattle.walk.proofs.Correctness.{start_state, start-unassigned}
 use Rattle.walk.specs.State.{fits}
 use Rattle.walk.specs.Walk.{Outcome, is_dead_end}
 use Rattle.rule_list.specs.Sound.{SoundList}
@@ -12,7 +12,7 @@ use Rattle.search_meaning.specs.Fits.{sound_fits}
 use Rattle.walk_tally.specs.declared.Tally.{Tally}
 use Rattle.walk_unit_queue.specs.Due.{NoneDue}
 use Rattle.walk_unit_queue.specs.Queue.{settle}
-use Rattle.walk_unit_queue.specs.Theorems.{settle_alike, settled_none_due}
+use Rattle.walk_unit_queue.proofs.Theorems.{settle_alike, settled_none_due}
 use Rattle.walk_propagation.specs.declared.propagated.Propagated.{Propagated}
 use Rattle.walk_propagation.specs.declared.propagated.Propagated.TheVariants.{Settled}
 use Rattle.walk_propagation.specs.Looked.{ComesTo}

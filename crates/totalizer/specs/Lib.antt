@@ -1,12 +1,5 @@
-pub mod Choice
-pub mod Completion
 pub mod Counters
-pub mod Example
-pub mod Formed
 pub mod Meaning
-pub mod Rewritten
 pub mod Rows
-pub mod Sizes
-pub mod Theorems
 pub mod Totalizer
 pub mod Trees

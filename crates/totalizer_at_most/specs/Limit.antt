@@ -7,8 +7,8 @@ use Rattle.rule_list_soundness.specs.Flat.{flat}
 use Rattle.rule_list_soundness.specs.Laws.{length-flat, flat_append}
 use Rattle.writing.specs.Wrote.{Wrote, wrote_as}
 use Rattle.totalizer.specs.Totalizer.{tree, size, added, output, totalizer, limit, at_most}
-use Rattle.totalizer.specs.Trees.{tree-size}
-use Rattle.totalizer.specs.Sizes.{totalizer-length, totalizer-literals}
+use Rattle.totalizer.proofs.Trees.{tree-size}
+use Rattle.totalizer.proofs.Sizes.{totalizer-length, totalizer-literals}
 use Rattle.totalizer_adder.specs.Adder.{outputs, reach}
 use Rattle.totalizer_adder.specs.Laws.{room_first, room_next, wrote_both}
 use Rattle.totalizer_groups.specs.declared.Group.{Group}

@@ -16,7 +16,7 @@ use Rattle.refusal_causes.specs.Outputs as outputs
 use Rattle.limits.specs.Limits.{max_wishes}
 use Rattle.refusal_causes.specs.Admitted.{Admitted, admitted}
 use Rattle.totalizer.specs.Totalizer.{leaves, rewritten_variables, rewritten}
-use Rattle.totalizer.specs.Rows.{leaves-length}
+use Rattle.totalizer.proofs.Rows.{leaves-length}
 use Rattle.totalizer_encoding.specs.Rewrite.{rewrite_reply, rewrite_output}
 
 module _ (n : ℕ) (rules : List ℤ) (row : List ℕ) (d : ℕ) where

@@ -12,8 +12,8 @@ use Rattle.rule_list_soundness.specs.Flat.{flat}
 use Rattle.writing.specs.Wrote.{Wrote, wrote_as, wrote_more, wrote_length, wrote_whole, wrote_front}
 use Rattle.totalizer.specs.Totalizer.{leaves, tree, added, at_most, rewritten_variables, rewritten}
 use Rattle.totalizer.specs.Trees as trees
-use Rattle.totalizer.specs.Rows.{leaves-length, leaves-within}
-use Rattle.totalizer.specs.Sizes.{added-most}
+use Rattle.totalizer.proofs.Rows.{leaves-length, leaves-within}
+use Rattle.totalizer.proofs.Sizes.{added-most}
 use Rattle.totalizer_groups.specs.Groups.{LeavesFit}
 use Rattle.totalizer_encoding.specs.Causes.{few_leaves}
 

@@ -7,8 +7,8 @@ use Rattle.limits.specs.Limits.{max_variables, max_wishes}
 use Rattle.rule_list_soundness.specs.Flat.{flat}
 use Rattle.writing.specs.Wrote.{Wrote, wrote_none, wrote_as}
 use Rattle.totalizer.specs.Totalizer.{Tree, leaf, node, tree, size, added, output, adder, totalizer}
-use Rattle.totalizer.specs.Trees.{tree_split, tree-size}
-use Rattle.totalizer.specs.Sizes.{added-most}
+use Rattle.totalizer.proofs.Trees.{tree_split, tree-size}
+use Rattle.totalizer.proofs.Sizes.{added-most}
 use Rattle.totalizer_adder.specs.declared.outputs.Outputs.{Outputs}
 use Rattle.totalizer_adder.specs.declared.outputs.Outputs.TheVariants.{Leaf, Counters}
 use Rattle.totalizer_adder.specs.Adder.{Small, outputs, reach, clauses}

@@ -3,7 +3,7 @@ use Rattle.std.specs.Prelude.{◌≡◌, List, ℕ, ◌+◌, ◌≤◌, ◌<◌,
 use Rattle.std.proofs.Common.{sym, ap, ◌∙◌, arith, length-set, get_or-set_same, get_or-set_other, ext_get_or}
 use Rattle.std.proofs.Math.Decide.{ℕ_discrete}
 use Rattle.walk.specs.Walk.{complete, complete_byte}
-use Rattle.walk.specs.Completion.{complete-length, complete_at}
+use Rattle.walk.proofs.Completion.{complete-length, complete_at}
 
 -- the bytes before index i are those of the completion of a, and the others are those of a
 pub record Filling (row a now : List ℕ) (i : ℕ) : Type 0 where

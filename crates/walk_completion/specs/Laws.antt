@@ -4,7 +4,7 @@ use Rattle.std.proofs.Common.{sym, ap₂, ◌∙◌, arith}
 use Rattle.literal.specs.Literal.{value}
 use Rattle.literal.specs.Laws.{get_or_inside, value_at, value_past}
 use Rattle.walk.specs.Walk.{complete, complete_byte}
-use Rattle.walk.specs.Completion.{complete-length, complete_at}
+use Rattle.walk.proofs.Completion.{complete-length, complete_at}
 
 pub completed_at : (row a : List ℕ) (v : ℕ) → 0 < v → v - 1 < length a → value (complete row a) v ≡ complete_byte (value row v) (get_or a (v - 1) 0)
 completed_at row a v h l =

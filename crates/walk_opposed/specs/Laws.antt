@@ -5,7 +5,8 @@ use Rattle.std.proofs.Math.Option.{Option, none, some, map}
 use Rattle.formula.specs.Formula.{any, clauses}
 use Rattle.walk.specs.State.{unassigned_in}
 use Rattle.walk.specs.Branching.{is_opposed, shorter, shorter_of, shortest, fewest}
-use Rattle.walk.specs.BranchingLaws.{fewer, fewest_opposed, fewest-other, IsFewest, fewest_is, fewest_member}
+use Rattle.walk.specs.BranchingLaws.{fewer, IsFewest}
+use Rattle.walk.proofs.BranchingLaws.{fewest_opposed, fewest-other, fewest_is, fewest_member}
 use Rattle.walk_opposed.specs.Opposed.{some_opposed, NoneShort}
 
 -- the shorter of three clauses is the same from either side

@@ -14,7 +14,7 @@ use Rattle.rule_list.specs.Sound.{SoundList}
 use Rattle.rule_list_soundness.specs.Flat.{joining}
 use Rattle.rule_list_soundness.specs.Laws.{Joined, joined, all_weaken}
 use Rattle.rule_list_soundness.specs.Soundness.{sound}
-use Rattle.choices.specs.Lists.{any_false}
+use Rattle.choices.proofs.Lists.{any_false}
 use Rattle.walk.specs.State.{is_unset, has_variable}
 use Rattle.walk.specs.Branching.{fewest, offers, is_candidate, clause_weight, weight_of, score_of, score, better, best, branching_variable}
 use Rattle.walk_weighing.specs.Weights.{weight_at, weights_of, marks_of, distinct, is_clean, WeighableList, Totals}

@@ -7,11 +7,11 @@ use Rattle.distance.specs.Distance.{disagreement}
 use Rattle.walk_opposed.specs.Laws.{any_opposed}
 use Rattle.walk_opposed.specs.Opposed.{some_opposed}
 use Rattle.walk.specs.Branching.{is_opposed, fewest, branching_variable}
-use Rattle.walk.specs.BranchingLaws.{branching_sound}
+use Rattle.walk.proofs.BranchingLaws.{branching_sound}
 use Rattle.walk.specs.Promises.{Branches}
 use Rattle.walk.specs.State.{State}
 use Rattle.walk.specs.Walk.{Outcome, dead_end, is_dead_end, complete, is_exhausted, first_value, fork, fork_on, decide}
-use Rattle.walk.specs.WalkLaws.{first_bit}
+use Rattle.walk.proofs.WalkLaws.{first_bit}
 use Rattle.walk_pick.specs.declared.Decision.{Decision}
 use Rattle.walk_pick.specs.declared.Pick.{Pick}
 use Rattle.walk_pick.specs.declared.Pick.TheVariants.{DeadEnd, Branch}

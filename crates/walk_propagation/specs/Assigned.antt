@@ -3,7 +3,7 @@ use Rattle.std.specs.Prelude.{◌≡◌, List, ℕ, suc, ◌+◌, ◌≤◌, ◌
 use Rattle.std.proofs.Common.{arith}
 use Rattle.literal.specs.Literal.{value}
 use Rattle.wish.specs.Wish.{cost}
-use Rattle.walk.specs.Assignment.{assign-fewer}
+use Rattle.walk.proofs.Assignment.{assign-fewer}
 use Rattle.walk.specs.State.{unassigned, assign}
 use Rattle.walk_tally.specs.declared.Tally.{Tally}
 use Rattle.walk_propagation.specs.Searching.{Searching, assigned, not_all}

@@ -8,10 +8,10 @@ use Rattle.literal.specs.Literal.{variable, wanted, value}
 use Rattle.literal.specs.Slots.{wanted_bit}
 use Rattle.formula.specs.Formula.{clauses}
 use Rattle.distance.specs.Distance.{disagreement}
-use Rattle.choices.specs.Lists.{member_at}
+use Rattle.choices.proofs.Lists.{member_at}
 use Rattle.limits.specs.Limits.{max_variables}
-use Rattle.walk.specs.Counting.{find_member}
-use Rattle.walk.specs.Fits.{fits_at}
+use Rattle.walk.proofs.Counting.{find_member}
+use Rattle.walk.proofs.Fits.{fits_at}
 use Rattle.walk.specs.State.{find, satisfy, is_unassigned, is_unit, is_falsified, fits}
 use Rattle.walk_occurrences.specs.Layout.{begins_of}
 use Rattle.walk_occurrences.specs.Table.{Located, Beside}

@@ -4,13 +4,13 @@ use Rattle.std.proofs.Common.{sym, ap, ◌∙◌, add-one, arith, drop_of_length
 use Rattle.std.proofs.Math.Option.{Option, some}
 use Rattle.std.proofs.Math.Seq.{slice, slice_empty, slice-cons, length-slice}
 use Rattle.formula.specs.Formula.{clauses}
-use Rattle.choices.specs.Lists.{member_at}
+use Rattle.choices.proofs.Lists.{member_at}
 use Rattle.walk.specs.State.{unassigned}
 use Rattle.walk_occurrences.specs.Occurrences.{occurrences, filled_clauses, empty_clauses}
 use Rattle.walk_occurrences.specs.Layout.{numbers_of, part_at}
-use Rattle.walk_occurrences.specs.Reading.{part_holding, every_clause}
+use Rattle.walk_occurrences.proofs.Reading.{part_holding, every_clause}
 use Rattle.walk_occurrences.specs.Table.{Beside}
-use Rattle.walk_unit_queue.specs.Numbers.{every_inside, occurrences_inside}
+use Rattle.walk_unit_queue.proofs.Numbers.{every_inside, occurrences_inside}
 use Rattle.walk_unit_queue.specs.Queue.{Pending, and_then, look, look_at, false_in, take_first, drain_by, drain}
 use Rattle.walk_tally.specs.declared.Tally.{Tally}
 use Rattle.walk_propagation.specs.Looked.{pending, Moved, moved_none, moved_more, LookedBy, ComesTo}

@@ -6,9 +6,9 @@ use Rattle.literal.specs.Literal.{value}
 use Rattle.wish.specs.Wish.{max_weight, cost}
 use Rattle.wish.specs.Laws.{cost-most}
 use Rattle.distance.specs.Distance.{disagreement}
-use Rattle.walk.specs.Extension.{keeps_value}
+use Rattle.walk.proofs.Extension.{keeps_value}
 use Rattle.walk.specs.State.{State, unassigned, assign}
-use Rattle.walk.specs.Assignment.{assign_state, assign-fewer, assign-cost, assign_value, assign_extends}
+use Rattle.walk.proofs.Assignment.{assign_state, assign-fewer, assign-cost, assign_value, assign_extends}
 
 -- a variable of 1 to n that has a value
 pub record Assigned (n : ℕ) (a : List ℕ) (v : ℕ) : Type 0 where

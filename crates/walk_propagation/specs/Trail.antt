@@ -4,7 +4,7 @@ use Rattle.std.proofs.Common.{sym, ap, ◌∙◌, add-one, arith, length-set, le
 use Rattle.std.proofs.Math.Seq.{slice, slice_empty}
 use Rattle.std.proofs.lemmas.List.{set-get_or, take-set-le, drop-append-le}
 use Rattle.literal.specs.Literal.{value}
-use Rattle.walk.specs.Assignment.{assign-set}
+use Rattle.walk.proofs.Assignment.{assign-set}
 use Rattle.walk.specs.State.{assign}
 
 -- the state a without the values of the variables vs

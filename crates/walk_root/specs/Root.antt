@@ -6,13 +6,13 @@ use Rattle.literal.specs.Literal.{value}
 use Rattle.formula.specs.Formula.{clauses}
 use Rattle.rule_list.specs.Sound.{SoundList}
 use Rattle.search_meaning.specs.Fits.{sound_fits}
-use Rattle.choices.specs.Lists.{member_at, member_index}
-use Rattle.walk.specs.Correctness.{start_state}
+use Rattle.choices.proofs.Lists.{member_at, member_index}
+use Rattle.walk.proofs.Correctness.{start_state}
 use Rattle.walk.specs.Propagation.{propagate}
-use Rattle.walk.specs.PropagationLaws.{propagate_state, propagate-done, propagate_quiet}
+use Rattle.walk.proofs.PropagationLaws.{propagate_state, propagate-done, propagate_quiet}
 use Rattle.walk.specs.State.{fits}
 use Rattle.walk.specs.Walk.{Outcome, dead_end, decide, walk_from, walk}
-use Rattle.walk.specs.WalkLaws.{walk_step, decide_dead}
+use Rattle.walk.proofs.WalkLaws.{walk_step, decide_dead}
 use Rattle.walk_tally.specs.declared.Tally.{Tally}
 use Rattle.walk_propagation.specs.Looked.{pending}
 use Rattle.walk_propagation.specs.Searching.{Searching, settled_most}

@@ -4,14 +4,14 @@ use Rattle.std.proofs.Common.{sym, ap, ◌∙◌, arith}
 use Rattle.std.proofs.Math.Seq.{slice}
 use Rattle.formula.specs.Formula.{models}
 use Rattle.walk_opposed.specs.Opposed.{NoneShort}
-use Rattle.walk.specs.BranchingLaws.{opposed_open}
-use Rattle.walk.specs.Completion.{complete-cost}
+use Rattle.walk.proofs.BranchingLaws.{opposed_open}
+use Rattle.walk.proofs.Completion.{complete-cost}
 use Rattle.walk.specs.Promises.{Branches}
 use Rattle.walk.specs.Propagation.{propagate}
-use Rattle.walk.specs.PropagationLaws.{propagate-fewer}
+use Rattle.walk.proofs.PropagationLaws.{propagate-fewer}
 use Rattle.walk.specs.State.{fits, unassigned, unassigned_in}
 use Rattle.walk.specs.Walk.{Outcome, dead_end, complete, completed, decide, fork, walk_from, is_dead_end}
-use Rattle.walk.specs.WalkLaws.{walk_step, decide_dead, decide-complete}
+use Rattle.walk.proofs.WalkLaws.{walk_step, decide_dead, decide-complete}
 use Rattle.walk_pick.specs.declared.Decision.{Decision}
 use Rattle.walk_pick.specs.declared.Pick.TheVariants.{DeadEnd, Branch}
 use Rattle.walk_pick.specs.Pick.{pick_of, pick_none, pick_fork}
@@ -21,7 +21,7 @@ use Rattle.walk_propagation.specs.Looked.{Moved}
 use Rattle.walk_propagation.specs.Propagated.{PropagatedBy}
 use Rattle.walk_propagation.specs.Searching.{Searching}
 use Rattle.walk_propagation.specs.Trail.{undone}
-use Rattle.walk_unit_queue.specs.Theorems.{settled_none_due}
+use Rattle.walk_unit_queue.proofs.Theorems.{settled_none_due}
 use Rattle.search_state.specs.declared.result.Tried.{Tried}
 use Rattle.search_state.specs.declared.result.Tried.TheVariants.{Found, Nothing}
 use Rattle.search_state.specs.Result.{clip}

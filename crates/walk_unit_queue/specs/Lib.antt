@@ -1,6 +1,4 @@
 pub mod Due
-pub mod Numbers
-pub mod Order
 pub mod Queue
 pub mod Reached
 pub mod Steps

@@ -8,15 +8,17 @@ use Rattle.literal.specs.Literal.{variable, wanted, value, holds}
 use Rattle.literal.specs.Slots.{wanted_bit}
 use Rattle.formula.specs.Formula.{any, contains, satisfied}
 use Rattle.distance.specs.Distance.{disagreement}
-use Rattle.choices.specs.Lists.{member_at, any_at}
+use Rattle.choices.proofs.Lists.{member_at, any_at}
 use Rattle.walk.specs.State.{State, find, unassigned, satisfy, is_unassigned, is_unit, is_falsified, fits}
-use Rattle.walk.specs.PropagationLaws.{unit_one}
+use Rattle.walk.proofs.PropagationLaws.{unit_one}
 use Rattle.walk.specs.Walk.{is_dead_end}
-use Rattle.walk.specs.Extension.{keeps_value}
-use Rattle.walk.specs.Counting.{find_member, find-some}
-use Rattle.walk.specs.Assignment.{assign-fewer, assign_value, satisfy_extends, satisfy_state}
-use Rattle.walk_unit_queue.specs.Steps.{UnitOf, Steps, unit_free, unit_inside, steps_more}
-use Rattle.walk_unit_queue.specs.Due.{Due, not_due, due_later}
+use Rattle.walk.proofs.Extension.{keeps_value}
+use Rattle.walk.proofs.Counting.{find_member, find-some}
+use Rattle.walk.proofs.Assignment.{assign-fewer, assign_value, satisfy_extends, satisfy_state}
+use Rattle.walk_unit_queue.specs.Steps.{UnitOf, Steps}
+use Rattle.walk_unit_queue.proofs.Steps.{unit_free, unit_inside, steps_more}
+use Rattle.walk_unit_queue.specs.Due.{Due}
+use Rattle.walk_unit_queue.proofs.Due.{not_due, due_later}
 use Rattle.walk_unit_queue.specs.Queue.{Pending, and_then, make_hold, look, look_at}
 
 -- the clause c holds the false literal of a variable of the queue

@@ -6,11 +6,12 @@ use Rattle.literal.specs.Literal.{variable, wanted, value, closes, holds}
 use Rattle.literal.specs.Slots.{wanted_bit}
 use Rattle.formula.specs.Formula.{clauses, clause_length, satisfied}
 use Rattle.formula.specs.Laws.{length-literal, end_inside}
-use Rattle.choices.specs.Lists.{member_at, any_at}
+use Rattle.choices.proofs.Lists.{member_at, any_at}
 use Rattle.walk_clause_standing.specs.Clause.{clause_at}
 use Rattle.walk_occurrences.specs.Layout.{begins_of}
-use Rattle.walk_occurrences.specs.Reading.{beside_located, count_read}
-use Rattle.walk_occurrences.specs.Table.{Located, Beside, begins_inside, begins_clause}
+use Rattle.walk_occurrences.proofs.Reading.{beside_located, count_read}
+use Rattle.walk_occurrences.specs.Table.{Located, Beside}
+use Rattle.walk_occurrences.proofs.Table.{begins_inside, begins_clause}
 use Rattle.walk_witnesses.specs.Witnesses.{Witnesses}
 
 -- a literal of the clause that begins at `from`, which stands at an index of the list

@@ -1,8 +1,5 @@
 -- Document 01's examples of wish files.
-use Rattle.std.specs.Prelude.{◌≡◌, refl, List, [], ◌∷◌, ◌++◌, ℕ}
-use Rattle.refusal.specs.Reply.{refusal}
-use Rattle.decimal.specs.Decimal.{digits, decimal}
-use Rattle.wish_file.specs.Format.{written, reading, refuses, gives}
+use Rattle.std.specs.Prelude.{List, [], ◌∷◌, ◌++◌, ℕ}
 
 -- `    2    2    1`, `    1    0` and `    2    0`
 abbrev pub both_off : List ℕ
@@ -10,14 +7,3 @@ both_off =
     (32 ∷ 32 ∷ 32 ∷ 32 ∷ 50 ∷ 32 ∷ 32 ∷ 32 ∷ 32 ∷ 50 ∷ 32 ∷ 32 ∷ 32 ∷ 32 ∷ 49 ∷ 10 ∷ [])
     ++ (32 ∷ 32 ∷ 32 ∷ 32 ∷ 49 ∷ 32 ∷ 32 ∷ 32 ∷ 32 ∷ 48 ∷ 10 ∷ [])
     ++ (32 ∷ 32 ∷ 32 ∷ 32 ∷ 50 ∷ 32 ∷ 32 ∷ 32 ∷ 32 ∷ 48 ∷ 10 ∷ [])
-
-pub both_read : reading both_off ≡ gives 2 2 1 (0 ∷ 0 ∷ [])
-both_read = refl
-
-pub both_written : written 2 (0 ∷ 0 ∷ []) 1 ≡ both_off
-unfolding digits decimal
-both_written = refl
-
--- a byte after the last line
-pub extra_byte : reading (both_off ++ 32 ∷ []) ≡ refuses (refusal 8 38)
-extra_byte = refl

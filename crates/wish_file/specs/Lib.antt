@@ -1,5 +1,4 @@
 pub mod Examples
-pub mod Fill
 pub mod Format
 pub mod Layout
 pub mod LayoutLaws

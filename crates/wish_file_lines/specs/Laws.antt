@@ -6,7 +6,7 @@ use Rattle.std.proofs.Math.Option.{Option, none, some}
 use Rattle.decimal.specs.Decimal.{number}
 use Rattle.wish_file.specs.Format.{wish_columns, wish_of, wish_at}
 use Rattle.wish_file.specs.Layout.{column_width, line_size, past_spaces, column_number, joined, line_numbers}
-use Rattle.wish_file.specs.LayoutLaws.{joined_parts, line-written}
+use Rattle.wish_file.proofs.LayoutLaws.{joined_parts, line-written}
 use Rattle.wish_file_lines.specs.Lines.{present, is_line, field}
 
 -- a line has numbers

@@ -9,7 +9,7 @@ use Rattle.refusal.specs.Reply.{Reply, refusing, answering, too_short}
 use Rattle.wish.specs.Wish.{free_byte, wish_for}
 use Rattle.wish_file.specs.Format.{header_columns, wish_columns, wish_of, wish_at, wishes_in, refuses, gives, reading}
 use Rattle.wish_file.specs.Layout.{column_width, line_size, line_numbers}
-use Rattle.wish_file.specs.RoundTrip.{accepted_parts, accepted, lines_written}
+use Rattle.wish_file.proofs.RoundTrip.{accepted_parts, accepted, lines_written}
 use Rattle.wish_file.specs.Wishes.{Wish, marked, Rising, byte_of}
 use Rattle.wish_file_lines.specs.Laws.{wish_fields}
 use Rattle.wish_file_lines.specs.Lines.{present, is_line, field}

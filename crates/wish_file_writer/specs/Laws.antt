@@ -7,8 +7,8 @@ use Rattle.wish.specs.Wish.{wish_count}
 use Rattle.wish.specs.RowLaws.{count_most}
 use Rattle.wish_file.specs.Format.{written, file_size, wish_lines}
 use Rattle.wish_file.specs.Layout.{line}
-use Rattle.wish_file.specs.LayoutLaws.{line-length}
-use Rattle.wish_file.specs.RoundTrip.{written-length}
+use Rattle.wish_file.proofs.LayoutLaws.{line-length}
+use Rattle.wish_file.proofs.RoundTrip.{written-length}
 use Rattle.wish_file.specs.Wishes.{wish_list}
 
 -- the file in its two parts

@@ -16,7 +16,7 @@ use Rattle.refusal_causes.specs.Admitted.{none_applies}
 use Rattle.refusal_causes.specs.Lent.{Lent, exported_problem}
 use Rattle.refusal_causes.specs.Texts.{refused_late, answered}
 use Rattle.admission_steps.specs.declared.Counts.{Counts}
-use Rattle.rule_file.specs.Sizes.{sound_length}
+use Rattle.rule_file.proofs.Sizes.{sound_length}
 use Rattle.opb_format.specs.Opb.{header_text, opb_of}
 use Rattle.opb_writer.specs.Parts.{head, file_parts, file_size_lem}
 use Rattle.opb_writer.proofs.write_admitted.Goals as goal

@@ -10,7 +10,7 @@ use Rattle.rule_file.specs.Tokens.{tokens_from}
 use Rattle.rule_file_tokens.specs.declared.NextToken as T
 use Rattle.rule_file_tokens.specs.Laws.{number-held}
 use Rattle.rule_file_tokens.specs.NextToken.{next_of}
-use Rattle.program_empty_rule.specs.Laws.{later, closes-filled, fills}
+use Rattle.program_empty_rule.proofs.Laws.{later, closes-filled, fills}
 use Rattle.program_empty_rule.proofs.empty_from.Goals as goal
 
 -- A turn with a number: the file, where the turn began, the number's place and value, and the offset past it.

@@ -1,6 +1,6 @@
 -- `program_empty_rule::find_empty` meets its contract: where the header should be, or as `empty_from` answers.
 use mathlib.Core.Path.{sym, ◌∙◌}
-use Rattle.program_empty_rule.specs.Laws.{header_missing, header_found}
+use Rattle.program_empty_rule.proofs.Laws.{header_missing, header_found}
 use Rattle.program_empty_rule.proofs.find_empty.Goals as goal
 
 pub returns-in-Malformed : goal.returns-in-Malformed

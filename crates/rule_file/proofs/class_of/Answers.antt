@@ -8,7 +8,7 @@ use lib.Dec.{eqb}
 use borrow.Author.Tests.{eqb-true, eqb-false, le-leb, lt-leb, ne_eqb}
 use Rattle.decimal.specs.Decimal.{is_digit}
 use Rattle.rule_file.specs.Class.{blank, digit, other, class_of}
-use Rattle.rule_file.specs.Laws.{digit_class}
+use Rattle.rule_file.proofs.Laws.{digit_class}
 use Rattle.rule_file.proofs.class_of.Goals as goal
 
 -- where the byte is one number, the definition computes

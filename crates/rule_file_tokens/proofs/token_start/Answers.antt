@@ -5,7 +5,7 @@ use native.Mathlib.Omega.{arith}
 use lib.ListN.{length, get_or}
 use borrow.Author.Tests.{eq-eqb, ne_eqb}
 use Rattle.rule_file.specs.Class.{blank, class_of}
-use Rattle.rule_file.specs.TokenLaws.{token_begins, kept_outside, tokens-blank, tokens_comment, comment_some, tokens_here}
+use Rattle.rule_file.proofs.TokenLaws.{token_begins, kept_outside, tokens-blank, tokens_comment, comment_some, tokens_here}
 use Rattle.rule_file.specs.Tokens.{position_at, tokens_from}
 use Rattle.rule_file_tokens.specs.NextToken.{first_place}
 use Rattle.rule_file_tokens.proofs.token_start.Goals as goal

@@ -12,7 +12,7 @@ use Rattle.rule_file.specs.Written.{written}
 use Rattle.refusal_causes.specs.Admitted.{none_applies}
 use Rattle.refusal_causes.specs.Lent.{Lent, plain_problem}
 use Rattle.refusal_causes.specs.Texts.{answered}
-use Rattle.rule_file.specs.Sizes.{sound_length}
+use Rattle.rule_file.proofs.Sizes.{sound_length}
 use Rattle.rule_file_writer.specs.Writing.{written_parts, written-length}
 use borrow.Author.Rules.{rules}
 use Rattle.rule_file_writer.proofs.write_sound.Goals as goal

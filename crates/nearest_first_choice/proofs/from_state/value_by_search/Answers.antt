@@ -9,14 +9,15 @@ use lib.ListN.{length, take, drop, length-append}
 use lib.Seq.{length-take-le, take_at}
 use Rattle.formula.specs.Formula.{clauses}
 use Rattle.nearest_cores.specs.Search.{search_from}
-use Rattle.nearest_cores.specs.SearchRight.{Guides, search_right}
+use Rattle.nearest_cores.specs.SearchRight.{Guides}
+use Rattle.nearest_cores.proofs.SearchRight.{search_right}
 use Rattle.search_meaning.specs.Fits.{sound_fits}
 use Rattle.walk_unit_queue.specs.Due.{NoneDue}
 use Rattle.walk.specs.Correctness.{Right}
 use Rattle.walk.specs.Promises.{Branches}
 use Rattle.walk.specs.State.{assign}
 use Rattle.walk.specs.Walk.{Outcome}
-use Rattle.walk.specs.WalkLaws.{branch_state}
+use Rattle.walk.proofs.WalkLaws.{branch_state}
 use Rattle.walk_propagation.specs.Searching.{Searching}
 use Rattle.search_state.specs.declared.result.Tried.{Tried}
 use Rattle.search_state.specs.Copying.{copied_whole}

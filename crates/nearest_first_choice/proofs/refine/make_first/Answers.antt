@@ -5,7 +5,7 @@ use mathlib.Core.Option.{Option, none}
 use Prim.Native.Nat.{ℕ}
 use lib.ListN.{length}
 use borrow.Author.Rules.{rules}
-use Rattle.choices.specs.Order.{first_within_lem}
+use Rattle.choices.proofs.Order.{first_within_lem}
 use Rattle.search_meaning.specs.Searches.{with_broken, choice_after}
 use Rattle.nearest_first_choice.proofs.refine.make_first.Goals as goal
 

@@ -15,7 +15,7 @@ use Rattle.walk_propagation.specs.Looked.{pending, ComesTo}
 use Rattle.walk_propagation.specs.Propagated.{PropagatedBy, propagated_by}
 use Rattle.search_state.specs.Newest.{newest}
 use Rattle.walk_unit_queue.specs.Queue.{follow}
-use Rattle.walk_unit_queue.specs.Theorems.{follow_alike}
+use Rattle.walk_unit_queue.proofs.Theorems.{follow_alike}
 use Rattle.nearest_first_choice.proofs.settle.settle.Goals as goal
 
 -- after propagation: what it says of the state that it left

@@ -21,7 +21,7 @@ use Rattle.walk_propagation.specs.Looking.{following_moved}
 use Rattle.walk_propagation.specs.Propagated.{PropagatedBy, propagated_by}
 use Rattle.walk_propagation.specs.Searching.{Searching}
 use Rattle.walk_unit_queue.specs.Queue.{follow}
-use Rattle.walk_unit_queue.specs.Theorems.{follow_alike}
+use Rattle.walk_unit_queue.proofs.Theorems.{follow_alike}
 use Rattle.nearest_cores.specs.Cores.{is_left}
 use Rattle.nearest_cores.specs.Narrow.{keep_all}
 use Rattle.nearest_narrowing.specs.Keeping.{KeptTo}

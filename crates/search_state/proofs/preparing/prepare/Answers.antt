@@ -4,7 +4,7 @@ use mathlib.Core.List.{List}
 use Prim.Native.Nat.{ℕ}
 use native.Mathlib.Omega.{arith}
 use lib.ListN.{length}
-use Rattle.walk_occurrences.specs.LayoutLaws.{begins-length}
+use Rattle.walk_occurrences.proofs.LayoutLaws.{begins-length}
 use Rattle.search_state.specs.ReadyLaws.{prepared}
 use Rattle.search_state.proofs.preparing.prepare.Goals as goal
 

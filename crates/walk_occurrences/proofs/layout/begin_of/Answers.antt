@@ -5,7 +5,7 @@ use native.Mathlib.Omega.{arith}
 use lib.ListN.{length}
 use Rattle.limits.specs.Limits.{max_clauses}
 use Rattle.walk_occurrences.specs.Layout.{begins_at, begins_of}
-use Rattle.walk_occurrences.specs.LayoutLaws.{begins_there, begins_read}
+use Rattle.walk_occurrences.proofs.LayoutLaws.{begins_there, begins_read}
 use Rattle.walk_occurrences.proofs.layout.begin_of.Goals as goal
 
 -- how many clauses are before it

@@ -3,7 +3,7 @@ use mathlib.Core.Path.{ap}
 use Prim.Native.Nat.{ℕ, ◌+◌}
 use lib.ListN.{get_or}
 use Rattle.walk_occurrences.specs.Layout.{numbers_at}
-use Rattle.walk_occurrences.specs.LayoutLaws.{numbers_first}
+use Rattle.walk_occurrences.proofs.LayoutLaws.{numbers_first}
 use Rattle.walk_occurrences.proofs.layout.every_clause.Goals as goal
 
 pub returns : goal.returns

@@ -1,7 +1,7 @@
 -- `walk_occurrences::layout::part_of` meets its contract.
 use Prim.Native.Nat.{◌-◌}
 use lib.ListN.{get_or}
-use Rattle.walk_occurrences.specs.LayoutLaws.{numbers_part}
+use Rattle.walk_occurrences.proofs.LayoutLaws.{numbers_part}
 use Rattle.walk_occurrences.proofs.layout.part_of.Goals as goal
 
 pub returns : goal.returns

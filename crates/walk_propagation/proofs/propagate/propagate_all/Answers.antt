@@ -10,7 +10,7 @@ use lib.Seq.{slice_empty}
 use borrow.Author.Rules.{rules}
 use Rattle.formula.specs.Formula.{clauses}
 use Rattle.walk_occurrences.specs.Occurrences.{filled_clauses, empty_clauses}
-use Rattle.walk_occurrences.specs.Reading.{has_part, every_clause}
+use Rattle.walk_occurrences.proofs.Reading.{has_part, every_clause}
 use Rattle.walk_unit_queue.specs.Queue.{Pending, and_then, look_at, drain, settle}
 use Rattle.walk_propagation.specs.Looked.{pending, LookedBy, ComesTo}
 use Rattle.walk_propagation.specs.Loops.{every_numbers}

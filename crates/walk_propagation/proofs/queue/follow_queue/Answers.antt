@@ -8,7 +8,7 @@ use borrow.Author.Rules.{rules}
 use Rattle.literal.specs.Literal.{value}
 use Rattle.formula.specs.Formula.{clauses}
 use Rattle.walk_occurrences.specs.Layout.{HasPart, part_at}
-use Rattle.walk_occurrences.specs.Reading.{has_part, part_holding}
+use Rattle.walk_occurrences.proofs.Reading.{has_part, part_holding}
 use Rattle.walk_unit_queue.specs.Queue.{Pending, look_at, false_in}
 use Rattle.walk_propagation.specs.Looked.{pending, LookedBy}
 use Rattle.walk_propagation.specs.Looking.{looking_moved}

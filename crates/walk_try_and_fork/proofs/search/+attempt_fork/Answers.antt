@@ -16,7 +16,8 @@ use Rattle.walk_propagation.specs.Trail.{undone}
 use Rattle.search_meaning.specs.Fits.{sound_fits}
 use Rattle.walk_unit_queue.specs.Due.{NoneDue}
 use Rattle.walk_unit_queue.specs.Queue.{follow}
-use Rattle.walk_unit_queue.specs.Theorems.{Covers, follow_alike}
+use Rattle.walk_unit_queue.specs.Theorems.{Covers}
+use Rattle.walk_unit_queue.proofs.Theorems.{follow_alike}
 use Rattle.search_state.specs.declared.result.Tried.{Tried}
 use Rattle.search_state.specs.declared.result.Tried.TheVariants.{Found, Nothing}
 use Rattle.search_state.specs.ForkLaws as fork-laws

@@ -13,7 +13,7 @@ use Rattle.walk_clause_standing.specs.declared.ReadClause.{ReadClause}
 use Rattle.walk_clause_standing.specs.declared.ReadClause.TheVariants.{Satisfied, Open}
 use Rattle.walk_clause_standing.specs.Standing.{IsRead, HoldsAt, StandsOpen}
 use Rattle.walk_occurrences.specs.Layout.{begins_of}
-use Rattle.walk_occurrences.specs.Table.{begins_inside, begins_clause}
+use Rattle.walk_occurrences.proofs.Table.{begins_inside, begins_clause}
 use Rattle.walk_opposed.specs.Opposed.{size_of}
 use Rattle.walk.specs.Branching.{is_opposed}
 use Rattle.walk_witnesses.specs.Laws.{held_satisfies, new_witness}

@@ -3,7 +3,7 @@ use Prim.Native.Nat.{◌-◌}
 use native.Mathlib.Omega.{arith}
 use lib.ListN.{length-set}
 use Rattle.wish.specs.Wish.{free_byte}
-use Rattle.wish_file.specs.Fill.{fill_step, fill_done}
+use Rattle.wish_file.proofs.Fill.{fill_step, fill_done}
 use Rattle.wish_file_reader.specs.Laws.{filled_free}
 use Rattle.wish_file_reader.proofs.fill.free_row.Goals as goal
 

@@ -1,0 +1,4 @@
+pub mod Choices
+pub mod Lists
+pub mod Opposites
+pub mod Order

@@ -1,0 +1,5 @@
+pub mod Facts
+pub mod NarrowRight
+pub mod ScanRight
+pub mod SearchRight
+pub mod Taken

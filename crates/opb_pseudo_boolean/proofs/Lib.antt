@@ -1,0 +1,4 @@
+pub mod Differences
+pub mod Meaning
+pub mod Sums
+pub mod Variables

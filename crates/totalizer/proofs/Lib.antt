@@ -1,0 +1,11 @@
+pub mod Choice
+pub mod Completion
+pub mod Counters
+pub mod Example
+pub mod Formed
+pub mod Meaning
+pub mod Rewritten
+pub mod Rows
+pub mod Sizes
+pub mod Theorems
+pub mod Trees

@@ -1,0 +1,13 @@
+pub mod Assignment
+pub mod BranchingLaws
+pub mod Completion
+pub mod Correctness
+pub mod Counting
+pub mod Examples
+pub mod Extension
+pub mod Fits
+pub mod Induction
+pub mod Loops
+pub mod PropagationLaws
+pub mod Theorems
+pub mod WalkLaws

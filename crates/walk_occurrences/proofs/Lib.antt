@@ -1,0 +1,14 @@
+pub mod Arranging
+pub mod BeginsLaws
+pub mod Fillable
+pub mod Filling
+pub mod KeyLaws
+pub mod LayoutLaws
+pub mod Members
+pub mod Numbered
+pub mod Parts
+pub mod Reading
+pub mod Sorting
+pub mod Stages
+pub mod Table
+pub mod Theorems

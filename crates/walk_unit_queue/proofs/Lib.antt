@@ -1,0 +1,5 @@
+pub mod Due
+pub mod Numbers
+pub mod Order
+pub mod Steps
+pub mod Theorems
