@@ -14,8 +14,7 @@ use Rattle.refusal_causes.specs.Laws.{sound_weight}
 use Rattle.refusal_causes.specs.Admitted.{Admitted}
 use Rattle.refusal_causes.specs.Lent.{wished_problem}
 use Rattle.search_meaning.specs.Searches.{found}
-use Rattle.agreement.specs.Claim.{First, CountsUp}
-use Rattle.agreement.proofs.Claim.{Finds, FindsNone}
+use Rattle.agreement.specs.Claim.{Finds, FindsNone, First, CountsUp}
 use Rattle.agreement.specs.Decided.{Reached, Decided, yes, no}
 use Rattle.agreement.proofs.Decided.{plain_decides}
 use Rattle.agreement_second_route.specs.Routes.{Buffers, second_route, Answered}

@@ -1,6 +1,5 @@
 pub mod Agreement
 pub mod Causes
-pub mod Claim
 pub mod Completing
 pub mod Decided
 pub mod Example

@@ -5,3 +5,4 @@ pub mod NarrowRight
 pub mod ScanRight
 pub mod Search
 pub mod SearchRight
+pub mod Taken

@@ -25,7 +25,8 @@ use Rattle.walk_unit_queue.specs.Due.{Due, NoneDue}
 use Rattle.walk_unit_queue.proofs.Due.{not_due, due_unit, due_falsified, due_later}
 use Rattle.walk_unit_queue.proofs.Numbers.{every_number, every_inside, occurrences_inside}
 use Rattle.walk_unit_queue.specs.Queue.{Pending, and_then, look_at, false_in, take_first, drain_by, drain, follow, settle}
-use Rattle.walk_unit_queue.specs.Reached.{Held, Reached, DeadReached, Looked, looked_at}
+use Rattle.walk_unit_queue.specs.Reached.{Held, Reached, DeadReached, Looked}
+use Rattle.walk_unit_queue.proofs.Reached.{looked_at}
 use Rattle.walk_unit_queue.specs.Theorems.{Covers, EndsAlike}
 
 over_dead : (f : List (List ℤ)) (row : List ℕ) (d : ℕ) (a : List ℕ) → ltb d (disagreement row a) ≡ true → is_dead_end f row d a ≡ true
