@@ -19,7 +19,7 @@ use Rattle.walk_propagation.specs.Searching.{searching_kept, settled_most, undoa
 use Rattle.walk_propagation.specs.Trail.{undone, grown_undone}
 use Rattle.walk_propagation.specs.declared.propagated.Propagated.TheVariants.{Dead, Settled}
 use Rattle.nearest_cores.specs.Cores.{Scan, is_left, is_assumable, keep_wish, first_broken, least_weight, take_each, close_core, with_broken, after_assuming, scan_wish}
-use Rattle.nearest_cores.specs.Taken.{take-length}
+use Rattle.nearest_cores.proofs.Taken.{take-length}
 use Rattle.nearest_core_scan.specs.declared.progress.Progress.{Progress}
 use Rattle.nearest_core_scan.specs.Assuming.{AssumedBy}
 use Rattle.nearest_core_scan.specs.Broken.{Unbroken, unbroken_none, none_unbroken, free_unbroken, unbroken_still}

@@ -6,8 +6,7 @@ use Rattle.literal.specs.Literal.{value}
 use Rattle.wish.specs.Wish.{max_weight, weight}
 use Rattle.walk.proofs.Assignment.{assign-set}
 use Rattle.nearest_cores.specs.Cores.{taken_byte, least_weight, take_each}
-use Rattle.nearest_cores.specs.Taken.{take_left, free_start}
-use Rattle.nearest_cores.proofs.Taken.{left_zero}
+use Rattle.nearest_cores.proofs.Taken.{left_zero, take_left, free_start}
 use Rattle.nearest_core_scan.specs.Broken.{LeftFree}
 
 -- The loop that takes what is assigned: one byte more, and all of them.

@@ -18,8 +18,7 @@ use Rattle.walk.proofs.PropagationLaws.{propagate_state, propagate_extends, prop
 use Rattle.nearest_cores.specs.Cores.{Scan, is_left, is_assumable, is_broken, keep_wish, scan_start, broken_from, first_broken, close_core, with_broken, scan_wish, scan}
 use Rattle.nearest_cores.specs.Facts.{breaks_one, Core, variables_of, Distinct, Unset}
 use Rattle.nearest_cores.proofs.Facts.{kept_value}
-use Rattle.nearest_cores.specs.Taken.{assuming, Free, free_start, free_close, take_left, wish_ways, scan_keeps}
-use Rattle.nearest_cores.proofs.Taken.{left_zero}
+use Rattle.nearest_cores.proofs.Taken.{assuming, Free, free_start, free_close, left_zero, take_left, wish_ways, scan_keeps}
 use Rattle.nearest_cores.specs.ScanRight.{Found}
 
 -- two lists of distinct variables that share none, and one variable alone

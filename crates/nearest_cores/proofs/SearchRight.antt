@@ -19,8 +19,8 @@ use Rattle.walk.specs.Correctness.{Right}
 use Rattle.walk.proofs.Correctness.{after-fork}
 use Rattle.nearest_cores.specs.Narrow.{narrow}
 use Rattle.nearest_cores.specs.Search.{completed_by, onward, search_by, search_from}
-use Rattle.nearest_cores.specs.NarrowRight.{NarrowedTo, Narrowed, narrow_smaller}
-use Rattle.nearest_cores.proofs.NarrowRight.{narrow_right}
+use Rattle.nearest_cores.specs.NarrowRight.{NarrowedTo, Narrowed}
+use Rattle.nearest_cores.proofs.NarrowRight.{narrow_smaller, narrow_right}
 use Rattle.nearest_cores.specs.SearchRight.{Guides}
 
 -- what it asks breaks no wish

@@ -5,4 +5,3 @@ pub mod NarrowRight
 pub mod ScanRight
 pub mod Search
 pub mod SearchRight
-pub mod Taken

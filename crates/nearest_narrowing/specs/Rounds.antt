@@ -19,8 +19,7 @@ use Rattle.walk_unit_queue.specs.Theorems.{Covers}
 use Rattle.walk_unit_queue.proofs.Theorems.{settled_none_due, none_covers}
 use Rattle.nearest_cores.specs.Cores.{is_left, scan}
 use Rattle.nearest_cores.specs.Narrow.{keep_all, unless_kept, by_cores, narrowed, narrow}
-use Rattle.nearest_cores.specs.NarrowRight.{narrow_step}
-use Rattle.nearest_cores.proofs.NarrowRight.{left_unassigned}
+use Rattle.nearest_cores.proofs.NarrowRight.{narrow_step, left_unassigned}
 use Rattle.nearest_narrowing.specs.Keeping.{KeptTo}
 use Rattle.nearest_narrowing.specs.declared.rounds.Round.{Round}
 use Rattle.nearest_narrowing.specs.declared.rounds.Round.TheVariants.{Dead, Narrowed, Kept}

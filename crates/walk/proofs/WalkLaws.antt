@@ -20,8 +20,8 @@ use Rattle.walk.proofs.Extension.{satisfied_by_unassigned, falsified_kept, falsi
 use Rattle.walk.proofs.Assignment.{assign_state, assign-fewer, assign-cost, extends_satisfy}
 use Rattle.walk.proofs.Fits.{fits_at}
 use Rattle.walk.proofs.PropagationLaws.{propagate_extends, propagate_state, propagate-fewer}
-use Rattle.walk.specs.BranchingLaws.{Candidate, best_found}
-use Rattle.walk.proofs.BranchingLaws.{branching_sound, candidate_from, opposed_open, opposed_against}
+use Rattle.walk.specs.BranchingLaws.{Candidate}
+use Rattle.walk.proofs.BranchingLaws.{best_found, branching_sound, candidate_from, opposed_open, opposed_against}
 
 -- step 1's two causes
 or_cases {ℓ} : {P : Type ℓ} (x y : Bool) → x || y ≡ true → (x ≡ true → P) → (y ≡ true → P) → P

@@ -1,5 +1,5 @@
 pub mod Arranging
-pub mod BeginsLaws
+pub mod Begins
 pub mod Fillable
 pub mod Filling
 pub mod KeyLaws
