@@ -1,5 +1,5 @@
 pub mod Arranging
-pub mod Begins
+pub mod BeginsLaws
 pub mod Fillable
 pub mod Filling
 pub mod KeyLaws

@@ -3,7 +3,7 @@ use Prim.Native.Nat.{◌-◌, ◌<◌}
 use native.Mathlib.Omega.{arith}
 use lib.ListN.{length, length-set}
 use Rattle.formula.specs.Laws.{end_inside}
-use Rattle.walk_occurrences.proofs.Begins.{beginning_more, beginning_next, beginning_end}
+use Rattle.walk_occurrences.proofs.BeginsLaws.{beginning_more, beginning_next, beginning_end}
 use borrow.Author.Rules.{rules}
 use Rattle.walk_occurrences.proofs.begins.note_begins.Goals as goal
 
