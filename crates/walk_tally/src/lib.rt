@@ -1,7 +1,5 @@
 // Document 01, step 1 of the wish search: "a running tally of settled settings and broken wishes is
-// updated by each settling". It is lent by `&mut` and changed where a variable is assigned. The borrow
-// checker covers no reference to a struct, so both functions are proved by a walk of their MIR, by
-// hand.
+// updated by each settling". It is lent by `&mut` and changed where a variable is assigned.
 #![tactic(auto)]
 
 ghost use Rattle.walk_tally.specs.Assigning.{MayAssign, HasAssigned};
@@ -24,7 +22,7 @@ pub fn assign(tally: &mut Tally, at: usize, bit: u8, cost: usize, a: &mut [u8])
     tally.broken += cost;
 }
 
-// The same with the tally by value, so that a caller of this one is covered and needs no walk.
+// The same with the tally by value, for callers that hold one.
 pub fn assigned(tally: Tally, at: usize, bit: u8, cost: usize, a: &mut [u8]) -> Tally
     requires { MayAssign at cost a.old tally }
     ensures { HasAssigned at bit cost a.old tally a.new result }
