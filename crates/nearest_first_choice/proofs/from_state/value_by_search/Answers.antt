@@ -57,7 +57,7 @@ module _ (c : goal.In-Found) where
   guide-in-Found = c.write_guide.new.guide
 
   guide_size-in-Found : length (take (n-in-Found c) (first_space-in-Found c)) ≡ n-in-Found c
-  guide_size-in-Found = front-in-Found (first_space-in-Found c) c.no_values-guide.ensures
+  guide_size-in-Found = front-in-Found c (first_space-in-Found c) c.no_values-guide.ensures
 
   guide_long-in-Found : length guide-in-Found ≡ n-in-Found c
   guide_long-in-Found = c.write_guide.auto.guide ∙ guide_size-in-Found
@@ -160,7 +160,7 @@ module _ (c : goal.After-slice_known-in-Found-1) where
   guide-after-slice_known-in-Found-1 = c.write_guide.new.guide
 
   guide_size-after-slice_known-in-Found-1 : length (take (n-after-slice_known-in-Found-1 c) (first_space-after-slice_known-in-Found-1 c)) ≡ n-after-slice_known-in-Found-1 c
-  guide_size-after-slice_known-in-Found-1 = front-after-slice_known-in-Found-1 (first_space-after-slice_known-in-Found-1 c) c.no_values-guide.ensures
+  guide_size-after-slice_known-in-Found-1 = front-after-slice_known-in-Found-1 c (first_space-after-slice_known-in-Found-1 c) c.no_values-guide.ensures
 
   guide_long-after-slice_known-in-Found-1 : length guide-after-slice_known-in-Found-1 ≡ n-after-slice_known-in-Found-1 c
   guide_long-after-slice_known-in-Found-1 = c.write_guide.auto.guide ∙ guide_size-after-slice_known-in-Found-1
@@ -261,7 +261,7 @@ module _ (c : goal.In-Nothing) where
   guide-in-Nothing = c.write_guide.new.guide
 
   guide_size-in-Nothing : length (take (n-in-Nothing c) (first_space-in-Nothing c)) ≡ n-in-Nothing c
-  guide_size-in-Nothing = front-in-Nothing (first_space-in-Nothing c) c.no_values-guide.ensures
+  guide_size-in-Nothing = front-in-Nothing c (first_space-in-Nothing c) c.no_values-guide.ensures
 
   guide_long-in-Nothing : length guide-in-Nothing ≡ n-in-Nothing c
   guide_long-in-Nothing = c.write_guide.auto.guide ∙ guide_size-in-Nothing
