@@ -1,5 +1,7 @@
 // Nearest: the least number of broken wishes with the first choice that meets all rules and breaks so
 // many, or none when the rules can't be met.
+#![tactic(auto)]
+
 ghost use Rattle.std.specs.Prelude.{◌≡◌, ◌≤◌, length, take};
 ghost use Rattle.std.proofs.Math.Option.{none};
 ghost use Rattle.choices.specs.Choices.{Model};

@@ -5,6 +5,7 @@ pub mod Example
 pub mod Formed
 pub mod Meaning
 pub mod Rewritten
+pub mod RewrittenSizes
 pub mod Rows
 pub mod Sizes
 pub mod Theorems

@@ -1,17 +1,17 @@
 -- What document 01 says of rewriting into plain rules.
 use Rattle.std.specs.Prelude.{◌≡◌, refl, ◌↔◌, Bool, true, List, [], ◌++◌, ℕ, ◌+◌, ◌≤◌, ℤ, length, take}
-use Rattle.std.proofs.Common.{sym, ap, ◌∙◌, arith, length-append}
+use Rattle.std.proofs.Common.{sym, ap, ◌∙◌, arith}
 use Rattle.std.proofs.Math.Option.{none}
 use Rattle.literal.specs.Literal.{holds}
 use Rattle.formula.specs.Formula.{any, all, clauses, literals, models}
 use Rattle.distance.specs.Distance.{disagreement}
-use Rattle.limits.specs.Limits.{max_variables, max_clauses, max_literals, max_wish_variables, max_wish_clauses, max_wish_literals}
+use Rattle.limits.specs.Limits.{max_variables, max_wish_variables, max_wish_clauses, max_wish_literals}
 use Rattle.rule_list.specs.Sound.{SoundList, unread, bad_rule}
 use Rattle.refusal_causes.specs.Sound.{bad_wish}
 use Rattle.wish.specs.Wish.{total_weight}
 use Rattle.refusal_causes.specs.Laws.{sound_weight}
 use Rattle.rule_list_soundness.specs.Flat.{joining, well_formed}
-use Rattle.rule_list_soundness.specs.Laws.{and_both, all_append, literals-append, well_formed_more}
+use Rattle.rule_list_soundness.specs.Laws.{and_both, all_append, well_formed_more}
 use Rattle.rule_list_soundness.specs.Soundness.{sound, flat_sound, behind}
 use Rattle.choices.specs.Choices.{Choice}
 use Rattle.totalizer.specs.Totalizer.{Tree, on, leaves, tree, added, totalizer, at_most, rewritten_variables, rewritten, completion, Over, AllCount}
@@ -20,8 +20,9 @@ use Rattle.totalizer.proofs.Rows.{leaves-length}
 use Rattle.totalizer.proofs.Choice.{choice_take}
 use Rattle.totalizer.proofs.Counters.{segment_right}
 use Rattle.totalizer.proofs.Completion.{completion-segment, completion_choice, completion-take}
-use Rattle.totalizer.proofs.Sizes.{added-most, added_64, added_3, added_1, clauses_64, clauses_3, clauses_1, at_most_most}
+use Rattle.totalizer.proofs.Sizes.{added-most, added_64, added_3, added_1, clauses_64, clauses_3, clauses_1}
 use Rattle.totalizer.proofs.Rewritten.{row_within, row_formed, rewritten-clauses, rewritten_says, rewritten_met}
+use Rattle.totalizer.proofs.RewrittenSizes.{rewritten_sizes}
 
 -- Of any assignment of the variables, the clauses of a group hold exactly when every output of every group in it is right. The leaves may be any literals of the variables 1 to n, repeated or not.
 pub meaning : (σ : ℕ → Bool) (n : ℕ) (t : Tree) → Over n t → (all (any (on σ)) (totalizer n t) ≡ true) ↔ AllCount (on σ) n t
@@ -87,16 +88,6 @@ pub rewritten_variables_lem : (n : ℕ) (row : List ℕ) → n ≤ max_wish_vari
 rewritten_variables_lem n row h w =
     let m : length (leaves row) ≤ 64 = omega (arith, leaves-length row, sound_weight row w) in
     omega (arith, added-most (leaves row) m)
-
-pub rewritten_sizes : (n : ℕ) (list : List ℤ) (row : List ℕ) (d : ℕ) → SoundList n list → length row ≡ n → bad_wish 0 0 row ≡ none
-    → length (clauses list) ≤ max_wish_clauses → literals (clauses list) ≤ max_wish_literals
-    → (length (clauses (rewritten n list row d)) ≤ max_clauses) × (literals (clauses (rewritten n list row d)) ≤ max_literals)
-rewritten_sizes n list row d ok long w few small =
-    let m : length (leaves row) ≤ 64 = omega (arith, leaves-length row, sound_weight row w) in
-    let (f, s) = at_most_most n (leaves row) d m in (
-      omega (arith, ap length (rewritten-clauses n list row d ok long), length-append (clauses list) (at_most n (leaves row) d), f),
-      omega (arith, ap literals (rewritten-clauses n list row d ok long), literals-append (clauses list) (at_most n (leaves row) d), s),
-    )
 
 -- The rewritten list is sound for its number of variables: "On admitted input no call named here is refused except with 15."
 pub rewritten_sound : (n : ℕ) (list : List ℤ) (row : List ℕ) (d : ℕ) → SoundList n list → length row ≡ n → bad_wish 0 0 row ≡ none
