@@ -1,5 +1,7 @@
 // What the program `nearest` prints: the least number of broken wishes and the first choice, in the lines
 // that solvers print.
+#![tactic(auto)]
+
 ghost use Rattle.std.specs.Prelude.{◌≡◌, ◌≤◌, length};
 ghost use Rattle.program_report.specs.Report.{fitted};
 ghost use Rattle.program_solution_text.specs.Lines.{longest};
