@@ -1,5 +1,5 @@
 -- What follows from the definitions of specs/Placed.antt.
-use Rattle.std.specs.Prelude.{◌≡◌, refl, ◌↔◌, Bool, true, false, cond, List, [], ◌∷◌, ◌++◌, map, ℕ, suc, ◌+◌, ◌<◌, ℤ, pos, length}
+use Rattle.std.specs.Prelude.{◌≡◌, refl, Bool, true, false, cond, List, [], ◌∷◌, ◌++◌, map, ℕ, suc, ◌+◌, ◌<◌, ℤ, pos, length}
 use Rattle.std.proofs.Common.{sym, ap, ◌∙◌, subst, true≢false, arith, ne_eqb}
 use Rattle.std.proofs.Math.Option.{Option, none, some, get_or, some-ne-none}
 use Rattle.words.specs.Words.{ascii}
@@ -9,7 +9,7 @@ use Rattle.rule_list.specs.Laws.{scan}
 use Rattle.rule_list.specs.Sound.{Scan, unread, unclosed}
 use Rattle.refusal_causes.specs.Empty.{empty_clause}
 use Rattle.rule_file.specs.Accepted.{Parts, past_header}
-use Rattle.rule_file.proofs.Accepted.{accepted_parts, first_good}
+use Rattle.rule_file.proofs.Accepted.{first_good}
 use Rattle.rule_file.specs.Class.{class_of}
 use Rattle.rule_file.specs.Format.{past_comments, signed, element, repeats, past, bad_token, bad_tokens, stored, rules_of, gives, reading}
 use Rattle.rule_file.proofs.Stored.{repeat_dropped, zero-stored, literal-stored}
@@ -157,16 +157,10 @@ module _ (file : List ℕ) (n c : ℕ) (l : List ℤ) (p : Parts file n c l) whe
       rw (place, index) (found ts n c (length file) 0 0 [] 0 p.good)
 
   -- so there is one exactly where the place is inside the file
-  inside : (place : ℕ) (o : Option ℕ) → Placed unread 0 (length file) ts place o → (place < length file → o ≡ none → ⊥) × ((o ≡ none → ⊥) → place < length file)
+  pub inside : (place : ℕ) (o : Option ℕ) → Placed unread 0 (length file) ts place o → (place < length file → o ≡ none → ⊥) × ((o ≡ none → ⊥) → place < length file)
   inside place none q = (λ h e. omega arith, λ f. absurd (f refl))
   inside place (some j) q =
       (λ h e. some-ne-none j e, λ f. token_inside file (past_comments false 0 file + p.size) q.before (record { place = place; bytes = q.bytes }) q.behind q.split)
-
--- "16, a rule without entries" applies to what was read exactly where the file has a place for it.
-pub empty_refused : (file : List ℕ) (n c : ℕ) (l : List ℤ) → reading file ≡ gives n c l → (empty_rule file < length file) ↔ (empty_clause 0 (clauses l) ≡ none → ⊥)
-empty_refused file n c l e =
-    let p : Parts file n c l = accepted_parts file n c l e in
-    inside file n c l p (empty_rule file) (empty_clause 0 (clauses l)) (placed file n c l p)
 
 -- the second rule has no entries, and its 0 stands at byte 18 and, without the repeat, at index 2
 abbrev example : List ℕ

@@ -4,3 +4,4 @@ pub mod Order
 pub mod Reached
 pub mod Steps
 pub mod Theorems
+pub mod ReachedSettled

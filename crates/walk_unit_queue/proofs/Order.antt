@@ -1,23 +1,19 @@
 -- The order in which unit clauses are taken does not matter. No arrangement is named here: that settling by it ends as settling by the list does, which document 02 (L10) asks, is `sound_alike` in Theorems.antt.
-use Rattle.std.specs.Prelude.{◌≡◌, refl, ◌⊎◌, Bool, true, false, cond, not, ◌&&◌, ◌||◌, List, [], ◌∷◌, ℕ, suc, ◌≤◌, eqb, ltb, ℤ, get_or}
+use Rattle.std.specs.Prelude.{◌≡◌, refl, ◌⊎◌, Bool, true, false, cond, not, ◌&&◌, List, [], ◌∷◌, ℕ, suc, ◌≤◌, eqb, ℤ, get_or}
 use Rattle.std.proofs.Common.{sym, ap, ap₂, ◌∙◌, inl, inr, true≢false, arith, ext_get_or}
 use Rattle.std.proofs.Math.Option.{some-injective}
 use Rattle.std.proofs.Math.Decide.{ℕ_discrete}
 use Rattle.literal.specs.Literal.{holds}
 use Rattle.formula.specs.Formula.{any, satisfied}
-use Rattle.distance.specs.Distance.{disagreement}
 use Rattle.choices.proofs.Lists.{any_at, any_member, any_false}
-use Rattle.walk.specs.State.{State, satisfy, is_unassigned, unassigned_in, is_unit, is_falsified, fits}
-use Rattle.walk.specs.Propagation.{propagate}
-use Rattle.walk.proofs.PropagationLaws.{unit_one, propagate_extends}
-use Rattle.walk.specs.Walk.{is_dead_end}
-use Rattle.walk.proofs.WalkLaws.{dead_kept, dead_causes}
+use Rattle.walk.specs.State.{State, satisfy, is_unassigned, unassigned_in, is_unit, is_falsified}
+use Rattle.walk.proofs.PropagationLaws.{unit_one}
 use Rattle.walk.specs.Extension.{Extends}
 use Rattle.walk.proofs.Extension.{assigned_kept, satisfied_by_unassigned, falsified_kept}
 use Rattle.walk.proofs.Counting.{find_only}
 use Rattle.walk.proofs.Assignment.{extends_satisfy}
 use Rattle.walk_unit_queue.specs.Steps.{UnitOf, Steps, Quiet}
-use Rattle.walk_unit_queue.proofs.Steps.{steps_extend, steps_state, propagate_steps, propagate_ends}
+use Rattle.walk_unit_queue.proofs.Steps.{steps_extend, steps_state}
 
 -- an extension leaves no more literals unassigned
 pub fewer-unassigned : {b a : List ℕ} → Extends b a → (c : List ℤ) → unassigned_in b c ≤ unassigned_in a c
@@ -83,19 +79,3 @@ order_irrelevant n f a h xs ys b c p q quiet-b quiet-c = go (any (is_falsified b
     go false e true k = absurd (true≢false (sym (still (steps_within quiet-b e a ys q (steps_extend f a xs p)) k) ∙ e))
     go false e false k =
         inr (extend_both (steps_state f a xs h p) (steps_state f a ys h q) (steps_within quiet-b e a ys q (steps_extend f a xs p)) (steps_within quiet-c k a xs p (steps_extend f a ys q)))
-
--- With the limit d on broken wishes: what steps from a state say of where settling in document 01's order ends. A dead end on the way is one there; and a state without a unit clause that is no dead end is the settled state.
-module _ (n : ℕ) (f : List (List ℤ)) (fit : fits n f ≡ true) (row : List ℕ) (d : ℕ) (a : List ℕ) (h : State n a) (xs : List ℤ) (b : List ℕ) (steps : Steps f a xs b) where
-  pub reached_dead : is_dead_end f row d b ≡ true → is_dead_end f row d (propagate f a) ≡ true
-  reached_dead e = go (any (is_falsified (propagate f a)) f) refl
-    where
-      go : (t : Bool) → any (is_falsified (propagate f a)) f ≡ t → is_dead_end f row d (propagate f a) ≡ true
-      go true q = ap (λ (t : Bool). t || ltb d (disagreement row (propagate f a))) q
-      go false q = dead_kept (steps_within (propagate_ends n f fit h) q a xs steps (propagate_extends f a)) f row d e
-
-  pub reached_settled : Quiet f b → is_dead_end f row d b ≡ false → b ≡ propagate f a
-  reached_settled quiet e = go (order_irrelevant n f a h xs (propagate_steps f a).0 b (propagate f a) steps (propagate_steps f a).1 quiet (propagate_ends n f fit h))
-    where
-      go : ((any (is_falsified b) f ≡ true) × (any (is_falsified (propagate f a)) f ≡ true)) ⊎ (b ≡ propagate f a) → b ≡ propagate f a
-      go (inl r) = absurd (true≢false (sym r.0 ∙ (dead_causes f row d b e).0))
-      go (inr r) = r

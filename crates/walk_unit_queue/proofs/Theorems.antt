@@ -18,7 +18,7 @@ use Rattle.rule_list.specs.Sound.{SoundList}
 use Rattle.search_meaning.specs.Fits.{sound_fits}
 use Rattle.walk_unit_queue.specs.Steps.{Quiet}
 use Rattle.walk_unit_queue.proofs.Steps.{propagate_ends}
-use Rattle.walk_unit_queue.proofs.Order.{reached_dead, reached_settled}
+use Rattle.walk_unit_queue.proofs.ReachedSettled.{reached_dead, reached_settled}
 use Rattle.walk_occurrences.proofs.Numbered.{numbered_in}
 use Rattle.walk_occurrences.specs.Occurrences.{empty_clauses, filled_clauses}
 use Rattle.walk_unit_queue.specs.Due.{Due, NoneDue}
