@@ -26,7 +26,7 @@ pub returns-then-file-c_end : goal.returns-then-file-c_end
 returns-then-file-c_end c =
     sym (ap (header_as c.args.at) (header_open c.args.file.now c.args.at c.find_byte-n_end.result c.find_byte-c_end.result c.find_byte-n_end.ensures c.find_byte-c_end.ensures c.if-file-c_end.true))
 
--- Past the tests of the two fields-in_default: what was lent, where the fields-in_default end, and their bytes.
+-- Past the tests of the two fields: what was lent, where the fields end, and their bytes.
 abbrev file-in_default : goal.In_default → List ℕ
 file-in_default c = c.args.file.now
 
@@ -57,7 +57,7 @@ returns-in_default c =
     (ap (header_as (at-in_default c)) (fields-in_default c)
     ∙ n_malformed (at-in_default c) (c-end-in_default c + 1 - at-in_default c) (n_field-in_default c) (c-field-in_default c) (number_none (number (n_field-in_default c)) (sym c.number_of.ensures ∙ c.in_default.is)))
 
--- Past the tests of the two fields-in_default-number_of: what was lent, where the fields-in_default-number_of end, and their bytes.
+-- Past the tests of the two fields: what was lent, where the fields end, and their bytes.
 abbrev file-in_default-number_of : goal.In_default-number_of → List ℕ
 file-in_default-number_of c = c.args.file.now
 
@@ -95,7 +95,7 @@ returns-in_default-number_of c =
     ∙ c_malformed (at-in_default-number_of c) (c-end-in_default-number_of c + 1 - at-in_default-number_of c) (n_field-in_default-number_of c) (c-field-in_default-number_of c) (variables-in_default-number_of c) (n_read-in_default-number_of c)
     (number_none (number (c-field-in_default-number_of c)) (sym c.number_of-2.ensures ∙ c.in_default-number_of.is)))
 
--- Past the tests of the two fields-in-Value-number_of: what was lent, where the fields-in-Value-number_of end, and their bytes.
+-- Past the tests of the two fields: what was lent, where the fields end, and their bytes.
 abbrev file-in-Value-number_of : goal.In-Value-number_of → List ℕ
 file-in-Value-number_of c = c.args.file.now
 

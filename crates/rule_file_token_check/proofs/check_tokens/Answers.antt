@@ -23,7 +23,7 @@ pub returns-in-End : goal.returns-in-End
 returns-in-End c =
     c.finish.ensures ∙ ended c.loop-place.invariant (sym c.in-End.is ∙ c.next_token.ensures)
 
--- A with a number: its place-then-number-ne0, its value-then-number-ne0 and the offset past it.
+-- A turn with a number: its place, its value and the offset past it.
 module _ (c : goal.Then-number-ne0) where
   abbrev place-then-number-ne0 : ℕ
   place-then-number-ne0 = c.in-Element.place
@@ -49,7 +49,7 @@ module _ (c : goal.Then-number-ne0) where
   faults-then-number-ne0 : ℤ → Bool → ℕ
   faults-then-number-ne0 x r = fault_of c.args.n c.args.count k-then-number-ne0 c.loop-place.literals x r
 
--- whether it is a repeat, its fault-then-number-ne0, and whether it closes a clause
+-- whether it is a repeat, its fault, and whether it closes a clause
 told-then-number-ne0 : (c : goal.Then-number-ne0) → c.is_repeat-repeated.result ≡ not (closes (value-then-number-ne0 c)) && eqb (get_or (stamps-then-number-ne0 c) (slot (value-then-number-ne0 c)) 0) (k-then-number-ne0 c + 1)
 told-then-number-ne0 c =
     c.is_repeat-repeated.ensures ∙ ap (λ (x : ℤ). not (closes x) && eqb (get_or (stamps-then-number-ne0 c) (slot x) 0) (k-then-number-ne0 c + 1)) (read-then-number-ne0 c)
@@ -64,7 +64,7 @@ unfolding faults-then-number-ne0
 returns-then-number-ne0 c =
     faulty c.loop-place.invariant (found-then-number-ne0 c) c.is_repeat-repeated.result (told-then-number-ne0 c) c.fault_of-number.result (fault-then-number-ne0 c) c.if-number-ne0.true
 
--- A with a number: its place-then-closes, its value-then-closes and the offset past it.
+-- A turn with a number: its place, its value and the offset past it.
 module _ (c : goal.Then-closes) where
   abbrev place-then-closes : ℕ
   place-then-closes = c.in-Element.place
@@ -90,7 +90,7 @@ module _ (c : goal.Then-closes) where
   faults-then-closes : ℤ → Bool → ℕ
   faults-then-closes x r = fault_of c.args.n c.args.count k-then-closes c.loop-place.literals x r
 
--- whether it is a repeat, its fault-then-closes, and whether it closes a clause
+-- whether it is a repeat, its fault, and whether it closes a clause
 told-then-closes : (c : goal.Then-closes) → c.is_repeat-repeated.result ≡ not (closes (value-then-closes c)) && eqb (get_or (stamps-then-closes c) (slot (value-then-closes c)) 0) (k-then-closes c + 1)
 told-then-closes c =
     c.is_repeat-repeated.ensures ∙ ap (λ (x : ℤ). not (closes x) && eqb (get_or (stamps-then-closes c) (slot x) 0) (k-then-closes c + 1)) (read-then-closes c)
@@ -115,7 +115,7 @@ unfolding faults-then-closes
 loop-place-preserved-then-closes c =
     closed c.loop-place.invariant (found-then-closes c) c.is_repeat-repeated.result (told-then-closes c) (fine-then-closes c) (sym (closing-then-closes c) ∙ c.if-closes.true)
 
--- A with a number: its place-after-stamp, its value-after-stamp and the offset past it.
+-- A turn with a number: its place, its value and the offset past it.
 module _ (c : goal.After-stamp) where
   abbrev place-after-stamp : ℕ
   place-after-stamp = c.in-Element.place
@@ -141,7 +141,7 @@ module _ (c : goal.After-stamp) where
   faults-after-stamp : ℤ → Bool → ℕ
   faults-after-stamp x r = fault_of c.args.n c.args.count k-after-stamp c.loop-place.literals x r
 
--- whether it is a repeat, its fault-after-stamp, and whether it closes a clause
+-- whether it is a repeat, its fault, and whether it closes a clause
 told-after-stamp : (c : goal.After-stamp) → c.is_repeat-repeated.result ≡ not (closes (value-after-stamp c)) && eqb (get_or (stamps-after-stamp c) (slot (value-after-stamp c)) 0) (k-after-stamp c + 1)
 told-after-stamp c =
     c.is_repeat-repeated.ensures ∙ ap (λ (x : ℤ). not (closes x) && eqb (get_or (stamps-after-stamp c) (slot x) 0) (k-after-stamp c + 1)) (read-after-stamp c)
@@ -157,7 +157,7 @@ fine-after-stamp c = sym (fault-after-stamp c) ∙ c.if-number-ne0.false
 closing-after-stamp : (c : goal.After-stamp) → c.closes.result ≡ closes (value-after-stamp c)
 closing-after-stamp c = c.closes.ensures ∙ ap closes (read-after-stamp c)
 
--- a literal, which is no closing-after-stamp zero
+-- a literal, which is no closing zero
 is_literal_lem : (c : goal.After-stamp) → closes (value-after-stamp c) ≡ false
 is_literal_lem c = sym (closing-after-stamp c) ∙ c.if-closes.false
 
@@ -172,7 +172,7 @@ loop-place-preserved-else-closes c =
     (not-true c.is_repeat-repeated.result c.if-not-repeated.true-raw) _
     (c.stamp.ensures ∙ ap (λ (x : ℤ). set (stamps-after-stamp c) (slot x) (k-after-stamp c + 1)) (read-after-stamp c))
 
--- A with a number: its place-else-not-repeated, its value-else-not-repeated and the offset past it.
+-- A turn with a number: its place, its value and the offset past it.
 module _ (c : goal.Else-not-repeated) where
   abbrev place-else-not-repeated : ℕ
   place-else-not-repeated = c.in-Element.place
@@ -198,7 +198,7 @@ module _ (c : goal.Else-not-repeated) where
   faults-else-not-repeated : ℤ → Bool → ℕ
   faults-else-not-repeated x r = fault_of c.args.n c.args.count k-else-not-repeated c.loop-place.literals x r
 
--- whether it is a repeat, its fault-else-not-repeated, and whether it closes a clause
+-- whether it is a repeat, its fault, and whether it closes a clause
 told-else-not-repeated : (c : goal.Else-not-repeated) → c.is_repeat-repeated.result ≡ not (closes (value-else-not-repeated c)) && eqb (get_or (stamps-else-not-repeated c) (slot (value-else-not-repeated c)) 0) (k-else-not-repeated c + 1)
 told-else-not-repeated c =
     c.is_repeat-repeated.ensures ∙ ap (λ (x : ℤ). not (closes x) && eqb (get_or (stamps-else-not-repeated c) (slot x) 0) (k-else-not-repeated c + 1)) (read-else-not-repeated c)

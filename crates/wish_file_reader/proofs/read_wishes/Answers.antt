@@ -11,7 +11,7 @@ use Rattle.wish_file_scan.specs.Scan.{scan-refused, scan_sound}
 use Rattle.wish_file_reader.specs.Laws.{refused_for_lem, rising_room, row_read}
 use Rattle.wish_file_reader.proofs.read_wishes.Goals as goal
 
--- past the scan: what was lent, and the numbers of line one; the file-after-mark_row-arg-1 is good-after-mark_row-arg-1
+-- past the scan: what was lent, and the numbers of line one; the file is good
 module _ (c : goal.After-mark_row-arg-1) where
   abbrev file-after-mark_row-arg-1 : List ℕ
   file-after-mark_row-arg-1 = c.args.file.now
@@ -31,7 +31,7 @@ module _ (c : goal.After-mark_row-arg-1) where
   good-after-mark_row-arg-1 : (read : List ℕ) × (reading file-after-mark_row-arg-1 ≡ gives n-after-mark_row-arg-1 wishes-after-mark_row-arg-1 limit-after-mark_row-arg-1 read)
   good-after-mark_row-arg-1 = scan_sound file-after-mark_row-arg-1 c.scan_file.result n-after-mark_row-arg-1 wishes-after-mark_row-arg-1 limit-after-mark_row-arg-1 c.scan_file.ensures c.in-Sound.is
 
--- past the check of the room-after-mark_row-arg-1
+-- past the check of the room
 room-after-mark_row-arg-1 : (c : goal.After-mark_row-arg-1) → n-after-mark_row-arg-1 c ≤ length (row-after-mark_row-arg-1 c)
 room-after-mark_row-arg-1 c =
     enough_room (n-after-mark_row-arg-1 c) (length (row-after-mark_row-arg-1 c)) (sym c.check_room.ensures ∙ ap refused c.in_default.is)
@@ -44,11 +44,11 @@ mark_row-requires c =
 pub returns-in-Refused : goal.returns-in-Refused
 returns-in-Refused c = record { reply = (refused_for_lem c.args.file.now c.args.row.now c.in-Refused.r (scan-refused c.args.file.now c.scan_file.result c.in-Refused.r c.scan_file.ensures c.in-Refused.is)).0; output = (refused_for_lem c.args.file.now c.args.row.now c.in-Refused.r (scan-refused c.args.file.now c.scan_file.result c.in-Refused.r c.scan_file.ensures c.in-Refused.is)).1 }
 
--- what is left of `row-after-slice_known-in-Sound-2-1`
+-- what is left of `row`
 abbrev row-left : goal.After-slice_known-in-Sound-2-1 → List ℕ
 row-left c = c.mark_row.new.row
 
--- past the scan: what was lent, and the numbers of line one; the file-after-slice_known-in-Sound-2-1 is good-after-slice_known-in-Sound-2-1
+-- past the scan: what was lent, and the numbers of line one; the file is good
 module _ (c : goal.After-slice_known-in-Sound-2-1) where
   abbrev file-after-slice_known-in-Sound-2-1 : List ℕ
   file-after-slice_known-in-Sound-2-1 = c.args.file.now
@@ -68,7 +68,7 @@ module _ (c : goal.After-slice_known-in-Sound-2-1) where
   good-after-slice_known-in-Sound-2-1 : (read : List ℕ) × (reading file-after-slice_known-in-Sound-2-1 ≡ gives n-after-slice_known-in-Sound-2-1 wishes-after-slice_known-in-Sound-2-1 limit-after-slice_known-in-Sound-2-1 read)
   good-after-slice_known-in-Sound-2-1 = scan_sound file-after-slice_known-in-Sound-2-1 c.scan_file.result n-after-slice_known-in-Sound-2-1 wishes-after-slice_known-in-Sound-2-1 limit-after-slice_known-in-Sound-2-1 c.scan_file.ensures c.in-Sound.is
 
--- past the check of the room-after-slice_known-in-Sound-2-1
+-- past the check of the room
 room-after-slice_known-in-Sound-2-1 : (c : goal.After-slice_known-in-Sound-2-1) → n-after-slice_known-in-Sound-2-1 c ≤ length (row-after-slice_known-in-Sound-2-1 c)
 room-after-slice_known-in-Sound-2-1 c =
     enough_room (n-after-slice_known-in-Sound-2-1 c) (length (row-after-slice_known-in-Sound-2-1 c)) (sym c.check_room.ensures ∙ ap refused c.in_default.is)

@@ -17,7 +17,7 @@ pub returns-then-not-is_line : goal.returns-then-not-is_line
 returns-then-not-is_line c =
     sym (ap file_scan (header_malformed c.args.file.now (sym c.is_line.ensures ∙ not-true c.is_line.result c.if-not-is_line.true-raw)))
 
--- past the first test: one is there
+-- past the first test: line one is there
 module _ (c : goal.After-field_at-variables) where
   abbrev file-after-field_at-variables : List ℕ
   file-after-field_at-variables = c.args.file.now
@@ -31,7 +31,7 @@ module _ (c : goal.After-field_at-variables) where
 pub field_at-wishes-requires : goal.field_at-wishes-requires
 field_at-wishes-requires c = omega (arith, long-after-field_at-variables c)
 
--- past the first test: one is there
+-- past the first test: line one is there
 module _ (c : goal.After-field_at-wishes) where
   abbrev file-after-field_at-wishes : List ℕ
   file-after-field_at-wishes = c.args.file.now
@@ -45,7 +45,7 @@ module _ (c : goal.After-field_at-wishes) where
 pub field_at-limit-requires : goal.field_at-limit-requires
 field_at-limit-requires c = omega (arith, long-after-field_at-wishes c)
 
--- past the first test: one is there
+-- past the first test: line one is there
 module _ (c : goal.Then-is_outside) where
   abbrev file-then-is_outside : List ℕ
   file-then-is_outside = c.args.file.now
@@ -62,7 +62,7 @@ returns-then-is_outside c =
     (header-outside (file-then-is_outside c) (a_line-then-is_outside c) c.field_at-variables.result c.field_at-wishes.result c.field_at-limit.result c.field_at-variables.ensures c.field_at-wishes.ensures c.field_at-limit.ensures
     (sym c.is_outside.ensures ∙ c.if-is_outside.true)))
 
--- past the first test: one is there
+-- past the first test: line one is there
 module _ (c : goal.Else-is_outside) where
   abbrev file-else-is_outside : List ℕ
   file-else-is_outside = c.args.file.now
@@ -76,7 +76,7 @@ module _ (c : goal.Else-is_outside) where
 pub scan_lines-requires : goal.scan_lines-requires
 scan_lines-requires c = long-else-is_outside c
 
--- past the first test: one is there
+-- past the first test: line one is there
 module _ (c : goal.In-Refuse) where
   abbrev file-in-Refuse : List ℕ
   file-in-Refuse = c.args.file.now
@@ -93,7 +93,7 @@ returns-in-Refuse c =
     (lines_refused (file-in-Refuse c) (a_line-in-Refuse c) c.field_at-variables.result c.field_at-wishes.result c.field_at-limit.result c.field_at-variables.ensures c.field_at-wishes.ensures c.field_at-limit.ensures
     (sym c.is_outside.ensures ∙ c.if-is_outside.false) c.in-Refuse.r (sym c.scan_lines.ensures ∙ ap refused c.in-Refuse.is)))
 
--- past the first test: one is there
+-- past the first test: line one is there
 module _ (c : goal.In-Pass) where
   abbrev file-in-Pass : List ℕ
   file-in-Pass = c.args.file.now

@@ -32,7 +32,7 @@ module _ (c : goal.Else-not-is_line) where
   abbrev n-else-not-is_line : ℕ
   n-else-not-is_line = c.args.n
 
--- past the first test: a line, which ends inside the file-else-not-is_line
+-- past the first test: a line, which ends inside the file
 module _ (c : goal.Else-not-is_line) where
   a_line-else-not-is_line : is_line 2 (drop c.loop-left.at (file-else-not-is_line c)) ≡ true
   a_line-else-not-is_line = sym c.is_line.ensures ∙ not-false c.is_line.result c.if-not-is_line.false-raw
@@ -51,7 +51,7 @@ module _ (c : goal.After-field_at-number) where
   abbrev n-after-field_at-number : ℕ
   n-after-field_at-number = c.args.n
 
--- past the first test: a line, which ends inside the file-after-field_at-number
+-- past the first test: a line, which ends inside the file
 module _ (c : goal.After-field_at-number) where
   a_line-after-field_at-number : is_line 2 (drop c.loop-left.at (file-after-field_at-number c)) ≡ true
   a_line-after-field_at-number = sym c.is_line.ensures ∙ not-false c.is_line.result c.if-not-is_line.false-raw
@@ -70,7 +70,7 @@ module _ (c : goal.After-refuse-then-is_misfit) where
   abbrev n-after-refuse-then-is_misfit : ℕ
   n-after-refuse-then-is_misfit = c.args.n
 
--- past the first test: a line, which ends inside the file-after-refuse-then-is_misfit
+-- past the first test: a line, which ends inside the file
 module _ (c : goal.After-refuse-then-is_misfit) where
   a_line-after-refuse-then-is_misfit : is_line 2 (drop c.loop-left.at (file-after-refuse-then-is_misfit c)) ≡ true
   a_line-after-refuse-then-is_misfit = sym c.is_line.ensures ∙ not-false c.is_line.result c.if-not-is_line.false-raw
@@ -93,7 +93,7 @@ module _ (c : goal.Else-is_misfit) where
   abbrev n-else-is_misfit : ℕ
   n-else-is_misfit = c.args.n
 
--- past the first test: a line, which ends inside the file-else-is_misfit
+-- past the first test: a line, which ends inside the file
 module _ (c : goal.Else-is_misfit) where
   a_line-else-is_misfit : is_line 2 (drop c.loop-left.at (file-else-is_misfit c)) ≡ true
   a_line-else-is_misfit = sym c.is_line.ensures ∙ not-false c.is_line.result c.if-not-is_line.false-raw

@@ -33,7 +33,7 @@ returns-in-Refuse c =
           (sym c.check_room.ensures ∙ ap refused c.in-Refuse.is)).1;
     }
 
--- past the check of the room-after-put_header-arg-1: what was lent
+-- past the check of the room: what was lent
 module _ (c : goal.After-put_header-arg-1) where
   abbrev start-after-put_header-arg-1 : goal.After-put_header-arg-1
   start-after-put_header-arg-1 = c
@@ -49,7 +49,7 @@ put_header-at-requires c =
     let g = start-after-put_header-arg-1 c in
     omega (arith, head_length g.args.n g.args.row.now g.args.d g.requires.0 g.args.wishes g.requires.1, room-after-put_header-arg-1 c)
 
--- past the check of the room-after-put_wishes-arg-1: what was lent
+-- past the check of the room: what was lent
 module _ (c : goal.After-put_wishes-arg-1) where
   abbrev start-after-put_wishes-arg-1 : goal.After-put_wishes-arg-1
   start-after-put_wishes-arg-1 = c
@@ -78,7 +78,7 @@ put_wishes-requires c =
 abbrev file-left : goal.After-slice_known-3-1 → List ℕ
 file-left c = c.put_wishes.new.out
 
--- past the check of the room-after-slice_known-3-1: what was lent
+-- past the check of the room: what was lent
 module _ (c : goal.After-slice_known-3-1) where
   abbrev start-after-slice_known-3-1 : goal.After-slice_known-3-1
   start-after-slice_known-3-1 = c

@@ -18,7 +18,7 @@ use Rattle.rule_file.specs.Tokens.{tokens_from}
 use Rattle.rule_file_reader.proofs.Filling.{later, below, inside, has_room, dropped, closed, joined}
 use Rattle.rule_file_reader.proofs.fill.fill_rules.Goals as goal
 
--- A with a number: its place, its value and the offset past it.
+-- A turn with a number: its place, its value and the offset past it.
 module _ (c : goal.Then-not-is_repeat) where
   abbrev place-then-not-is_repeat : ℕ
   place-then-not-is_repeat = c.in-Element.place
@@ -53,7 +53,7 @@ pub bounds-rules-i : goal.bounds-rules-i
 bounds-rules-i c =
     has_room c.loop-value.invariant (found-then-not-is_repeat c) c.is_repeat.result (told-then-not-is_repeat c) (new-then-not-is_repeat c)
 
--- A with a number: its place, its value and the offset past it.
+-- A turn with a number: its place, its value and the offset past it.
 module _ (c : goal.After-stamps-else-closes-1) where
   abbrev place-after-stamps-else-closes-1 : ℕ
   place-after-stamps-else-closes-1 = c.in-Element.place
@@ -80,7 +80,7 @@ pub stamp-requires : goal.stamp-requires
 stamp-requires c =
     rw (read-after-stamps-else-closes-1 c) (inside c.loop-value.invariant (found-after-stamps-else-closes-1 c), omega (arith, below c.loop-value.invariant (found-after-stamps-else-closes-1 c)))
 
--- A with a number: its place, its value and the offset past it.
+-- A turn with a number: its place, its value and the offset past it.
 module _ (c : goal.Then-closes) where
   abbrev place-then-closes : ℕ
   place-then-closes = c.in-Element.place
@@ -119,7 +119,7 @@ pub loop-value-preserved-then-closes : goal.loop-value-preserved-then-closes
 loop-value-preserved-then-closes c =
     closed c.loop-value.invariant (found-then-closes c) c.is_repeat.result (told-then-closes c) (sym (closing-then-closes c) ∙ c.if-closes.true)
 
--- A with a number: its place, its value and the offset past it.
+-- A turn with a number: its place, its value and the offset past it.
 module _ (c : goal.After-stamp) where
   abbrev place-after-stamp : ℕ
   place-after-stamp = c.in-Element.place
@@ -163,7 +163,7 @@ loop-value-preserved-else-closes c =
     (sym (closing-after-stamp c) ∙ c.if-closes.false) (new-after-stamp c) _
     (c.stamp.ensures ∙ ap (λ (x : ℤ). set (stamps-after-stamp c) (slot x) (k-after-stamp c + 1)) (read-after-stamp c))
 
--- A with a number: its place, its value and the offset past it.
+-- A turn with a number: its place, its value and the offset past it.
 module _ (c : goal.Else-not-is_repeat) where
   abbrev place-else-not-is_repeat : ℕ
   place-else-not-is_repeat = c.in-Element.place
