@@ -6,10 +6,11 @@ ghost use Rattle.std.specs.Prelude.{◌≡◌};
 ghost use Rattle.refusal_causes.specs.Lent.{plain_problem, wishes_alone, wished_problem, exported_problem, chosen_problem};
 ghost use Rattle.admission_steps.specs.Admission.{admission};
 
-use admission_steps::Admission;
+use admission_steps::Counts;
+use refusal::Refusal;
 
 // n and the rules.
-pub fn admit_rules(n: usize, rules: &[i32]) -> Admission
+pub fn admit_rules(n: usize, rules: &[i32]) -> Result<Counts, Refusal>
     ensures { result ≡ admission (plain_problem n rules.now) }
 {
     let ranged = admission_steps::admit_range(n, 0);
@@ -17,7 +18,7 @@ pub fn admit_rules(n: usize, rules: &[i32]) -> Admission
 }
 
 // n, the row and the limit: no rules are as good as an empty list.
-pub fn admit_row(n: usize, row: &[u8], d: usize) -> Admission
+pub fn admit_row(n: usize, row: &[u8], d: usize) -> Result<Counts, Refusal>
     ensures { result ≡ admission (wishes_alone n row.now d) }
 {
     let rules: [i32; 0] = [];
@@ -25,7 +26,7 @@ pub fn admit_row(n: usize, row: &[u8], d: usize) -> Admission
 }
 
 // n, the rules, the row and the limit.
-pub fn admit_wishes(n: usize, rules: &[i32], row: &[u8], d: usize) -> Admission
+pub fn admit_wishes(n: usize, rules: &[i32], row: &[u8], d: usize) -> Result<Counts, Refusal>
     ensures { result ≡ admission (wished_problem n rules.now row.now d) }
 {
     let ranged = admission_steps::admit_range(n, d);
@@ -36,7 +37,7 @@ pub fn admit_wishes(n: usize, rules: &[i32], row: &[u8], d: usize) -> Admission
 }
 
 // The same, where every rule must have an entry.
-pub fn admit_export(n: usize, rules: &[i32], row: &[u8], d: usize) -> Admission
+pub fn admit_export(n: usize, rules: &[i32], row: &[u8], d: usize) -> Result<Counts, Refusal>
     ensures { result ≡ admission (exported_problem n rules.now row.now d) }
 {
     let wished = admit_wishes(n, rules, row, d);
@@ -44,7 +45,7 @@ pub fn admit_export(n: usize, rules: &[i32], row: &[u8], d: usize) -> Admission
 }
 
 // n, the rules, the row and a given choice.
-pub fn admit_choice(n: usize, rules: &[i32], row: &[u8], choice: &[u8]) -> Admission
+pub fn admit_choice(n: usize, rules: &[i32], row: &[u8], choice: &[u8]) -> Result<Counts, Refusal>
     ensures { result ≡ admission (chosen_problem n rules.now row.now choice.now) }
 {
     let ranged = admission_steps::admit_range(n, 0);

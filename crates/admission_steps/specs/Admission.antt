@@ -1,24 +1,24 @@
 -- What the admitting functions answer: the first cause to refuse what is lent, or how much it holds.
-use Rattle.std.specs.Prelude.{◌≡◌, List, ℕ, ◌≤◌, ℤ, length}
-use Rattle.std.proofs.Math.Option.{Option, none, some}
+use Rattle.std.specs.Prelude.{◌≡◌, List, ℕ, ◌≤◌, ℤ, length, Option, None, Some, Result, Ok, Err}
 use Rattle.formula.specs.Formula as formula
 use Rattle.wish.specs.Wish.{wish_count, total_weight}
 use Rattle.refusal.specs.declared.Refusal.{Refusal}
 use Rattle.limits.specs.Limits.{max_variables}
 use Rattle.refusal_causes.specs.Lent.{Lent, Wishes, unadmitted, refusal_of}
 use Rattle.admission_steps.specs.declared.Counts.{Counts}
-use Rattle.admission_steps.specs.declared.Admission as A
-use Rattle.admission_steps.specs.declared.Admission.{Admission}
 
 -- refused for a cause, or admitted with these counts
+abbrev pub Admission : Type 0
+Admission = Result Counts Refusal
+
 abbrev pub answer : Option Refusal → Counts → Admission
-answer none counts = A.TheVariants.Admitted counts
-answer (some r) counts = A.TheVariants.Refused r
+answer None counts = Ok counts
+answer (Some r) counts = Err r
 
 -- a number of a row, where the call takes one
 abbrev pub of_row : (List ℕ → ℕ) → Option Wishes → ℕ
-of_row count none = 0
-of_row count (some wishes) = count wishes.row
+of_row count None = 0
+of_row count (Some wishes) = count wishes.row
 
 -- how much was lent: "Entries counted below exclude closing zeros" (document 01, "Words of the trade")
 abbrev pub counts_of : Lent → Counts
@@ -39,8 +39,8 @@ start s = answer (refusal_of s) (counts_of s)
 
 -- one step after another: a refusal stays what it is, and what was admitted goes through the next step
 abbrev pub and_then : Admission → (Counts → Admission) → Admission
-and_then (A.TheVariants.Refused r) step = A.TheVariants.Refused r
-and_then (A.TheVariants.Admitted counts) step = step counts
+and_then (Err r) step = Err r
+and_then (Ok counts) step = step counts
 
 -- the counts before anything is counted, once the rules are, and once a row's wishes are
 abbrev pub no_counts : Counts
@@ -56,4 +56,4 @@ with_wish_counts row k =
 
 -- n was found to be in range: what is admitted has no more variables than a table has room for
 abbrev pub Ranged : ℕ → Admission → Type 0
-Ranged n a = (k : Counts) → a ≡ A.TheVariants.Admitted k → n ≤ max_variables
+Ranged n a = (k : Counts) → a ≡ Ok k → n ≤ max_variables

@@ -1,38 +1,34 @@
 -- What an answer comes from, and what it tells.
-use Rattle.std.specs.Prelude.{◌≡◌, refl, List, [], ◌∷◌, map, ℕ}
+use Rattle.std.specs.Prelude.{◌≡◌, refl, List, [], ◌∷◌, map, ℕ, Option, None, Some, Result, Ok, Err, ⊤}
 use Rattle.std.proofs.Common.{sym, ap, ◌∙◌}
-use Rattle.std.proofs.Math.Option.{Option, none, some}
 use Rattle.refusal.specs.declared.Refusal.{Refusal}
-use Rattle.refusal.specs.declared.Verdict.{Verdict}
 use Rattle.refusal.specs.Laws.{first_last, cause_none}
 use Rattle.refusal.specs.Reply.{refused, first, cause, given, too_short}
 use Rattle.refusal_causes.specs.Laws.{in_range}
 use Rattle.refusal_causes.specs.Lent.{Lent, with_room, out_of_range, causes, unadmitted}
 use Rattle.admission_steps.specs.declared.Counts.{Counts}
-use Rattle.admission_steps.specs.declared.Admission.TheVariants.{Refused, Admitted}
-use Rattle.admission_steps.specs.declared.Admission.{Admission}
-use Rattle.admission_steps.specs.Admission.{answer, counts_of, admission, start, and_then, Ranged}
+use Rattle.admission_steps.specs.Admission.{Admission, answer, counts_of, admission, start, and_then, Ranged}
 
-pub refused_by_lem : (o : Option Refusal) (counts : Counts) (r : Refusal) → answer o counts ≡ Refused r → o ≡ some r
-refused_by_lem none counts r e = cc
-refused_by_lem (some q) counts r e = cc
+pub refused_by_lem : (o : Option Refusal) (counts : Counts) (r : Refusal) → answer o counts ≡ Err r → o ≡ Some r
+refused_by_lem None counts r e = cc
+refused_by_lem (Some q) counts r e = cc
 
-pub admitted_by : (o : Option Refusal) (counts k : Counts) → answer o counts ≡ Admitted k → (o ≡ none) × (k ≡ counts)
-admitted_by none counts k e = (refl, (cc))
-admitted_by (some q) counts k e = ((cc), (cc))
+pub admitted_by : (o : Option Refusal) (counts k : Counts) → answer o counts ≡ Ok k → (o ≡ None) × (k ≡ counts)
+admitted_by None counts k e = (refl, (cc))
+admitted_by (Some q) counts k e = ((cc), (cc))
 
 -- a step, from what it was handed: a refusal stays, and what was admitted goes on
-pub stays : (a : Admission) (step : Counts → Admission) (r : Refusal) → a ≡ Refused r → Refused r ≡ and_then a step
+pub stays : (a : Admission) (step : Counts → Admission) (r : Refusal) → a ≡ Err r → Err r ≡ and_then a step
 stays a step r e = sym (ap (λ (x : Admission). and_then x step) e)
 
-pub goes_on : (a : Admission) (step : Counts → Admission) (k : Counts) → a ≡ Admitted k → (b : Admission) → b ≡ step k → b ≡ and_then a step
+pub goes_on : (a : Admission) (step : Counts → Admission) (k : Counts) → a ≡ Ok k → (b : Admission) → b ≡ step k → b ≡ and_then a step
 goes_on a step k e b f = f ∙ sym (ap (λ (x : Admission). and_then x step) e)
 
 -- the earlier of two causes; a second one that does not apply computes away
 abbrev earlier : Option Refusal → Option Refusal → Option Refusal
-earlier o none = o
-earlier none (some r) = some r
-earlier (some q) (some r) = some q
+earlier o None = o
+earlier None (Some r) = Some r
+earlier (Some q) (Some r) = Some q
 
 -- what a line of steps has come to: this cause, or these counts
 pub record CameTo (a : Admission) (o : Option Refusal) (k : Counts) : Type 0 where
@@ -54,12 +50,12 @@ then {a} {b} {o} {k} t p f e =
     record { told = e ∙ ap (λ (x : Admission). and_then x (λ (c : Counts). answer (p c) (f c))) t.told ∙ go o (p k) refl }
   where
     go : (o q : Option Refusal) → p k ≡ q → and_then (answer o k) (λ (c : Counts). answer (p c) (f c)) ≡ answer (earlier o q) (f k)
-    go none none h = ap (λ (x : Option Refusal). answer x (f k)) h
-    go none (some r) h = ap (λ (x : Option Refusal). answer x (f k)) h
-    go (some q) none h = refl
-    go (some q) (some r) h = refl
+    go None None h = ap (λ (x : Option Refusal). answer x (f k)) h
+    go None (Some r) h = ap (λ (x : Option Refusal). answer x (f k)) h
+    go (Some q) None h = refl
+    go (Some q) (Some r) h = refl
 
-pub then_cause : {a b : Admission} {o : Option Refusal} {k : Counts} → CameTo a o k → (v : Verdict) (q : Option Refusal) → refused v ≡ q
+pub then_cause : {a b : Admission} {o : Option Refusal} {k : Counts} → CameTo a o k → (v : Result ⊤ Refusal) (q : Option Refusal) → refused v ≡ q
     → b ≡ and_then a (answer (refused v)) → CameTo b (earlier o q) k
 then_cause {a} t v q g e =
     then t (λ (c : Counts). q) (λ (c : Counts). c) (e ∙ ap (λ (x : Option Refusal). and_then a (answer x)) g)
@@ -71,14 +67,14 @@ from o (q ∷ causes) = from (earlier o q) causes
 
 from_first : (o : Option Refusal) (causes : List (Option Refusal)) → first (o ∷ causes) ≡ from o causes
 from_first o [] = first_last o
-from_first none (none ∷ causes) = from_first none causes
-from_first none (some r ∷ causes) = from_first (some r) causes
-from_first (some q) (none ∷ causes) = from_first (some q) causes
-from_first (some q) (some r ∷ causes) = from_first (some q) causes
+from_first None (None ∷ causes) = from_first None causes
+from_first None (Some r ∷ causes) = from_first (Some r) causes
+from_first (Some q) (None ∷ causes) = from_first (Some q) causes
+from_first (Some q) (Some r ∷ causes) = from_first (Some q) causes
 
 -- the first cause of all, written so that those which cannot apply compute away; it is `first` (`turn_first`)
 abbrev pub in_turn : List (Option Refusal) → Option Refusal
-in_turn [] = none
+in_turn [] = None
 in_turn (o ∷ causes) = from o causes
 
 turn_first : (causes : List (Option Refusal)) → first causes ≡ in_turn causes
@@ -98,5 +94,5 @@ started a s needed room e =
     ap (λ (x : Admission). and_then x (answer (too_short needed room))) e ∙ room_last (unadmitted s)
   where
     room_last : (o : Option Refusal) → and_then (answer o (counts_of s)) (answer (too_short needed room)) ≡ answer (first (o ∷ too_short needed room ∷ [])) (counts_of s)
-    room_last none = ap (λ (q : Option Refusal). answer q (counts_of s)) (sym (first_last (too_short needed room)))
-    room_last (some r) = refl
+    room_last None = ap (λ (q : Option Refusal). answer q (counts_of s)) (sym (first_last (too_short needed room)))
+    room_last (Some r) = refl

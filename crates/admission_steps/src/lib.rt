@@ -12,12 +12,10 @@ ghost use Rattle.refusal_causes.specs.Sound.{bad_wish};
 ghost use Rattle.admission_steps.specs.declared.Counts.{Counts};
 ghost use Rattle.admission_steps.specs.Admission.{answer, no_counts, with_rule_counts, with_wish_counts, and_then, Ranged};
 
-use refusal::{Refusal, Verdict};
-use refusal_causes::RowScan;
-use rule_list::RuleScan;
+use refusal::Refusal;
 
 // How many clauses, literals and wishes were lent, and what the wishes weigh.
-#[derive(Clone, Copy)]
+#[derive(Clone, Copy, Debug, PartialEq, Eq)]
 pub struct Counts {
     pub clauses: usize,
     pub literals: usize,
@@ -25,94 +23,66 @@ pub struct Counts {
     pub weight: usize,
 }
 
-// Refused, or admitted with these counts.
-#[derive(Clone, Copy)]
-pub enum Admission {
-    Refused(Refusal),
-    Admitted(Counts),
-}
-
 // 14: n and the limit, before anything is counted.
-pub fn admit_range(n: usize, d: usize) -> Admission
+pub fn admit_range(n: usize, d: usize) -> Result<Counts, Refusal>
     ensures { result ≡ answer (cause (out_of_range n d) 14 0) no_counts }
 {
-    let counts = Counts {
+    refusal_causes::check_range(n, d)?;
+    Ok(Counts {
         clauses: 0,
         literals: 0,
         wishes: 0,
         weight: 0,
-    };
-    and_then(
-        Admission::Admitted(counts),
-        refusal_causes::check_range(n, d),
-    )
+    })
 }
 
 // 13: the rules, which are counted.
-pub fn then_rules(a: Admission, n: usize, rules: &[i32]) -> Admission
+pub fn then_rules(a: Result<Counts, Refusal>, n: usize, rules: &[i32]) -> Result<Counts, Refusal>
     requires { Ranged n a }
     ensures { result ≡ and_then a (λ (k : Counts). answer (cause_at 13 (bad_rule n unread 0 rules.now)) (with_rule_counts rules.now k)) }
 {
-    match a {
-        Admission::Refused(r) => Admission::Refused(r),
-        Admission::Admitted(counts) => match rule_list::scan_rules(n, rules) {
-            RuleScan::Unsound(place) => Admission::Refused(Refusal { number: 13, place }),
-            RuleScan::Sound { clauses, literals } => Admission::Admitted(Counts {
-                clauses,
-                literals,
-                wishes: counts.wishes,
-                weight: counts.weight,
-            }),
-        },
-    }
+    let counts = a?;
+    let size = rule_list::scan_rules(n, rules)?;
+    Ok(Counts {
+        clauses: size.clauses,
+        literals: size.literals,
+        ..counts
+    })
 }
 
 // A cause by itself.
-pub fn and_then(a: Admission, verdict: Verdict) -> Admission
+pub fn and_then(a: Result<Counts, Refusal>, verdict: Result<(), Refusal>) -> Result<Counts, Refusal>
     ensures { result ≡ and_then a (answer (refused verdict)) }
 {
-    match a {
-        Admission::Refused(r) => Admission::Refused(r),
-        Admission::Admitted(counts) => match verdict {
-            Verdict::Refuse(r) => Admission::Refused(r),
-            Verdict::Pass => Admission::Admitted(counts),
-        },
-    }
+    let counts = a?;
+    verdict?;
+    Ok(counts)
 }
 
 // 13: the wish row, whose wishes are counted.
-pub fn then_row(a: Admission, row: &[u8]) -> Admission
+pub fn then_row(a: Result<Counts, Refusal>, row: &[u8]) -> Result<Counts, Refusal>
     ensures { result ≡ and_then a (λ (k : Counts). answer (cause_at 13 (bad_wish 0 0 row.now)) (with_wish_counts row.now k)) }
 {
-    match a {
-        Admission::Refused(r) => Admission::Refused(r),
-        Admission::Admitted(counts) => match refusal_causes::scan_row(row) {
-            RowScan::Unsound(place) => Admission::Refused(Refusal { number: 13, place }),
-            RowScan::Sound { wishes, weight } => Admission::Admitted(Counts {
-                clauses: counts.clauses,
-                literals: counts.literals,
-                wishes,
-                weight,
-            }),
-        },
-    }
+    let counts = a?;
+    let size = refusal_causes::scan_row(row)?;
+    Ok(Counts {
+        wishes: size.wishes,
+        weight: size.weight,
+        ..counts
+    })
 }
 
 // 12: the size, from what was counted.
-pub fn then_size(a: Admission, n: usize) -> Admission
+pub fn then_size(a: Result<Counts, Refusal>, n: usize) -> Result<Counts, Refusal>
     ensures { result ≡ and_then a (λ (k : Counts). answer (cause (oversized n k.clauses k.literals) 12 0) k) }
 {
-    match a {
-        Admission::Refused(r) => Admission::Refused(r),
-        Admission::Admitted(counts) => and_then(
-            a,
-            refusal_causes::check_size(n, counts.clauses, counts.literals),
-        ),
-    }
+    let counts = a?;
+    refusal_causes::check_size(n, counts.clauses, counts.literals)?;
+    Ok(counts)
 }
 
 // 15: the room that the call's output needs.
-pub fn with_room(a: Admission, needed: usize, room: usize) -> Admission
+pub fn with_room(a: Result<Counts, Refusal>, needed: usize, room: usize) -> Result<Counts, Refusal>
     ensures { result ≡ and_then a (answer (too_short needed room)) }
 {
     and_then(a, refusal::check_room(needed, room))

@@ -1,7 +1,6 @@
 -- The replies of the checking call.
-use Rattle.std.specs.Prelude.{◌≡◌, true, false, List, ℕ, ℤ}
+use Rattle.std.specs.Prelude.{◌≡◌, true, false, List, ℕ, ℤ, Option, None, Some}
 use Rattle.std.proofs.Common.{sym, ap, ◌∙◌}
-use Rattle.std.proofs.Math.Option.{Option, none, some}
 use Rattle.formula.specs.Formula.{clauses, models}
 use Rattle.distance.specs.Distance.{disagreement}
 use Rattle.refusal.specs.declared.Refusal.{Refusal}
@@ -18,11 +17,11 @@ module _ (n : ℕ) (rules : List ℤ) (row choice : List ℕ) where
   whole : (o : Option Refusal) → cause_of ≡ o → check_reply n rules row choice ≡ unless o (judged rules row choice)
   whole o e = ap (λ (q : Option Refusal). unless q (judged rules row choice)) (first_or_none cause_of ∙ e)
 
-  pub refused_check : (r : Refusal) → cause_of ≡ some r → refusing r ≡ check_reply n rules row choice
-  refused_check r e = sym (whole (some r) e)
+  pub refused_check : (r : Refusal) → cause_of ≡ Some r → refusing r ≡ check_reply n rules row choice
+  refused_check r e = sym (whole (Some r) e)
 
-  pub answered_check : cause_of ≡ none → judged rules row choice ≡ check_reply n rules row choice
-  answered_check e = sym (whole none e)
+  pub answered_check : cause_of ≡ None → judged rules row choice ≡ check_reply n rules row choice
+  answered_check e = sym (whole None e)
 
 -- the two answers
 pub judged_met : (rules : List ℤ) (row choice : List ℕ) (k : ℕ) → models choice (clauses rules) ≡ true → k ≡ disagreement row choice → answering 1 k 0 0 ≡ judged rules row choice

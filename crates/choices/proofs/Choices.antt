@@ -1,9 +1,8 @@
 -- What follows from the definitions of specs/Choices.antt.
-use Rattle.std.specs.Prelude.{◌≡◌, refl, ◌↔◌, Bool, ℕ, zero, suc, ◌≤◌, ◌<◌, leb, ℤ, get_or}
+use Rattle.std.specs.Prelude.{◌≡◌, refl, ◌↔◌, Bool, ℕ, zero, suc, ◌≤◌, ◌<◌, leb, ℤ, get_or, None, Some}
 use Rattle.std.proofs.Common.{sym, ap, subst, ⊎_elim, not-suc-le-zero, le_of_suc-le-suc, lt_of_not-le, arith, lit<, leb-true, le-leb}
 use mathlib.Core.List.Memᴰ
 use mathlib.Core.List.{List, [], ◌∷◌, map, Memᴰ}
-use Rattle.std.proofs.Math.Option.{none, some}
 use Rattle.std.proofs.Math.Nat.{suc_inj}
 use Rattle.literal.specs.Literal.{value}
 use Rattle.literal.specs.Laws.{get_or_inside}
@@ -89,22 +88,22 @@ within_none n list row d = (forth, back)
     back g = (empty_iff (within n list row d)).1 (λ a m. let r = (within_iff n list row d a).0 m in omega (arith, g a r.0, r.1))
 
 -- "or none when the rules can't be met"
-pub nearest_none : (n : ℕ) (list : List ℤ) (row : List ℕ) → (nearest n list row ≡ none) ↔ ((a : List ℕ) → Model n (clauses list) a → ⊥)
+pub nearest_none : (n : ℕ) (list : List ℤ) (row : List ℕ) → (nearest n list row ≡ None) ↔ ((a : List ℕ) → Model n (clauses list) a → ⊥)
 nearest_none n list row = (forth, back)
   where
     counts : List ℕ
     counts = map (disagreement row) (permitted n list)
 
-    forth : nearest n list row ≡ none → (a : List ℕ) → Model n (clauses list) a → ⊥
+    forth : nearest n list row ≡ None → (a : List ℕ) → Model n (clauses list) a → ⊥
     forth e a h = (empty_iff counts).0 ((least_none counts).0 e) (disagreement row a) (Memᴰ.map (disagreement row) ((permitted_iff n list a).1 h))
 
-    back : ((a : List ℕ) → Model n (clauses list) a → ⊥) → nearest n list row ≡ none
+    back : ((a : List ℕ) → Model n (clauses list) a → ⊥) → nearest n list row ≡ None
     back g =
         (least_none counts).1
         ((empty_iff counts).1 (λ k m. let r = Memᴰ.of_map (disagreement row) (permitted n list) m in g r.0 ((permitted_iff n list r.0).0 r.1)))
 
 -- "Nearest gives the least number of broken wishes with a choice"
-pub nearest-some : (n : ℕ) (list : List ℤ) (row : List ℕ) (k : ℕ) → (nearest n list row ≡ some k) ↔ Nearest n (clauses list) row k
+pub nearest-some : (n : ℕ) (list : List ℤ) (row : List ℕ) (k : ℕ) → (nearest n list row ≡ Some k) ↔ Nearest n (clauses list) row k
 nearest-some n list row k = (λ e. forth ((least-some counts k).0 e), λ h. (least-some counts k).1 (back h))
   where
     counts : List ℕ

@@ -1,10 +1,10 @@
 -- What follows from the definitions of specs/Lists.antt.
-use Rattle.std.specs.Prelude.{◌≡◌, refl, ◌↔◌, Bool, true, false, cond, ◌&&◌, ◌||◌, ℕ, zero, suc, min, ◌≤◌, ◌<◌, leb, length, get_or}
+use Rattle.std.specs.Prelude.{◌≡◌, refl, ◌↔◌, Bool, true, false, cond, ◌&&◌, ◌||◌, ℕ, zero, suc, min, ◌≤◌, ◌<◌, leb, length, get_or, Option, None, Some, option_map}
 use Rattle.std.proofs.Common.{sym, ap, subst, ◌∙◌, true≢false, le_of_suc-le-suc, not-suc-le-zero, arith, leb-true, leb-false}
 use Rattle.std.proofs.Math.Bool.{or-true}
 use mathlib.Core.List.Memᴰ
 use mathlib.Core.List.{List, [], ◌∷◌, Memᴰ}
-use Rattle.std.proofs.Math.Option.{Option, none, some, map, some-injective, none-ne-some, some-ne-none}
+use Rattle.std.proofs.lemmas.Option.{same_Some, none-some}
 use Rattle.std.proofs.Math.Nat.{min-eq_left, min-eq_right}
 use Rattle.formula.specs.Formula.{any, all}
 use Rattle.distance.specs.Distance.{keep, least}
@@ -107,13 +107,13 @@ minimum_step {l} {m} k h = record { attained = go (leb k m) refl; below = λ j q
     under j (Memᴰ.tail q) = omega (arith, h.below j q)
 
 -- a list that is not empty has a least number, and `least` gives it
-pub least-cons : (k : ℕ) (l : List ℕ) → (m : ℕ) × (least (k ∷ l) ≡ some m) × Minimum (k ∷ l) m
+pub least-cons : (k : ℕ) (l : List ℕ) → (m : ℕ) × (least (k ∷ l) ≡ Some m) × Minimum (k ∷ l) m
 least-cons k [] = (k, refl, record { attained = Memᴰ.head refl; below = λ j q. under j q })
   where
     under : (j : ℕ) → Memᴰ j (k ∷ []) → k ≤ j
     under j (Memᴰ.head e) = omega arith
     under j (Memᴰ.tail q) = absurd (Memᴰ.not-nil q)
-least-cons k (j ∷ l) = let r = least-cons j l in (min k r.0, ap (map (min k)) r.1, minimum_step k r.2)
+least-cons k (j ∷ l) = let r = least-cons j l in (min k r.0, ap (option_map (min k)) r.1, minimum_step k r.2)
 
 -- a list is empty exactly when nothing stands in it
 pub empty_iff {ℓ} : {A : Type ℓ} (l : List A) → (l ≡ []) ↔ ((x : A) → Memᴰ x l → ⊥)
@@ -123,22 +123,22 @@ empty_iff {A} l = (λ (e : l ≡ []) (x : A) (m : Memᴰ x l). Memᴰ.not-nil (s
     back [] f = refl
     back (y ∷ k) f = absurd (f y (Memᴰ.head refl))
 
-pub least_none : (l : List ℕ) → (least l ≡ none) ↔ (l ≡ [])
+pub least_none : (l : List ℕ) → (least l ≡ None) ↔ (l ≡ [])
 least_none [] = (λ e. refl, λ e. refl)
-least_none (k ∷ l) = (λ e. absurd (some-ne-none _ e), λ e. absurd ((empty_iff (k ∷ l)).0 e k (Memᴰ.head refl)))
+least_none (k ∷ l) = (λ e. absurd (none-some _ (sym e)), λ e. absurd ((empty_iff (k ∷ l)).0 e k (Memᴰ.head refl)))
 
-pub least-some : (l : List ℕ) (k : ℕ) → (least l ≡ some k) ↔ Minimum l k
-least-some [] k = (λ e. absurd (none-ne-some k e), λ h. absurd (Memᴰ.not-nil h.attained))
+pub least-some : (l : List ℕ) (k : ℕ) → (least l ≡ Some k) ↔ Minimum l k
+least-some [] k = (λ e. absurd (none-some k e), λ h. absurd (Memᴰ.not-nil h.attained))
 least-some (j ∷ l) k = (λ e. forth e, λ h. back h)
   where
     m : ℕ
     m = (least-cons j l).0
 
-    forth : least (j ∷ l) ≡ some k → Minimum (j ∷ l) k
-    forth e = subst (Minimum (j ∷ l)) (some-injective m k (sym (least-cons j l).1 ∙ e)) (least-cons j l).2
+    forth : least (j ∷ l) ≡ Some k → Minimum (j ∷ l) k
+    forth e = subst (Minimum (j ∷ l)) (same_Some m k (sym (least-cons j l).1 ∙ e)) (least-cons j l).2
 
-    back : Minimum (j ∷ l) k → least (j ∷ l) ≡ some k
+    back : Minimum (j ∷ l) k → least (j ∷ l) ≡ Some k
     back h =
         let r : Minimum (j ∷ l) m = (least-cons j l).2 in
         let e : m ≡ k = omega (arith, r.below k h.attained, h.below m r.attained) in
-        (least-cons j l).1 ∙ ap {B = Option ℕ} some e
+        (least-cons j l).1 ∙ ap {B = Option ℕ} Some e

@@ -1,10 +1,9 @@
 -- What follows from the definitions of specs/Order.antt.
-use Rattle.std.specs.Prelude.{◌≡◌, refl, ◌↔◌, ◌⊎◌, Bool, true, false, cond, ℕ, zero, suc, ◌<◌, leb, ℤ}
+use Rattle.std.specs.Prelude.{◌≡◌, refl, ◌↔◌, ◌⊎◌, Bool, true, false, cond, ℕ, zero, suc, ◌<◌, leb, ℤ, Option, None, Some, option_map, slice_get}
 use Rattle.std.proofs.Common.{sym, ap, subst, ◌∙◌, inl, inr, ⊎_elim, le_of_suc-le-suc, not-suc-le-zero, arith}
 use mathlib.Core.List.Memᴰ
-use mathlib.Core.List.{List, [], ◌∷◌, ◌++◌, map, head?, Memᴰ}
-use Rattle.std.proofs.Math.Option
-use Rattle.std.proofs.Math.Option.{Option, none, some, some-injective, none-ne-some}
+use mathlib.Core.List.{List, [], ◌∷◌, ◌++◌, map, Memᴰ}
+use Rattle.std.proofs.lemmas.Option.{same_Some, none-some}
 use Rattle.std.proofs.Math.Decide.{dec_lt}
 use Rattle.literal.specs.Literal.{value}
 use Rattle.formula.specs.Formula.{clauses, models}
@@ -97,21 +96,21 @@ pub before-total : (n : ℕ) (a b : List ℕ) → Choice n a → Choice n b → 
 before-total n a b c d = rising_total (choices n) (choices_rising n) ((choices_iff n a).1 c) ((choices_iff n b).1 d)
 
 -- the head of such a list: it stands in it, and comes before all others
-head_leads : (l : List (List ℕ)) → Rising l → (a : List ℕ) → head? l ≡ some a → Memᴰ a l × ((b : List ℕ) → Memᴰ b l → (a ≡ b) ⊎ Before a b)
-head_leads [] r a e = absurd (none-ne-some a e)
+head_leads : (l : List (List ℕ)) → Rising l → (a : List ℕ) → slice_get l 0 ≡ Some a → Memᴰ a l × ((b : List ℕ) → Memᴰ b l → (a ≡ b) ⊎ Before a b)
+head_leads [] r a e = absurd (none-some a e)
 head_leads (c ∷ l) r a e = (Memᴰ.head (sym z), others)
   where
     z : c ≡ a
-    z = some-injective c a e
+    z = same_Some c a e
 
     others : (b : List ℕ) → Memᴰ b (c ∷ l) → (a ≡ b) ⊎ Before a b
     others b (Memᴰ.head q) = inl (sym z ∙ sym q)
     others b (Memᴰ.tail q) = inr (subst (λ (x : List ℕ). Before x b) z (r.0 b q))
 
 -- and what does so is the head
-leads_head : (l : List (List ℕ)) → Rising l → (a : List ℕ) → Memᴰ a l → ((b : List ℕ) → Memᴰ b l → (a ≡ b) ⊎ Before a b) → head? l ≡ some a
+leads_head : (l : List (List ℕ)) → Rising l → (a : List ℕ) → Memᴰ a l → ((b : List ℕ) → Memᴰ b l → (a ≡ b) ⊎ Before a b) → slice_get l 0 ≡ Some a
 leads_head [] r a m h = absurd (Memᴰ.not-nil m)
-leads_head (c ∷ l) r a m h = ⊎_elim (λ e. ap {B = Option (List ℕ)} some (sym e)) (λ b. absurd (against m b)) (h c (Memᴰ.head refl))
+leads_head (c ∷ l) r a m h = ⊎_elim (λ e. ap {B = Option (List ℕ)} Some (sym e)) (λ b. absurd (against m b)) (h c (Memᴰ.head refl))
   where
     against : Memᴰ a (c ∷ l) → Before a c → ⊥
     against (Memᴰ.head q) b = let s : Before a a = subst (Before a) (sym q) b in before_asym s s
@@ -123,25 +122,25 @@ module _ (n : ℕ) (list : List ℤ) (row : List ℕ) where
       rising_keep (λ (a : List ℕ). leb (disagreement row a) d) (permitted n list) (rising_keep (λ (a : List ℕ). models a (clauses list)) (choices n) (choices_rising n))
 
   -- what `first_within` gives
-  pub first_within_lem : (d : ℕ) (a : List ℕ) → (first_within n list row d ≡ some a) ↔ FirstWithin n (clauses list) row d a
+  pub first_within_lem : (d : ℕ) (a : List ℕ) → (first_within n list row d ≡ Some a) ↔ FirstWithin n (clauses list) row d a
   first_within_lem d a = (forth, back)
     where
-      forth : first_within n list row d ≡ some a → FirstWithin n (clauses list) row d a
+      forth : first_within n list row d ≡ Some a → FirstWithin n (clauses list) row d a
       forth e =
           let r = head_leads (within n list row d) (within_rising d) a e in
           let m = (within_iff n list row d a).0 r.0 in
           record { model = m.0; limited = m.1; first = λ b k l. r.1 b ((within_iff n list row d b).1 (k, l)) }
 
-      back : FirstWithin n (clauses list) row d a → first_within n list row d ≡ some a
+      back : FirstWithin n (clauses list) row d a → first_within n list row d ≡ Some a
       back h =
           leads_head (within n list row d) (within_rising d) a ((within_iff n list row d a).1 (h.model, h.limited))
           (λ b q. let m = (within_iff n list row d b).0 q in h.first b m.0 m.1)
 
   -- with the nearest count as the limit, the first within it is the first nearest
-  pub first_at : (k : ℕ) → nearest n list row ≡ some k → first_nearest n list row ≡ first_within n list row k
+  pub first_at : (k : ℕ) → nearest n list row ≡ Some k → first_nearest n list row ≡ first_within n list row k
   first_at k e = rw e
 
-  first_never : nearest n list row ≡ none → first_nearest n list row ≡ none
+  first_never : nearest n list row ≡ None → first_nearest n list row ≡ None
   first_never e = rw e
 
   at_least : (k : ℕ) → Nearest n (clauses list) row k → (a : List ℕ) → FirstWithin n (clauses list) row k a → FirstNearest n (clauses list) row a
@@ -152,46 +151,46 @@ module _ (n : ℕ) (list : List ℤ) (row : List ℕ) where
         first = λ b m e. w.first b m (omega (arith, w.limited, e));
       }
 
-  some_first : (k : ℕ) → Nearest n (clauses list) row k → (a : List ℕ) × (first_within n list row k ≡ some a)
+  some_first : (k : ℕ) → Nearest n (clauses list) row k → (a : List ℕ) × (first_within n list row k ≡ Some a)
   some_first k h = go (within n list row k) ((within_iff n list row k h.attained.0).1 (h.attained.1, omega (arith, h.attained.2)))
     where
-      go : (l : List (List ℕ)) → Memᴰ h.attained.0 l → (a : List ℕ) × (head? l ≡ some a)
+      go : (l : List (List ℕ)) → Memᴰ h.attained.0 l → (a : List ℕ) × (slice_get l 0 ≡ Some a)
       go [] m = absurd (Memᴰ.not-nil m)
       go (a ∷ l) m = (a, refl)
 
   -- what `first_nearest` gives
-  pub first_nearest_lem : (a : List ℕ) → (first_nearest n list row ≡ some a) ↔ FirstNearest n (clauses list) row a
+  pub first_nearest_lem : (a : List ℕ) → (first_nearest n list row ≡ Some a) ↔ FirstNearest n (clauses list) row a
   first_nearest_lem a = (forth (nearest n list row) refl, back)
     where
-      forth : (o : Option ℕ) → nearest n list row ≡ o → first_nearest n list row ≡ some a → FirstNearest n (clauses list) row a
-      forth none e f = absurd (none-ne-some a (sym (first_never e) ∙ f))
-      forth (some k) e f = at_least k ((nearest-some n list row k).0 e) a ((first_within_lem k a).0 (sym (first_at k e) ∙ f))
+      forth : (o : Option ℕ) → nearest n list row ≡ o → first_nearest n list row ≡ Some a → FirstNearest n (clauses list) row a
+      forth None e f = absurd (none-some a (sym (first_never e) ∙ f))
+      forth (Some k) e f = at_least k ((nearest-some n list row k).0 e) a ((first_within_lem k a).0 (sym (first_at k e) ∙ f))
 
-      back : FirstNearest n (clauses list) row a → first_nearest n list row ≡ some a
+      back : FirstNearest n (clauses list) row a → first_nearest n list row ≡ Some a
       back h =
-          let e : nearest n list row ≡ some (disagreement row a)
+          let e : nearest n list row ≡ Some (disagreement row a)
           = (nearest-some n list row (disagreement row a)).1 (record { attained = (a, h.model, refl); below = h.below }) in
           first_at (disagreement row a) e
           ∙ (first_within_lem (disagreement row a) a).1
           (record { model = h.model; limited = omega arith; first = λ b m l. h.first b m (omega (arith, h.below b m)) })
 
   -- the choice breaks as many wishes as the nearest count says, and there is none exactly when there is no count
-  pub first_count : Option.map (disagreement row) (first_nearest n list row) ≡ nearest n list row
+  pub first_count : option_map (disagreement row) (first_nearest n list row) ≡ nearest n list row
   first_count = go (nearest n list row) refl
     where
-      go : (o : Option ℕ) → nearest n list row ≡ o → Option.map (disagreement row) (first_nearest n list row) ≡ o
-      go none e = ap (Option.map (disagreement row)) (first_never e)
-      go (some k) e =
+      go : (o : Option ℕ) → nearest n list row ≡ o → option_map (disagreement row) (first_nearest n list row) ≡ o
+      go None e = ap (option_map (disagreement row)) (first_never e)
+      go (Some k) e =
           let h : Nearest n (clauses list) row k = (nearest-some n list row k).0 e in
           let r = some_first k h in
           let w : FirstWithin n (clauses list) row k r.0 = (first_within_lem k r.0).0 r.1 in
           let same : disagreement row r.0 ≡ k = omega (arith, w.limited, h.below r.0 w.model) in
-          ap (Option.map (disagreement row)) (first_at k e ∙ r.1) ∙ ap {B = Option ℕ} some same
+          ap (option_map (disagreement row)) (first_at k e ∙ r.1) ∙ ap {B = Option ℕ} Some same
 
 -- "The same terminal for the same wishes" (document 02, L5): rules that the same choices meet have the same first nearest choice, however they are written
 module _ (n : ℕ) (row : List ℕ) where
   carried : (list other : List ℤ) → ((a : List ℕ) → Model n (clauses list) a ↔ Model n (clauses other) a) → (a : List ℕ)
-      → first_nearest n list row ≡ some a → first_nearest n other row ≡ some a
+      → first_nearest n list row ≡ Some a → first_nearest n other row ≡ Some a
   carried list other same a e =
       let h : FirstNearest n (clauses list) row a = (first_nearest_lem n list row a).0 e in
       (first_nearest_lem n other row a).1
@@ -201,6 +200,6 @@ module _ (n : ℕ) (row : List ℕ) where
   twins list other same = go (first_nearest n list row) refl (first_nearest n other row) refl
     where
       go : (o : Option (List ℕ)) → first_nearest n list row ≡ o → (p : Option (List ℕ)) → first_nearest n other row ≡ p → first_nearest n list row ≡ first_nearest n other row
-      go (some a) e p f = e ∙ sym (carried list other same a e)
-      go none e none f = e ∙ sym f
-      go none e (some b) f = carried other list (λ a. ((same a).1, (same a).0)) b f ∙ sym f
+      go (Some a) e p f = e ∙ sym (carried list other same a e)
+      go None e None f = e ∙ sym f
+      go None e (Some b) f = carried other list (λ a. ((same a).1, (same a).0)) b f ∙ sym f

@@ -1,7 +1,6 @@
 -- What stands in `choices`, `permitted` and `within` of crate distance, and what `nearest` gives, said of single choices.
-use Rattle.std.specs.Prelude.{◌≡◌, true, ℕ, ◌≤◌, ◌<◌, ℤ, length, get_or}
+use Rattle.std.specs.Prelude.{◌≡◌, true, ℕ, ◌≤◌, ◌<◌, ℤ, length, get_or, None, Some}
 use mathlib.Core.List.{List}
-use Rattle.std.proofs.Math.Option.{none, some}
 use Rattle.formula.specs.Formula.{models}
 use Rattle.distance.specs.Distance.{disagreement}
 

@@ -1,6 +1,5 @@
 -- Decimal numbers as files have them, in ASCII bytes (document 01, "The rule file" and "The wish file").
-use Rattle.std.specs.Prelude.{Bool, true, false, cond, not, ◌&&◌, List, [], ◌∷◌, ◌++◌, ℕ, zero, suc, ◌+◌, ◌-◌, ◌*◌, ◌/◌, ◌%◌, eqb, leb, ltb, length}
-use Rattle.std.proofs.Math.Option.{Option, none, some}
+use Rattle.std.specs.Prelude.{Bool, true, false, cond, not, ◌&&◌, List, [], ◌∷◌, ◌++◌, ℕ, zero, suc, ◌+◌, ◌-◌, ◌*◌, ◌/◌, ◌%◌, eqb, leb, ltb, length, Option, None, Some}
 
 -- the last k digits of a number at most, without leading zeros; 0 is the digit 0
 unfoldable pub digits : ℕ → ℕ → List ℕ
@@ -36,4 +35,4 @@ is_number w = leb 1 (length w) && (leb (length w) 5 && (only_digits w && not (le
 
 -- the number that some bytes are, if they are one
 abbrev pub number : List ℕ → Option ℕ
-number w = cond (is_number w) (some (value_from 0 w)) none
+number w = cond (is_number w) (Some (value_from 0 w)) None

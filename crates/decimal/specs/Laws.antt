@@ -1,8 +1,8 @@
 -- Reading and writing a number undo one another.
-use Rattle.std.specs.Prelude.{◌≡◌, refl, Bool, true, false, cond, ◌&&◌, List, [], ◌∷◌, ◌++◌, ℕ, zero, suc, ◌+◌, ◌-◌, ◌*◌, ◌/◌, ◌%◌, ◌^◌, ◌≤◌, ◌<◌, eqb, leb, ltb, length}
+use Rattle.std.specs.Prelude.{◌≡◌, refl, Bool, true, false, cond, ◌&&◌, List, [], ◌∷◌, ◌++◌, ℕ, zero, suc, ◌+◌, ◌-◌, ◌*◌, ◌/◌, ◌%◌, ◌^◌, ◌≤◌, ◌<◌, eqb, leb, ltb, length, Option, None, Some}
 use Rattle.std.proofs.Common.{sym, ap, ◌∙◌, append_assoc, append-nil, pow-suc, not-suc-le-zero, arith, length-append, lt-ltb, le-ltb, le-leb, ltb-true, ltb-false, leb-true, eqb-true}
 use Rattle.std.proofs.Math.Bool.{and-false, and-true, and-eq-true_iff}
-use Rattle.std.proofs.Math.Option.{Option, none, some, some-injective, none-ne-some}
+use Rattle.std.proofs.lemmas.Option.{same_Some, none-some}
 use Rattle.std.proofs.Math.Nat.{one-le-pow, pow-le-pow_right}
 use Rattle.std.proofs.lemmas.Bool.{lt-leb, eqb-false}
 use Rattle.decimal.specs.Decimal.{digits, decimal, is_digit, only_digits, value_from, is_number, number}
@@ -47,12 +47,12 @@ decimal_next v d h l =
 
 -- Reading digit by digit, as a loop does: after v, a digit may follow where v is above 0 and below 10,000.
 abbrev pub number_after : ℕ → List ℕ → Option ℕ
-number_after v [] = some v
-number_after v (b ∷ w) = cond (is_digit b && (ltb 0 v && ltb v 10000)) (number_after (v * 10 + (b - 48)) w) none
+number_after v [] = Some v
+number_after v (b ∷ w) = cond (is_digit b && (ltb 0 v && ltb v 10000)) (number_after (v * 10 + (b - 48)) w) None
 
 abbrev pub by_value : List ℕ → Option ℕ
-by_value [] = none
-by_value (b ∷ w) = cond (is_digit b) (number_after (b - 48) w) none
+by_value [] = None
+by_value (b ∷ w) = cond (is_digit b) (number_after (b - 48) w) None
 
 -- a digit's byte lies between those of 0 and 9
 pub digit_low : (b : ℕ) → is_digit b ≡ true → 48 ≤ b
@@ -74,7 +74,7 @@ sized_more k v d h s = record { most = omega (arith, pow-suc 10 k, s.most); leas
 
 -- digits after a number of k digits that is not 0
 after_long : (w : List ℕ) (k v : ℕ) → k ≤ 5 → Sized k v
-    → number_after v w ≡ cond (leb (k + length w) 5 && only_digits w) (some (value_from v w)) none
+    → number_after v w ≡ cond (leb (k + length w) 5 && only_digits w) (Some (value_from v w)) None
 after_long [] k v h s = rw (le-leb (k + 0) 5 (omega arith))
 after_long (b ∷ w) k v h s = go (is_digit b) refl (ltb k 5) refl (after_long w (suc k) (v * 10 + (b - 48)))
   where
@@ -82,9 +82,9 @@ after_long (b ∷ w) k v h s = go (is_digit b) refl (ltb k 5) refl (after_long w
     above = omega (arith, one-le-pow k 10 (omega arith), s.least)
 
     go : (t : Bool) → is_digit b ≡ t → (u : Bool) → ltb k 5 ≡ u
-        → (suc k ≤ 5 → Sized (suc k) (v * 10 + (b - 48)) → number_after (v * 10 + (b - 48)) w ≡ cond (leb (suc k + length w) 5 && only_digits w) (some (value_from (v * 10 + (b - 48)) w)) none)
-        → cond (is_digit b && (ltb 0 v && ltb v 10000)) (number_after (v * 10 + (b - 48)) w) none
-        ≡ cond (leb (k + suc (length w)) 5 && (is_digit b && only_digits w)) (some (value_from (v * 10 + (b - 48)) w)) none
+        → (suc k ≤ 5 → Sized (suc k) (v * 10 + (b - 48)) → number_after (v * 10 + (b - 48)) w ≡ cond (leb (suc k + length w) 5 && only_digits w) (Some (value_from (v * 10 + (b - 48)) w)) None)
+        → cond (is_digit b && (ltb 0 v && ltb v 10000)) (number_after (v * 10 + (b - 48)) w) None
+        ≡ cond (leb (k + suc (length w)) 5 && (is_digit b && only_digits w)) (Some (value_from (v * 10 + (b - 48)) w)) None
     go false e u f ih = rw (e, and-false (leb (k + suc (length w)) 5))
     go true e true f ih =
         let few : 10 ^ k ≤ 10000 = pow-le-pow_right {n = 10} (omega arith) {i = k} {j = 4} (omega (arith, ltb-true k 5 f)) in
@@ -105,8 +105,8 @@ number_by_value (b ∷ w) = go (is_digit b) refl (eqb b 48) refl w
 
     go : (t : Bool) → is_digit b ≡ t → (u : Bool) → eqb b 48 ≡ u → (w : List ℕ) → number (b ∷ w) ≡ by_value (b ∷ w)
     go false e u f w = rw (e, and-false (leb (suc (length w)) 5), and-false (leb 1 (suc (length w))))
-    go true e true f [] = rw (e) (ap (λ (v : ℕ). some v) (sym first))
-    go true e false f [] = rw (e) (ap (λ (v : ℕ). some v) (sym first))
+    go true e true f [] = rw (e) (ap (λ (v : ℕ). Some v) (sym first))
+    go true e false f [] = rw (e) (ap (λ (v : ℕ). Some v) (sym first))
     go true e true f (c ∷ w) =
         rw (
           e,
@@ -124,32 +124,32 @@ number_by_value (b ∷ w) = go (is_digit b) refl (eqb b 48) refl w
         (rw (after_long (c ∷ w) 1 (b - 48) (omega arith) one, e, f, count, le-leb 1 (suc (suc (length w))) (omega arith), and-true (is_digit c && only_digits w), sym first))
 
 -- one more digit after a number that reads as v
-after_snoc : (w : List ℕ) (u v d : ℕ) → number_after u w ≡ some v → 0 < v → v < 10000 → d < 10 → number_after u (w ++ ((48 + d) ∷ [])) ≡ some (v * 10 + d)
+after_snoc : (w : List ℕ) (u v d : ℕ) → number_after u w ≡ Some v → 0 < v → v < 10000 → d < 10 → number_after u (w ++ ((48 + d) ∷ [])) ≡ Some (v * 10 + d)
 after_snoc [] u v d e p q h =
-    let same : u ≡ v = some-injective u v e in
+    let same : u ≡ v = same_Some u v e in
     let back : 48 + d - 48 ≡ d = omega arith in
     rw (is_digit_lem d h, lt-ltb 0 u (omega arith), lt-ltb u 10000 (omega arith), back, same)
 after_snoc (b ∷ w) u v d e p q h = go (is_digit b && (ltb 0 u && ltb u 10000)) e (after_snoc w (u * 10 + (b - 48)) v d)
   where
-    go : (t : Bool) → cond t (number_after (u * 10 + (b - 48)) w) none ≡ some v
-        → (number_after (u * 10 + (b - 48)) w ≡ some v → 0 < v → v < 10000 → d < 10 → number_after (u * 10 + (b - 48)) (w ++ ((48 + d) ∷ [])) ≡ some (v * 10 + d))
-        → cond t (number_after (u * 10 + (b - 48)) (w ++ ((48 + d) ∷ []))) none ≡ some (v * 10 + d)
+    go : (t : Bool) → cond t (number_after (u * 10 + (b - 48)) w) None ≡ Some v
+        → (number_after (u * 10 + (b - 48)) w ≡ Some v → 0 < v → v < 10000 → d < 10 → number_after (u * 10 + (b - 48)) (w ++ ((48 + d) ∷ [])) ≡ Some (v * 10 + d))
+        → cond t (number_after (u * 10 + (b - 48)) (w ++ ((48 + d) ∷ []))) None ≡ Some (v * 10 + d)
     go true f ih = ih f p q h
-    go false f ih = absurd (none-ne-some v f)
+    go false f ih = absurd (none-some v f)
 
-by_value_snoc : (w : List ℕ) (v d : ℕ) → by_value w ≡ some v → 0 < v → v < 10000 → d < 10 → by_value (w ++ ((48 + d) ∷ [])) ≡ some (v * 10 + d)
-by_value_snoc [] v d e p q h = absurd (none-ne-some v e)
+by_value_snoc : (w : List ℕ) (v d : ℕ) → by_value w ≡ Some v → 0 < v → v < 10000 → d < 10 → by_value (w ++ ((48 + d) ∷ [])) ≡ Some (v * 10 + d)
+by_value_snoc [] v d e p q h = absurd (none-some v e)
 by_value_snoc (b ∷ w) v d e p q h = go (is_digit b) e
   where
-    go : (t : Bool) → cond t (number_after (b - 48) w) none ≡ some v → cond t (number_after (b - 48) (w ++ ((48 + d) ∷ []))) none ≡ some (v * 10 + d)
+    go : (t : Bool) → cond t (number_after (b - 48) w) None ≡ Some v → cond t (number_after (b - 48) (w ++ ((48 + d) ∷ []))) None ≡ Some (v * 10 + d)
     go true f = after_snoc w (b - 48) v d f p q h
-    go false f = absurd (none-ne-some v f)
+    go false f = absurd (none-some v f)
 
-by_value_decimal : (k v : ℕ) → v < k → v < 100000 → by_value (decimal v) ≡ some v
+by_value_decimal : (k v : ℕ) → v < k → v < 100000 → by_value (decimal v) ≡ Some v
 by_value_decimal zero v h l = absurd (not-suc-le-zero h)
 by_value_decimal (suc k) v h l = go (ltb v 10) refl (by_value_decimal k (v / 10))
   where
-    go : (t : Bool) → ltb v 10 ≡ t → (v / 10 < k → v / 10 < 100000 → by_value (decimal (v / 10)) ≡ some (v / 10)) → by_value (decimal v) ≡ some v
+    go : (t : Bool) → ltb v 10 ≡ t → (v / 10 < k → v / 10 < 100000 → by_value (decimal (v / 10)) ≡ Some (v / 10)) → by_value (decimal v) ≡ Some v
     go true e ih =
         let back : 48 + v - 48 ≡ v = omega arith in
         rw (decimal_one v (ltb-true v 10 e), is_digit_lem v (ltb-true v 10 e), back)
@@ -158,23 +158,23 @@ by_value_decimal (suc k) v h l = go (ltb v 10) refl (by_value_decimal k (v / 10)
         let big : 10 ≤ v = ltb-false v 10 e in
         rw (decimal_more v big)
         (by_value_snoc (decimal (v / 10)) (v / 10) (v % 10) (ih (omega arith) (omega arith)) (omega arith) (omega arith) (omega arith)
-        ∙ ap (λ (x : ℕ). some x) whole)
+        ∙ ap (λ (x : ℕ). Some x) whole)
 
 -- the written digits of a number read as that number
-pub number-decimal : (v : ℕ) → v < 100000 → number (decimal v) ≡ some v
+pub number-decimal : (v : ℕ) → v < 100000 → number (decimal v) ≡ Some v
 number-decimal v h = number_by_value (decimal v) ∙ by_value_decimal (suc v) v (omega arith) h
 
-after-decimal : (w : List ℕ) (v x : ℕ) → number_after v w ≡ some x → decimal x ≡ decimal v ++ w
-after-decimal [] v x e = ap decimal (sym (some-injective v x e)) ∙ sym (append-nil (decimal v))
+after-decimal : (w : List ℕ) (v x : ℕ) → number_after v w ≡ Some x → decimal x ≡ decimal v ++ w
+after-decimal [] v x e = ap decimal (sym (same_Some v x e)) ∙ sym (append-nil (decimal v))
 after-decimal (b ∷ w) v x e = go (is_digit b) refl (ltb 0 v) refl (ltb v 10000) refl e (after-decimal w (v * 10 + (b - 48)) x)
   where
     go : (t : Bool) → is_digit b ≡ t → (p : Bool) → ltb 0 v ≡ p → (q : Bool) → ltb v 10000 ≡ q
-        → cond (t && (p && q)) (number_after (v * 10 + (b - 48)) w) none ≡ some x
-        → (number_after (v * 10 + (b - 48)) w ≡ some x → decimal x ≡ decimal (v * 10 + (b - 48)) ++ w)
+        → cond (t && (p && q)) (number_after (v * 10 + (b - 48)) w) None ≡ Some x
+        → (number_after (v * 10 + (b - 48)) w ≡ Some x → decimal x ≡ decimal (v * 10 + (b - 48)) ++ w)
         → decimal x ≡ decimal v ++ b ∷ w
-    go false e p f q g r ih = absurd (none-ne-some x r)
-    go true e false f q g r ih = absurd (none-ne-some x r)
-    go true e true f false g r ih = absurd (none-ne-some x r)
+    go false e p f q g r ih = absurd (none-some x r)
+    go true e false f q g r ih = absurd (none-some x r)
+    go true e true f false g r ih = absurd (none-some x r)
     go true e true f true g r ih =
         let byte : 48 + (b - 48) ≡ b = omega (arith, digit_low b e) in
         ih r
@@ -182,12 +182,12 @@ after-decimal (b ∷ w) v x e = go (is_digit b) refl (ltb 0 v) refl (ltb v 10000
         ∙ append_assoc (decimal v) ((48 + (b - 48)) ∷ []) w
         ∙ ap (λ (c : ℕ). decimal v ++ c ∷ w) byte
 
-by_value_written : (w : List ℕ) (v : ℕ) → by_value w ≡ some v → decimal v ≡ w
-by_value_written [] v e = absurd (none-ne-some v e)
+by_value_written : (w : List ℕ) (v : ℕ) → by_value w ≡ Some v → decimal v ≡ w
+by_value_written [] v e = absurd (none-some v e)
 by_value_written (b ∷ w) v e = go (is_digit b) refl e
   where
-    go : (t : Bool) → is_digit b ≡ t → cond t (number_after (b - 48) w) none ≡ some v → decimal v ≡ b ∷ w
-    go false e r = absurd (none-ne-some v r)
+    go : (t : Bool) → is_digit b ≡ t → cond t (number_after (b - 48) w) None ≡ Some v → decimal v ≡ b ∷ w
+    go false e r = absurd (none-some v r)
     go true e r =
         let byte : 48 + (b - 48) ≡ b = omega (arith, digit_low b e) in
         after-decimal w (b - 48) v r
@@ -195,31 +195,31 @@ by_value_written (b ∷ w) v e = go (is_digit b) refl e
         ∙ ap (λ (c : ℕ). c ∷ w) byte
 
 -- what reads as a number is how that number is written
-pub decimal-number : (w : List ℕ) (v : ℕ) → number w ≡ some v → decimal v ≡ w
+pub decimal-number : (w : List ℕ) (v : ℕ) → number w ≡ Some v → decimal v ≡ w
 decimal-number w v e = by_value_written w v (sym (number_by_value w) ∙ e)
 
 -- a number has at most five digits, so it is below 100,000
-after_small : (w : List ℕ) (v x : ℕ) → v < 100000 → number_after v w ≡ some x → x < 100000
-after_small [] v x h e = omega (arith, some-injective v x e)
+after_small : (w : List ℕ) (v x : ℕ) → v < 100000 → number_after v w ≡ Some x → x < 100000
+after_small [] v x h e = omega (arith, same_Some v x e)
 after_small (b ∷ w) v x h e = go (is_digit b) refl (ltb 0 v) (ltb v 10000) refl e (after_small w (v * 10 + (b - 48)) x)
   where
     go : (t : Bool) → is_digit b ≡ t → (p q : Bool) → ltb v 10000 ≡ q
-        → cond (t && (p && q)) (number_after (v * 10 + (b - 48)) w) none ≡ some x
-        → (v * 10 + (b - 48) < 100000 → number_after (v * 10 + (b - 48)) w ≡ some x → x < 100000) → x < 100000
-    go false e p q g r ih = absurd (none-ne-some x r)
-    go true e false q g r ih = absurd (none-ne-some x r)
-    go true e true false g r ih = absurd (none-ne-some x r)
+        → cond (t && (p && q)) (number_after (v * 10 + (b - 48)) w) None ≡ Some x
+        → (v * 10 + (b - 48) < 100000 → number_after (v * 10 + (b - 48)) w ≡ Some x → x < 100000) → x < 100000
+    go false e p q g r ih = absurd (none-some x r)
+    go true e false q g r ih = absurd (none-some x r)
+    go true e true false g r ih = absurd (none-some x r)
     go true e true true g r ih = ih (omega (arith, digit_high b e, ltb-true v 10000 g)) r
 
-by_value_small : (w : List ℕ) (v : ℕ) → by_value w ≡ some v → v < 100000
-by_value_small [] v e = absurd (none-ne-some v e)
+by_value_small : (w : List ℕ) (v : ℕ) → by_value w ≡ Some v → v < 100000
+by_value_small [] v e = absurd (none-some v e)
 by_value_small (b ∷ w) v e = go (is_digit b) refl e
   where
-    go : (t : Bool) → is_digit b ≡ t → cond t (number_after (b - 48) w) none ≡ some v → v < 100000
-    go false e r = absurd (none-ne-some v r)
+    go : (t : Bool) → is_digit b ≡ t → cond t (number_after (b - 48) w) None ≡ Some v → v < 100000
+    go false e r = absurd (none-some v r)
     go true e r = after_small w (b - 48) v (omega (arith, digit_high b e)) r
 
-pub number_small : (w : List ℕ) (v : ℕ) → number w ≡ some v → v < 100000
+pub number_small : (w : List ℕ) (v : ℕ) → number w ≡ Some v → v < 100000
 number_small w v e = by_value_small w v (sym (number_by_value w) ∙ e)
 
 -- a written number has only digits, and at least one
@@ -259,12 +259,12 @@ value_decimal (suc k) v h = go (ltb v 10) refl (value_decimal k (v / 10))
         let whole : v / 10 * 10 + v % 10 ≡ v = omega arith in
         rw (decimal_more v big, value_snoc (decimal (v / 10)) 0 (v % 10), tenth) whole
 
-pub decimal_read : (v x : ℕ) → number (decimal v) ≡ some x → x ≡ v
+pub decimal_read : (v x : ℕ) → number (decimal v) ≡ Some x → x ≡ v
 decimal_read v x e = go (is_number (decimal v)) e
   where
-    go : (t : Bool) → cond t (some (value_from 0 (decimal v))) none ≡ some x → x ≡ v
-    go true f = sym (some-injective (value_from 0 (decimal v)) x f) ∙ value_decimal (suc v) v (omega arith)
-    go false f = absurd (none-ne-some x f)
+    go : (t : Bool) → cond t (Some (value_from 0 (decimal v))) None ≡ Some x → x ≡ v
+    go true f = sym (same_Some (value_from 0 (decimal v)) x f) ∙ value_decimal (suc v) v (omega arith)
+    go false f = absurd (none-some x f)
 
 -- the number of digits: one, or one more than a tenth has
 pub count_one : (v : ℕ) → v < 10 → length (decimal v) ≡ 1

@@ -1,4 +1,3 @@
 pub mod Decimal
 pub mod Laws
-pub mod Read
 pub mod ReadLaws

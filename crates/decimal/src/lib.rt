@@ -3,4 +3,4 @@
 
 mod read;
 
-pub use read::{FIRST_DIGIT, LAST_DIGIT, Number, number_of};
+pub use read::{FIRST_DIGIT, LAST_DIGIT, number_of};

@@ -1,8 +1,7 @@
 -- DISTANCE-SAT: how far an assignment is from what was wished, and the nearest of all that satisfy a formula.
 -- A wish row (document 01: "A wish row has n bytes: 0 off, 1 on, 2 free") is the partial interpretation of document 000.
-use Rattle.std.specs.Prelude.{Bool, cond, ℕ, zero, suc, ◌+◌, min, leb, ℤ}
-use mathlib.Core.List.{List, [], ◌∷◌, ◌++◌, map, head?}
-use Rattle.std.proofs.Math.Option.{Option, none, some}
+use Rattle.std.specs.Prelude.{Bool, cond, ℕ, zero, suc, ◌+◌, min, leb, ℤ, Option, None, Some, slice_get}
+use mathlib.Core.List.{List, [], ◌∷◌, ◌++◌, map}
 use Rattle.wish.specs.Wish.{cost}
 use Rattle.formula.specs.Formula.{clauses, models}
 
@@ -24,12 +23,12 @@ keep p (x ∷ l) = cond (p x) (x ∷ keep p l) (keep p l)
 
 -- the least number of a list
 abbrev pub least : List ℕ → Option ℕ
-least [] = none
-least (k ∷ ks) = some (lesser k (least ks))
+least [] = None
+least (k ∷ ks) = Some (lesser k (least ks))
   where
     lesser : ℕ → Option ℕ → ℕ
-    lesser k none = k
-    lesser k (some j) = min k j
+    lesser k None = k
+    lesser k (Some j) = min k j
 
 -- the choices that meet the rules
 abbrev pub permitted : ℕ → List ℤ → List (List ℕ)
@@ -45,12 +44,12 @@ nearest n list row = least (map (disagreement row) (permitted n list))
 
 -- the first of the choices that meet the rules with at most d broken wishes
 abbrev pub first_within : ℕ → List ℤ → List ℕ → ℕ → Option (List ℕ)
-first_within n list row d = head? (within n list row d)
+first_within n list row d = slice_get (within n list row d) 0
 
 -- "the first nearest choice, off before on, compared from setting 1 upward" (document 02, L5): with the least number of broken wishes as the limit, the first choice within it
 abbrev pub first_nearest : ℕ → List ℤ → List ℕ → Option (List ℕ)
 first_nearest n list row = with_count (nearest n list row)
   where
     with_count : Option ℕ → Option (List ℕ)
-    with_count none = none
-    with_count (some k) = first_within n list row k
+    with_count None = None
+    with_count (Some k) = first_within n list row k

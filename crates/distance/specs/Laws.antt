@@ -31,3 +31,12 @@ disagreement-nothing (w ∷ row) = refl
 
 pub disagreement_past : (row a : List ℕ) (i : ℕ) → length a ≤ i → disagreement (drop i row) (drop i a) ≡ 0
 disagreement_past row a i h = rw (drop_of_length-le a h) (disagreement-nothing (drop i row))
+
+-- a row, or an assignment, that is at its end has nothing more to break
+pub disagreement_no_row : (row a : List ℕ) → length row ≡ 0 → disagreement row a ≡ 0
+disagreement_no_row [] a e = refl
+disagreement_no_row (w ∷ row) a e = absurd (omega arith)
+
+pub disagreement_no_values : (row a : List ℕ) → length a ≡ 0 → disagreement row a ≡ 0
+disagreement_no_values row [] e = disagreement-nothing row
+disagreement_no_values row (b ∷ a) e = absurd (omega arith)

@@ -11,10 +11,8 @@ pub fn disagreement_of(row: &[u8], assignment: &[u8]) -> usize
     ensures { result ≡ disagreement row.now assignment.now }
 {
     let mut broken = 0;
-    let mut i = 0;
-    while i < row.len() && i < assignment.len() {
-        broken += wish::cost_of(row[i], assignment[i]);
-        i += 1;
+    for (wish, value) in row.iter().zip(assignment) {
+        broken += wish::cost_of(*wish, *value);
     }
     broken
 }

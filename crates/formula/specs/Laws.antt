@@ -1,8 +1,18 @@
 -- The equations by which proofs go through a closed list, clause by clause.
 use Rattle.std.specs.Prelude.{◌≡◌, refl, Bool, true, false, cond, ◌&&◌, ◌||◌, List, [], ◌∷◌, ℕ, suc, ◌+◌, ◌-◌, ◌*◌, ◌≤◌, ◌<◌, ℤ, pos, length, get_or, take, drop}
 use Rattle.std.proofs.Common.{sym, ap, ap₂, ◌∙◌, zero-le, suc-le-suc, not-suc-le-zero, zero-lt-suc, arith, add-one, length-drop, drop_of_length-le, drop-cons, drop-drop, length-take-le}
+use Rattle.std.specs.List.{list_any, list_all}
 use Rattle.literal.specs.Slots.{is_at, slot-literal}
-use Rattle.formula.specs.Formula.{any, contains, closes, onto, clauses, clause_length, satisfied, models}
+use Rattle.formula.specs.Formula.{any, all, contains, closes, onto, clauses, clause_length, satisfied, models}
+
+-- std's words for some element that passes a test, and for each
+pub list_any_is : {A : Type 0} (p : A → Bool) (l : List A) → list_any p l ≡ any p l
+list_any_is p [] = refl
+list_any_is p (x ∷ l) = ap (λ (b : Bool). p x || b) (list_any_is p l)
+
+pub list_all_is : {A : Type 0} (p : A → Bool) (l : List A) → list_all p l ≡ all p l
+list_all_is p [] = refl
+list_all_is p (x ∷ l) = ap (λ (b : Bool). p x && b) (list_all_is p l)
 
 -- a list that is not empty is its first clause, what closes it, and the rest
 split : (b : Bool) (x : ℤ) (l : List ℤ) → ((h : 0 < length l) → clauses l ≡ take (clause_length l) l ∷ clauses (drop (suc (clause_length l)) l))

@@ -8,28 +8,19 @@ ghost use Rattle.formula.specs.Formula.{clauses, clause_length, satisfied, model
 pub fn clause_end(rules: &[i32], from: usize) -> usize
     ensures { result ≡ from + clause_length (drop from rules.now) }
 {
-    let mut i = from;
-    while i < rules.len() {
+    for i in from..rules.len() {
         if literal::closes(rules[i]) {
             return i;
         }
-        i += 1;
     }
-    i
+    from.max(rules.len())
 }
 
 // Whether an assignment makes some literal of a clause hold.
 pub fn satisfied_by(clause: &[i32], assignment: &[u8]) -> bool
     ensures { result ≡ satisfied assignment.now clause.now }
 {
-    let mut i = 0;
-    while i < clause.len() {
-        if literal::holds_in(clause[i], assignment) {
-            return true;
-        }
-        i += 1;
-    }
-    false
+    clause.iter().any(|x| literal::holds_in(*x, assignment))
 }
 
 // Whether an assignment satisfies every clause of a list.

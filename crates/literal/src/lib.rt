@@ -7,24 +7,19 @@ ghost use Rattle.literal.specs.Literal.{variable, closes, wanted, literal, value
 ghost use Rattle.literal.specs.Slots.{slot};
 
 // A variable's number, from 1 (document 01: a setting).
-#[derive(Clone, Copy)]
+#[derive(Clone, Copy, Debug, PartialEq, Eq)]
 pub struct Variable(pub usize);
 
 // A clause's number, from 1 (document 01: a rule).
-#[derive(Clone, Copy)]
+#[derive(Clone, Copy, Debug, PartialEq, Eq)]
 pub struct Clause(pub usize);
 
 // The variable of a literal, or the magnitude of any number: a closing zero gives 0, which is no variable,
-// and who may meet one asks `closes`. The detour over i64 takes in the least i32, whose magnitude no i32 has.
+// and who may meet one asks `closes`.
 pub fn variable_of(x: i32) -> Variable
     ensures { result.0 ≡ variable x }
 {
-    let wide = x as i64;
-    if wide < 0 {
-        Variable((-wide) as usize)
-    } else {
-        Variable(wide as usize)
-    }
+    Variable(x.unsigned_abs() as usize)
 }
 
 // Whether a number of a rule list is the 0 that closes a clause, and no literal.
@@ -61,15 +56,9 @@ pub fn literal_of(v: Variable, positive: bool) -> i32
 pub fn value_of(v: Variable, assignment: &[u8]) -> u8
     ensures { result ≡ value assignment.now v.0 }
 {
-    let number = v.0;
-    if number == 0 {
-        return 2;
-    }
-    let at = number - 1;
-    if at < assignment.len() {
-        assignment[at]
-    } else {
-        2
+    match v.0 {
+        0 => 2,
+        number => assignment.get(number - 1).copied().unwrap_or(2),
     }
 }
 

@@ -1,33 +1,30 @@
 -- Refusals (document 01, "Refusals"), and the reply of a call as numbers.
-use Rattle.std.specs.Prelude.{Bool, cond, List, [], ◌∷◌, ◌++◌, map, ℕ, ltb, length, drop}
-use Rattle.std.proofs.Math.Option.{Option, none, some}
+use Rattle.std.specs.Prelude.{Bool, cond, List, [], ◌∷◌, ◌++◌, map, ℕ, ltb, length, drop, Option, None, Some, Result, Ok, Err}
 use Rattle.refusal.specs.declared.Refusal.{Refusal}
-use Rattle.refusal.specs.declared.Verdict.{Verdict}
-use Rattle.refusal.specs.declared.Verdict.TheVariants.{Pass, Refuse}
 
 -- a refusal has the table's number and the returned place
 abbrev pub refusal : ℕ → ℕ → Refusal
 refusal number place = record { number = number; place = place }
 
--- the refusal that a verdict carries
-abbrev pub refused : Verdict → Option Refusal
-refused Pass = none
-refused (Refuse r) = some r
+-- the refusal that an answer carries
+abbrev pub refused : {A : Type 0} → Result A Refusal → Option Refusal
+refused (Ok x) = None
+refused (Err r) = Some r
 
 -- the first of several causes, in their order
 abbrev pub first : List (Option Refusal) → Option Refusal
-first [] = none
-first (none ∷ causes) = first causes
-first (some r ∷ causes) = some r
+first [] = None
+first (None ∷ causes) = first causes
+first (Some r ∷ causes) = Some r
 
 -- a cause with the place at which it was found, if it was
 abbrev pub cause_at : ℕ → Option ℕ → Option Refusal
-cause_at number none = none
-cause_at number (some place) = some (refusal number place)
+cause_at number None = None
+cause_at number (Some place) = Some (refusal number place)
 
 -- a place, where the test applies
 abbrev pub place_if : Bool → ℕ → Option ℕ
-place_if applies place = cond applies (some place) none
+place_if applies place = cond applies (Some place) None
 
 -- a cause that applies where the test does
 abbrev pub cause : Bool → ℕ → ℕ → Option Refusal
@@ -57,10 +54,10 @@ pub data Reply : Type 0 where
 
 -- the answer, unless there is a refusal
 abbrev pub unless : Option Refusal → Reply → Reply
-unless none answer = answer
-unless (some r) answer = refusing r
+unless None answer = answer
+unless (Some r) answer = refusing r
 
 -- What a call leaves in the output that it was lent: a refusal leaves it as it was, and "On success bytes past the needed length stay" (document 01, "Refusals").
 abbrev pub filled {ℓ} : {A : Type ℓ} → Option Refusal → List A → List A → List A
-filled none result out = result ++ drop (length result) out
-filled (some r) result out = out
+filled None result out = result ++ drop (length result) out
+filled (Some r) result out = out

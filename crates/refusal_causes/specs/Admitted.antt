@@ -1,7 +1,6 @@
 -- What holds of lent values that are admitted: none of the causes before 15 applies to them. The facts have names, and nothing goes by a cause's place in the list: `search` finds what is said of a cause wherever it stands.
-use Rattle.std.specs.Prelude.{◌≡◌, refl, Bool, true, false, cond, not, ◌||◌, List, [], ◌∷◌, ℕ, ◌≤◌, ◌<◌, eqb, ltb, ℤ, length}
+use Rattle.std.specs.Prelude.{◌≡◌, refl, Bool, true, false, cond, not, ◌||◌, List, [], ◌∷◌, ℕ, ◌≤◌, ◌<◌, eqb, ltb, ℤ, length, Option, None, Some}
 use Rattle.std.proofs.Common.{ap, arith, eqb-true, ltb-true, ltb-false, le-ltb, eq-eqb, ne_eqb}
-use Rattle.std.proofs.Math.Option.{Option, none, some}
 use Rattle.std.proofs.lemmas.Bool.{eqb-false, not-true, not-false}
 use Rattle.formula.specs.Formula.{clauses, literals}
 use Rattle.refusal.specs.declared.Refusal.{Refusal}
@@ -17,8 +16,8 @@ use Rattle.refusal_causes.specs.Sound.{bad_wish, bad_choice}
 
 -- what holds of a part, if the call takes it
 abbrev pub InPart : {A : Type 0} → Option A → (A → Type 0) → Type 0
-InPart none F = Unit {0}
-InPart (some part) F = F part
+InPart None F = Unit {0}
+InPart (Some part) F = F part
 
 -- what holds where the call asks it
 abbrev pub Asked : Bool → Type 0 → Type 0
@@ -40,40 +39,40 @@ pub record Admitted (s : Lent) : Type 0 where
   pub most : s.problem.n ≤ max_variables
   pub limited : s.limits.d ≤ max_limit
   pub sound_rules : SoundList s.problem.n s.problem.rules
-  pub sound_row : InPart s.wishes (λ (w : Wishes). bad_wish 0 0 w.row ≡ none)
-  pub sound_choice : InPart s.choice (λ (choice : List ℕ). bad_choice 0 choice ≡ none)
+  pub sound_row : InPart s.wishes (λ (w : Wishes). bad_wish 0 0 w.row ≡ None)
+  pub sound_choice : InPart s.choice (λ (choice : List ℕ). bad_choice 0 choice ≡ None)
   pub long_row : InPart s.wishes (λ (w : Wishes). length w.row ≡ s.problem.n)
   pub long_choice : InPart s.choice (λ (choice : List ℕ). length choice ≡ s.problem.n)
   pub small : InPart s.wishes (λ (w : Wishes). SmallProblem s.problem.n s.problem.rules)
-  pub entries : Asked s.problem.asks_entries (empty_clause 0 (clauses s.problem.rules) ≡ none)
+  pub entries : Asked s.problem.asks_entries (empty_clause 0 (clauses s.problem.rules) ≡ None)
 
 -- a cause of a part does not apply exactly when the part, if there is one, is as it must be
 module _ {A : Type 0} {f : A → Option ℕ} {F : A → Type 0} where
-  in_part : (o : Option A) → ((part : A) → f part ≡ none → F part) → of_part o f ≡ none → InPart o F
-  in_part none g e = tt
-  in_part (some part) g e = g part e
+  in_part : (o : Option A) → ((part : A) → f part ≡ None → F part) → of_part o f ≡ None → InPart o F
+  in_part None g e = tt
+  in_part (Some part) g e = g part e
 
-  of_part_lem : (o : Option A) → ((part : A) → F part → f part ≡ none) → InPart o F → of_part o f ≡ none
-  of_part_lem none g a = refl
-  of_part_lem (some part) g a = g part a
+  of_part_lem : (o : Option A) → ((part : A) → F part → f part ≡ None) → InPart o F → of_part o f ≡ None
+  of_part_lem None g a = refl
+  of_part_lem (Some part) g a = g part a
 
 -- nor one that only some calls ask for
-in_asked : (b : Bool) (o : Option ℕ) → cond b o none ≡ none → Asked b (o ≡ none)
+in_asked : (b : Bool) (o : Option ℕ) → cond b o None ≡ None → Asked b (o ≡ None)
 in_asked true o e = e
 in_asked false o e = tt
 
-of_asked : (b : Bool) (o : Option ℕ) → Asked b (o ≡ none) → cond b o none ≡ none
+of_asked : (b : Bool) (o : Option ℕ) → Asked b (o ≡ None) → cond b o None ≡ None
 of_asked true o e = e
 of_asked false o e = refl
 
 -- each test that says no, and the fact that it stands for
-length_right : (n : ℕ) (part : List ℕ) → place_if (wrong_length n part) 0 ≡ none → length part ≡ n
+length_right : (n : ℕ) (part : List ℕ) → place_if (wrong_length n part) 0 ≡ None → length part ≡ n
 length_right n part e = eqb-true (length part) n (not-false (eqb (length part) n) (place_if_none (wrong_length n part) 0 e))
 
-right_length : (n : ℕ) (part : List ℕ) → length part ≡ n → place_if (wrong_length n part) 0 ≡ none
+right_length : (n : ℕ) (part : List ℕ) → length part ≡ n → place_if (wrong_length n part) 0 ≡ None
 right_length n part e = ap (λ (b : Bool). place_if (not b) 0) (eq-eqb (length part) n e)
 
-size_small : (n k m : ℕ) → place_if (oversized n k m) 0 ≡ none → Small n k m
+size_small : (n k m : ℕ) → place_if (oversized n k m) 0 ≡ None → Small n k m
 size_small n k m e =
     let one = neither (ltb max_wish_variables n) (ltb max_wish_clauses k || ltb max_wish_literals m) (place_if_none (oversized n k m) 0 e) in
     let two = neither (ltb max_wish_clauses k) (ltb max_wish_literals m) one.1 in
@@ -83,10 +82,10 @@ size_small n k m e =
       short = ltb-false max_wish_literals m two.1;
     }
 
-small_size : (n k m : ℕ) → Small n k m → place_if (oversized n k m) 0 ≡ none
+small_size : (n k m : ℕ) → Small n k m → place_if (oversized n k m) 0 ≡ None
 small_size n k m a = rw (le-ltb max_wish_variables n a.variables, le-ltb max_wish_clauses k a.few, le-ltb max_wish_literals m a.short)
 
-range_in : (n d : ℕ) → 0 < n → n ≤ max_variables → d ≤ max_limit → place_if (out_of_range n d) 0 ≡ none
+range_in : (n d : ℕ) → 0 < n → n ≤ max_variables → d ≤ max_limit → place_if (out_of_range n d) 0 ≡ None
 range_in n d p h k = rw (ne_eqb n 0 (λ e. omega arith), le-ltb max_variables n h, le-ltb max_limit d k)
 
 -- where no cause before 15 applies, all of this holds; and where it holds, none applies
@@ -98,9 +97,9 @@ module _ (s : Lent) where
   f = clauses s.problem.rules
 
   abbrev Absent : Cause → Type 0
-  Absent c = c.place ≡ none
+  Absent c = c.place ≡ None
 
-  pub admitted : unadmitted s ≡ none → Admitted s
+  pub admitted : unadmitted s ≡ None → Admitted s
   admitted e =
       let unfound = none_found (causes s) e in
       let range : Absent (range_cause s) = search in
@@ -125,7 +124,7 @@ module _ (s : Lent) where
         entries = in_asked s.problem.asks_entries (empty_clause 0 f) empty;
       }
 
-  pub none_applies : Admitted s → unadmitted s ≡ none
+  pub none_applies : Admitted s → unadmitted s ≡ None
   none_applies a =
       let range : Absent (range_cause s) = range_in n s.limits.d a.positive a.most a.limited in
       let row : Absent (row_cause s) = of_part_lem s.wishes (λ w g. g) a.sound_row in
@@ -142,22 +141,22 @@ module _ (s : Lent) where
 
   -- the refusal of a call whose output needs so many elements and was lent room for so many
   module _ (needed room : ℕ) where
-    pub refused-lent : (r : Refusal) → unadmitted s ≡ some r → refusal_of (with_room needed room s) ≡ some r
+    pub refused-lent : (r : Refusal) → unadmitted s ≡ Some r → refusal_of (with_room needed room s) ≡ Some r
     refused-lent r e = first_some (unadmitted s) (too_short needed room ∷ []) r e
 
-    pub room_decides : unadmitted s ≡ none → refusal_of (with_room needed room s) ≡ too_short needed room
+    pub room_decides : unadmitted s ≡ None → refusal_of (with_room needed room s) ≡ too_short needed room
     room_decides e = first_of_two (unadmitted s) (too_short needed room) e
 
     pub admitted_room : Admitted s → refusal_of (with_room needed room s) ≡ too_short needed room
     admitted_room a = room_decides (none_applies a)
 
-    pub unrefused : refusal_of (with_room needed room s) ≡ none → Admitted s × (needed ≤ room)
+    pub unrefused : refusal_of (with_room needed room s) ≡ None → Admitted s × (needed ≤ room)
     unrefused e =
         let one = no_first (unadmitted s) (too_short needed room ∷ []) e in
         (admitted one.0, enough_room needed room (no_first (too_short needed room) [] one.1).0)
 
 -- the numbers of these causes are above 0, and none is 15: the list itself tells it
-pub lent-number : (s : Lent) (r : Refusal) → unadmitted s ≡ some r → (0 < r.number) × (r.number ≡ 15 → ⊥)
+pub lent-number : (s : Lent) (r : Refusal) → unadmitted s ≡ Some r → (0 < r.number) × (r.number ≡ 15 → ⊥)
 lent-number s r e = (
   ltb-true 0 r.number (first_number (ltb 0) (causes s) refl r e),
   eqb-false r.number 15 (not-true (eqb r.number 15) (first_number (λ (k : ℕ). not (eqb k 15)) (causes s) refl r e)),
@@ -171,7 +170,7 @@ module _ (test : ℕ → Bool) (n : ℕ) (rules : List ℤ) (row : List ℕ) (d 
   abbrev Allowed : Cause → Type 0
   Allowed c = Passes test (given c)
 
-  pub sound_left : 0 < n → n ≤ max_variables → d ≤ max_limit → SoundList n rules → bad_wish 0 0 row ≡ none
+  pub sound_left : 0 < n → n ≤ max_variables → d ≤ max_limit → SoundList n rules → bad_wish 0 0 row ≡ None
       → test 11 ≡ true → test 12 ≡ true → (asks_entries ≡ true → test 16 ≡ true) → Passes test (unadmitted asked)
   sound_left p m h l w t11 t12 t16 =
       let range : Allowed (range_cause asked) = unfound 14 (place_if (out_of_range n d) 0) (range_in n d p m h) in
@@ -182,7 +181,7 @@ module _ (test : ℕ → Bool) (n : ℕ) (rules : List ℤ) (row : List ℕ) (d 
       let filled : Allowed (empty_cause asked) = entries asks_entries t16 in
       by_found (causes asked) (search no_cause depth 20)
     where
-      entries : (b : Bool) → (b ≡ true → test 16 ≡ true) → Passes test (cause_at 16 (cond b (empty_clause 0 (clauses rules)) none))
+      entries : (b : Bool) → (b ≡ true → test 16 ≡ true) → Passes test (cause_at 16 (cond b (empty_clause 0 (clauses rules)) None))
       entries true t = by_place 16 (t refl) (empty_clause 0 (clauses rules))
       entries false t = no_cause
 
@@ -191,7 +190,7 @@ pub plain_admitted : (n : ℕ) (rules : List ℤ) → 0 < n → n ≤ max_variab
 plain_admitted n rules p h e = search arith
 
 -- and so are few enough variables with a sound row of their length and a limit, without rules
-pub alone_admitted : (n : ℕ) (row : List ℕ) (d : ℕ) → 0 < n → n ≤ max_wish_variables → d ≤ max_limit → bad_wish 0 0 row ≡ none → length row ≡ n → Admitted (wishes_alone n row d)
+pub alone_admitted : (n : ℕ) (row : List ℕ) (d : ℕ) → 0 < n → n ≤ max_wish_variables → d ≤ max_limit → bad_wish 0 0 row ≡ None → length row ≡ n → Admitted (wishes_alone n row d)
 alone_admitted n row d p h k e l = search arith
 
 -- what the export admits, the other calls with wishes admit

@@ -1,6 +1,5 @@
 -- What a call is lent, and the one order in which its causes to refuse count (document 01, "Refusals"): "Then lent values: 14, 13 (rules, wishes, choice), 11, 12. Last 15." Document 02's 16 comes "after 12 and before 15" (L2).
-use Rattle.std.specs.Prelude.{Bool, true, false, cond, not, ◌||◌, List, [], ◌∷◌, ℕ, eqb, ltb, ℤ, length}
-use Rattle.std.proofs.Math.Option.{Option, none, some}
+use Rattle.std.specs.Prelude.{Bool, true, false, cond, not, ◌||◌, List, [], ◌∷◌, ℕ, eqb, ltb, ℤ, length, Option, None, Some}
 use Rattle.formula.specs.Formula.{clauses, literals}
 use Rattle.refusal.specs.declared.Refusal.{Refusal}
 use Rattle.refusal.specs.Reply.{first, place_if, too_short, Cause, first_found}
@@ -48,16 +47,16 @@ row_alone row = record { row = row }
 
 -- a problem alone; and the same values with one more part
 abbrev pub only : Problem → Lent
-only problem = record { problem = problem; limits = limit_alone 0; wishes = none; choice = none; output = record { needed = 0; room = 0 } }
+only problem = record { problem = problem; limits = limit_alone 0; wishes = None; choice = None; output = record { needed = 0; room = 0 } }
 
 abbrev pub with_limits : Limits → Lent → Lent
 with_limits limits s = record { problem = s.problem; limits = limits; wishes = s.wishes; choice = s.choice; output = s.output }
 
 abbrev pub with_wishes : Wishes → Lent → Lent
-with_wishes wishes s = record { problem = s.problem; limits = s.limits; wishes = some wishes; choice = s.choice; output = s.output }
+with_wishes wishes s = record { problem = s.problem; limits = s.limits; wishes = Some wishes; choice = s.choice; output = s.output }
 
 abbrev pub with_choice : List ℕ → Lent → Lent
-with_choice choice s = record { problem = s.problem; limits = s.limits; wishes = s.wishes; choice = some choice; output = s.output }
+with_choice choice s = record { problem = s.problem; limits = s.limits; wishes = s.wishes; choice = Some choice; output = s.output }
 
 abbrev pub with_room : ℕ → ℕ → Lent → Lent
 with_room needed room s =
@@ -81,8 +80,8 @@ chosen_problem n rules row choice = with_choice choice (with_wishes (row_alone r
 
 -- the place of a cause that only a part which the call takes can give
 abbrev pub of_part : {A : Type 0} → Option A → (A → Option ℕ) → Option ℕ
-of_part none f = none
-of_part (some part) f = f part
+of_part None f = None
+of_part (Some part) f = f part
 
 -- 14: "n outside 1 to 640, or d above 64"
 abbrev pub out_of_range : ℕ → ℕ → Bool
@@ -122,7 +121,7 @@ size_cause s =
 
 -- 16 (document 02, L2): "a rule without entries, place the first such rule's closing zero"
 abbrev pub empty_cause : Lent → Cause
-empty_cause s = record { number = 16; place = cond s.problem.asks_entries (empty_clause 0 (clauses s.problem.rules)) none }
+empty_cause s = record { number = 16; place = cond s.problem.asks_entries (empty_clause 0 (clauses s.problem.rules)) None }
 
 -- the causes that what is lent can give, in their order; 15 is not among them
 abbrev pub causes : Lent → List Cause

@@ -4,10 +4,10 @@ ghost use Rattle.formula.specs.Formula.{clauses};
 ghost use Rattle.refusal.specs.Reply.{refused, cause_at};
 ghost use Rattle.refusal_causes.specs.Empty.{empty_clause};
 
-use refusal::Verdict;
+use refusal::Refusal;
 
 // Whether every clause of a list has a literal.
-pub fn check_entries(rules: &[i32]) -> Verdict
+pub fn check_entries(rules: &[i32]) -> Result<(), Refusal>
     ensures { refused result ≡ cause_at 16 (empty_clause 0 (clauses rules.now)) }
 {
     let mut from = 0;
@@ -18,5 +18,5 @@ pub fn check_entries(rules: &[i32]) -> Verdict
         }
         from = end + 1;
     }
-    Verdict::Pass
+    Ok(())
 }

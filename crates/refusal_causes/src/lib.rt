@@ -11,5 +11,5 @@ mod size;
 pub use choice::scan_choice;
 pub use entries::check_entries;
 pub use range::check_range;
-pub use row::{RowScan, scan_row};
+pub use row::{RowSize, scan_row};
 pub use size::{check_length, check_size};

@@ -4,36 +4,33 @@ ghost use Rattle.refusal_causes.specs.Sound.{bad_wish};
 ghost use Rattle.refusal_causes.specs.Scans.{row_scan};
 
 use limits::MAX_WISHES;
+use refusal::Unsound;
 
-// A row's first bad index, or how many wishes a sound row has, and what they weigh.
-#[derive(Clone, Copy)]
-pub enum RowScan {
-    Unsound(usize),
-    Sound { wishes: usize, weight: usize },
+// How many wishes a sound row has, and what they weigh.
+#[derive(Clone, Copy, Debug, PartialEq, Eq)]
+pub struct RowSize {
+    pub wishes: usize,
+    pub weight: usize,
 }
 
-// Scans a wish row once.
-pub fn scan_row(row: &[u8]) -> RowScan
+// Scans a wish row once: what a sound one holds, or its first bad index.
+pub fn scan_row(row: &[u8]) -> Result<RowSize, Unsound>
     ensures { result ≡ row_scan (bad_wish 0 0 row.now) row.now }
 {
     let mut wishes: usize = 0;
     let mut weight: usize = 0;
-    let mut i = 0;
-    while i < row.len() {
-        let next = i + 1;
-        let wish = row[i];
-        if !wish::is_row_byte(wish) {
-            return RowScan::Unsound(i);
+    for (place, wish) in row.iter().enumerate() {
+        if !wish::is_row_byte(*wish) {
+            return Err(Unsound { place });
         }
-        let more = weight + wish::weight_of(wish);
+        let more = weight + wish::weight_of(*wish);
         if MAX_WISHES < more {
-            return RowScan::Unsound(i);
+            return Err(Unsound { place });
         }
         weight = more;
-        if wish::is_wish(wish) {
+        if wish::is_wish(*wish) {
             wishes += 1;
         }
-        i = next;
     }
-    RowScan::Sound { wishes, weight }
+    Ok(RowSize { wishes, weight })
 }

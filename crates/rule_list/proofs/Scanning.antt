@@ -1,8 +1,8 @@
 -- The invariant of the scan of a rule list, and its laws: one for each way a turn can go.
+use Rattle.std.specs.Prelude.{Option, None, Some, Result, Ok, Err}
 use mathlib.Core.Path.{◌≡◌, refl, sym, ap, ap₂, ◌∙◌}
 use mathlib.Core.Bool.{Bool, true, false, cond}
 use mathlib.Core.List.{List, [], ◌∷◌}
-use mathlib.Core.Option.{Option, none, some}
 use Prim.Native.Nat.{ℕ, zero, ◌+◌, ◌≤◌, ◌<◌, zero-le}
 use native.Mathlib.Nat.{zero-add}
 use native.Mathlib.Omega.{arith}
@@ -12,7 +12,8 @@ use lib.ListN.{length, get_or, drop, set}
 use Rattle.literal.specs.Literal.{variable}
 use Rattle.literal.specs.Slots.{slot, wanted_bit}
 use Rattle.formula.specs.Formula.{clauses, literals}
-use Rattle.rule_list.specs.declared.scan.RuleScan.TheVariants.{Unsound, Sound}
+use Rattle.refusal.specs.declared.Unsound.{Unsound}
+use Rattle.rule_list.specs.declared.scan.ListSize.{ListSize}
 use Rattle.rule_list.specs.Laws.{scan, rule_closed, rule_clauses, rule_literal, rule_outside, rule_literals, rule_twice, rule_end, zeros, nonzeros, zeros-zero, zeros-literal, zeros_end, zeros-clauses, nonzeros-literals}
 use Rattle.rule_list.specs.Scans.{rule_scan}
 use Rattle.rule_list.specs.Sound.{unread, unclosed, bad_rule, SoundList}
@@ -44,12 +45,19 @@ start n list stamps l z =
       entries = zero-add (nonzeros list);
     }
 
+-- the two answers
+abbrev pub unsound_at : ℕ → Result ListSize Unsound
+unsound_at i = Err (record { place = i })
+
+abbrev pub sound_of : ℕ → ℕ → Result ListSize Unsound
+sound_of k m = Ok (record { clauses = k; literals = m })
+
 module _ (n : ℕ) (list : List ℤ) (stamps : List ℕ) (k m : ℕ) (is_open : Bool) (i : ℕ)
     (s : Scanning n list stamps k m is_open i) where
   abbrev unsound : Type 0
-  unsound = Unsound i ≡ rule_scan (bad_rule n unread 0 list) list
+  unsound = unsound_at i ≡ rule_scan (bad_rule n unread 0 list) list
 
-  found : bad_rule n (scan k m s.clause) i (drop i list) ≡ some i → unsound
+  found : bad_rule n (scan k m s.clause) i (drop i list) ≡ Some i → unsound
   found e = sym (ap (λ (o : Option ℕ). rule_scan o list) (s.so_far ∙ e))
 
   -- the turn's element is variable v's
@@ -115,15 +123,15 @@ module _ (n : ℕ) (list : List ℤ) (stamps : List ℕ) (k m : ℕ) (is_open : 
 
   -- the end of the list
   module _ (h : length list ≤ i) where
-    ended : bad_rule n (scan k m s.clause) i (drop i list) ≡ cond is_open (some i) none
-    ended = rule_end n k m s.clause list i h ∙ ap (λ (b : Bool). cond b (some i) none) s.opened
+    ended : bad_rule n (scan k m s.clause) i (drop i list) ≡ cond is_open (Some i) None
+    ended = rule_end n k m s.clause list i h ∙ ap (λ (b : Bool). cond b (Some i) None) s.opened
 
     pub left_open : is_open ≡ true → unsound
-    left_open o = found (ended ∙ ap (λ (b : Bool). cond b (some i) none) o)
+    left_open o = found (ended ∙ ap (λ (b : Bool). cond b (Some i) None) o)
 
-    pub complete : is_open ≡ false → Sound k m ≡ rule_scan (bad_rule n unread 0 list) list
+    pub complete : is_open ≡ false → sound_of k m ≡ rule_scan (bad_rule n unread 0 list) list
     complete o =
-        let sound : SoundList n list = s.so_far ∙ ended ∙ ap (λ (b : Bool). cond b (some i) none) o in
+        let sound : SoundList n list = s.so_far ∙ ended ∙ ap (λ (b : Bool). cond b (Some i) None) o in
         let clauses-are : k ≡ length (clauses list) = omega (arith, s.closings, (zeros_end list i h).0, (zeros-clauses n unread 0 list sound).0) in
         let literals-are : m ≡ literals (clauses list) = omega (arith, s.entries, (zeros_end list i h).1, nonzeros-literals list) in
-        ap₂ Sound clauses-are literals-are ∙ sym (ap (λ (o : Option ℕ). rule_scan o list) sound)
+        ap₂ sound_of clauses-are literals-are ∙ sym (ap (λ (o : Option ℕ). rule_scan o list) sound)

@@ -1,7 +1,7 @@
 -- The equations by which proofs scan a rule list, element by element.
-use Rattle.std.specs.Prelude.{◌≡◌, refl, Bool, true, false, cond, List, [], ◌∷◌, ℕ, suc, ◌+◌, ◌≤◌, ◌<◌, ℤ, pos, length, get_or, drop}
+use Rattle.std.specs.Prelude.{◌≡◌, refl, Bool, true, false, cond, List, [], ◌∷◌, ℕ, suc, ◌+◌, ◌≤◌, ◌<◌, ℤ, pos, length, get_or, drop, None, Some}
 use Rattle.std.proofs.Common.{sym, ap, ◌∙◌, zero-lt-suc, add-one, arith, drop_of_length-le, drop-cons, lt-ltb, le-ltb, le-leb, eq-eqb, ne_eqb}
-use Rattle.std.proofs.Math.Option.{none, some, some-ne-none}
+use Rattle.std.proofs.lemmas.Option.{none-some}
 use Rattle.std.proofs.lemmas.Bool.{lt-leb}
 use Rattle.literal.specs.Literal.{variable}
 use Rattle.formula.specs.Formula.{closes, onto, clauses, literals}
@@ -19,7 +19,7 @@ module _ (n k m : ℕ) (c : List ℤ) (list : List ℤ) (i : ℕ) (h : i < lengt
   pub rule_closed : variable x ≡ 0 → k < max_clauses → bad_rule n (scan k m c) i (drop i list) ≡ bad_rule n (scan (k + 1) m []) (i + 1) (drop (i + 1) list)
   rule_closed z r = rw (drop-cons list i (pos 0) h, eq-eqb (variable x) 0 z, lt-ltb k max_clauses r, add-one i, add-one k)
 
-  pub rule_clauses : variable x ≡ 0 → max_clauses ≤ k → bad_rule n (scan k m c) i (drop i list) ≡ some i
+  pub rule_clauses : variable x ≡ 0 → max_clauses ≤ k → bad_rule n (scan k m c) i (drop i list) ≡ Some i
   rule_clauses z r = rw (drop-cons list i (pos 0) h, eq-eqb (variable x) 0 z, le-ltb k max_clauses r)
 
   pub rule_literal : (variable x ≡ 0 → ⊥) → variable x ≤ n → m < max_literals → may_join c x ≡ true
@@ -27,19 +27,19 @@ module _ (n k m : ℕ) (c : List ℤ) (list : List ℤ) (i : ℕ) (h : i < lengt
   rule_literal z v r j =
       rw (drop-cons list i (pos 0) h, ne_eqb (variable x) 0 z, le-leb (variable x) n v, lt-ltb m max_literals r, j, add-one i, add-one m)
 
-  pub rule_outside : (variable x ≡ 0 → ⊥) → n < variable x → bad_rule n (scan k m c) i (drop i list) ≡ some i
+  pub rule_outside : (variable x ≡ 0 → ⊥) → n < variable x → bad_rule n (scan k m c) i (drop i list) ≡ Some i
   rule_outside z v = rw (drop-cons list i (pos 0) h, ne_eqb (variable x) 0 z, lt-leb (variable x) n v)
 
-  pub rule_literals : (variable x ≡ 0 → ⊥) → variable x ≤ n → max_literals ≤ m → bad_rule n (scan k m c) i (drop i list) ≡ some i
+  pub rule_literals : (variable x ≡ 0 → ⊥) → variable x ≤ n → max_literals ≤ m → bad_rule n (scan k m c) i (drop i list) ≡ Some i
   rule_literals z v r =
       rw (drop-cons list i (pos 0) h, ne_eqb (variable x) 0 z, le-leb (variable x) n v, le-ltb m max_literals r)
 
-  pub rule_twice : (variable x ≡ 0 → ⊥) → variable x ≤ n → m < max_literals → may_join c x ≡ false → bad_rule n (scan k m c) i (drop i list) ≡ some i
+  pub rule_twice : (variable x ≡ 0 → ⊥) → variable x ≤ n → m < max_literals → may_join c x ≡ false → bad_rule n (scan k m c) i (drop i list) ≡ Some i
   rule_twice z v r j =
       rw (drop-cons list i (pos 0) h, ne_eqb (variable x) 0 z, le-leb (variable x) n v, lt-ltb m max_literals r, j)
 
 pub rule_end : (n k m : ℕ) (c : List ℤ) (list : List ℤ) (i : ℕ) → length list ≤ i
-    → bad_rule n (scan k m c) i (drop i list) ≡ cond (unclosed c) (some i) none
+    → bad_rule n (scan k m c) i (drop i list) ≡ cond (unclosed c) (Some i) None
 rule_end n k m c list i h = rw (drop_of_length-le list h)
 
 -- the closing zeros of a list, and its other elements
@@ -72,8 +72,8 @@ length-onto x (c ∷ f) h = refl
 abbrev Counted : Scan → List ℤ → Type 0
 Counted s list = (zeros list ≡ length (clauses list)) × (unclosed s.clause ≡ true → 0 < zeros list)
 
-pub zeros-clauses : (n : ℕ) (s : Scan) (i : ℕ) (list : List ℤ) → bad_rule n s i list ≡ none → Counted s list
-zeros-clauses n s i [] e = (refl, λ u. absurd (some-ne-none i (ap (λ (b : Bool). cond b (some i) none) (sym u) ∙ e)))
+pub zeros-clauses : (n : ℕ) (s : Scan) (i : ℕ) (list : List ℤ) → bad_rule n s i list ≡ None → Counted s list
+zeros-clauses n s i [] e = (refl, λ u. absurd (none-some i (sym ((ap (λ (b : Bool). cond b (Some i) None) (sym u) ∙ e)))))
 zeros-clauses n s i (y ∷ list) e = go (closes y) (stands n s y) e (λ (t : Scan). zeros-clauses n t (suc i) list)
   where
     shut : Scan
@@ -82,11 +82,11 @@ zeros-clauses n s i (y ∷ list) e = go (closes y) (stands n s y) e (λ (t : Sca
     more : Scan
     more = scan s.clauses (suc s.literals) (y ∷ s.clause)
 
-    go : (z b : Bool) → cond b (bad_rule n (cond z shut more) (suc i) list) (some i) ≡ none
-        → ((t : Scan) → bad_rule n t (suc i) list ≡ none → Counted t list)
+    go : (z b : Bool) → cond b (bad_rule n (cond z shut more) (suc i) list) (Some i) ≡ None
+        → ((t : Scan) → bad_rule n t (suc i) list ≡ None → Counted t list)
         → (cond z (suc (zeros list)) (zeros list) ≡ length (cond z ([] ∷ clauses list) (onto y (clauses list))))
         × (unclosed s.clause ≡ true → 0 < cond z (suc (zeros list)) (zeros list))
-    go z false f ih = absurd (some-ne-none i f)
+    go z false f ih = absurd (none-some i (sym f))
     go true true f ih = (ap suc (ih shut f).0, λ u. zero-lt-suc (zeros list))
     go false true f ih =
         let r = ih more f in

@@ -1,6 +1,5 @@
 -- Sound rule lists (document 01, "Refusals", 13): "not closed, outside -n..n, setting repeated, over the file's limits (31,001st entry, 9,001st closing zero)"; the place is the "first bad index; length if not closed". Instead of a repeated setting, document 02, L3, has a repeated entry: "Lent lists may hold opposite entries but not equal ones."
-use Rattle.std.specs.Prelude.{◌≡◌, Bool, true, false, cond, not, ◌&&◌, List, [], ◌∷◌, ℕ, suc, ltb, leb, ℤ}
-use Rattle.std.proofs.Math.Option.{Option, none, some}
+use Rattle.std.specs.Prelude.{◌≡◌, Bool, true, false, cond, not, ◌&&◌, List, [], ◌∷◌, ℕ, suc, ltb, leb, ℤ, Option, None, Some}
 use Rattle.literal.specs.Literal.{variable, wanted}
 use Rattle.formula.specs.Formula.{contains, closes}
 use Rattle.limits.specs.Limits.{max_clauses, max_literals}
@@ -36,9 +35,9 @@ unclosed (x ∷ c) = true
 
 -- the first bad index of a rule list from index i on, after what s says was read
 abbrev pub bad_rule : ℕ → Scan → ℕ → List ℤ → Option ℕ
-bad_rule n s i [] = cond (unclosed s.clause) (some i) none
-bad_rule n s i (x ∷ list) = cond (stands n s x) (bad_rule n (after s x) (suc i) list) (some i)
+bad_rule n s i [] = cond (unclosed s.clause) (Some i) None
+bad_rule n s i (x ∷ list) = cond (stands n s x) (bad_rule n (after s x) (suc i) list) (Some i)
 
 -- a sound list of n variables: it has no bad index
 abbrev pub SoundList : ℕ → List ℤ → Type 0
-SoundList n list = bad_rule n unread 0 list ≡ none
+SoundList n list = bad_rule n unread 0 list ≡ None

@@ -4,5 +4,5 @@
 mod scan;
 mod stamps;
 
-pub use scan::{RuleScan, scan_rules};
+pub use scan::{ListSize, scan_rules};
 pub use stamps::{is_repeat, no_stamps, stamp};

@@ -7,16 +7,17 @@ ghost use Rattle.rule_list.specs.Scans.{rule_scan};
 use crate::stamps::{is_stamped, no_stamps, stamp};
 use limits::{MAX_CLAUSES, MAX_LITERALS};
 use literal::Clause;
+use refusal::Unsound;
 
-// A list's first bad index, or what a sound list holds.
-#[derive(Clone, Copy)]
-pub enum RuleScan {
-    Unsound(usize),
-    Sound { clauses: usize, literals: usize },
+// How many clauses and literals a sound list has.
+#[derive(Clone, Copy, Debug, PartialEq, Eq)]
+pub struct ListSize {
+    pub clauses: usize,
+    pub literals: usize,
 }
 
-// Scans a rule list once.
-pub fn scan_rules(n: usize, rules: &[i32]) -> RuleScan
+// Scans a rule list once: what a sound one holds, or its first bad index.
+pub fn scan_rules(n: usize, rules: &[i32]) -> Result<ListSize, Unsound>
     requires { n ≤ max_variables }
     ensures { result ≡ rule_scan (bad_rule n unread 0 rules.now) rules.now }
 {
@@ -24,36 +25,32 @@ pub fn scan_rules(n: usize, rules: &[i32]) -> RuleScan
     let mut clauses: usize = 0;
     let mut literals: usize = 0;
     let mut is_open = false;
-    let mut i = 0;
-    while i < rules.len() {
-        let next = i + 1;
-        let x = rules[i];
+    for (place, &x) in rules.iter().enumerate() {
         let number = literal::variable_of(x).0;
         if number == 0 {
             if clauses == MAX_CLAUSES {
-                return RuleScan::Unsound(i);
+                return Err(Unsound { place });
             }
             clauses += 1;
             is_open = false;
         } else {
             if n < number {
-                return RuleScan::Unsound(i);
+                return Err(Unsound { place });
             }
             if literals == MAX_LITERALS {
-                return RuleScan::Unsound(i);
+                return Err(Unsound { place });
             }
             let clause = Clause(clauses + 1);
             if is_stamped(&stamps, x, clause) {
-                return RuleScan::Unsound(i);
+                return Err(Unsound { place });
             }
             stamp(&mut stamps, x, clause);
             literals += 1;
             is_open = true;
         }
-        i = next;
     }
     if is_open {
-        return RuleScan::Unsound(i);
+        return Err(Unsound { place: rules.len() });
     }
-    RuleScan::Sound { clauses, literals }
+    Ok(ListSize { clauses, literals })
 }

@@ -1,8 +1,7 @@
 -- What the soundness test of a rule list says of its clauses: a list is sound exactly when it is the list form of a well-formed formula within the file's limits.
-use Rattle.std.specs.Prelude.{◌≡◌, refl, Bool, true, false, cond, not, ◌&&◌, List, [], ◌∷◌, ◌++◌, ℕ, suc, ◌+◌, ◌≤◌, ◌<◌, leb, ltb, ℤ, pos, negsuc, length}
+use Rattle.std.specs.Prelude.{◌≡◌, refl, Bool, true, false, cond, not, ◌&&◌, List, [], ◌∷◌, ◌++◌, ℕ, suc, ◌+◌, ◌≤◌, ◌<◌, leb, ltb, ℤ, pos, negsuc, length, Option, None, Some}
 use Rattle.std.proofs.Common.{sym, ap, ◌∙◌, arith, leb-true, le-leb, ltb-true, lt-ltb, eqb-true}
 use Rattle.std.proofs.lemmas.Bool.{false≢true}
-use Rattle.std.proofs.Math.Option.{Option, none, some}
 use Rattle.literal.specs.Literal.{variable}
 use Rattle.formula.specs.Formula.{closes, onto, clauses, literals}
 use Rattle.limits.specs.Limits.{max_clauses, max_literals}
@@ -34,15 +33,15 @@ record Rest (n : ℕ) (s : Scan) (list : List ℤ) : Type 0 where
   small : s.literals + literals (clauses list) ≤ max_literals
 
 -- a test that did not fail
-passed : {A : Type 0} (b : Bool) (o : Option A) (x : A) → cond b o (some x) ≡ none → (b ≡ true) × (o ≡ none)
+passed : {A : Type 0} (b : Bool) (o : Option A) (x : A) → cond b o (Some x) ≡ None → (b ≡ true) × (o ≡ None)
 passed true o x e = (refl, e)
 passed false o x e = let z : ◌≡◌ {A = ℕ} 0 1 = cc in absurd (omega arith)
 
 -- the end of a list
-ended : (n : ℕ) (s : Scan) (i : ℕ) → s.clauses ≤ max_clauses → s.literals ≤ max_literals → bad_rule n s i [] ≡ none → Rest n s []
+ended : (n : ℕ) (s : Scan) (i : ℕ) → s.clauses ≤ max_clauses → s.literals ≤ max_literals → bad_rule n s i [] ≡ None → Rest n s []
 ended n s i hc hl e = record { closed = refl; formed = shut s.clause e; few = omega arith; small = omega arith }
   where
-    shut : (c : List ℤ) → cond (unclosed c) (some i) none ≡ none → not (unclosed c) ≡ true
+    shut : (c : List ℤ) → cond (unclosed c) (Some i) None ≡ None → not (unclosed c) ≡ true
     shut [] q = refl
     shut (x ∷ c) q = let z : ◌≡◌ {A = ℕ} 0 1 = cc in absurd (omega arith)
 
@@ -103,16 +102,16 @@ is_zero : (x : ℤ) → closes x ≡ true → x ≡ pos 0
 is_zero (pos k) e = ap pos (eqb-true k 0 e)
 is_zero (negsuc k) e = absurd (omega (arith, eqb-true (suc k) 0 e))
 
-rest : (n : ℕ) (list : List ℤ) (s : Scan) (i : ℕ) → s.clauses ≤ max_clauses → s.literals ≤ max_literals → bad_rule n s i list ≡ none → Rest n s list
+rest : (n : ℕ) (list : List ℤ) (s : Scan) (i : ℕ) → s.clauses ≤ max_clauses → s.literals ≤ max_literals → bad_rule n s i list ≡ None → Rest n s list
 rest n [] s i hc hl e = ended n s i hc hl e
 rest n (x ∷ list) s i hc hl e = step (closes x) refl (passed (stands n s x) (bad_rule n (after s x) (suc i) list) i e) (rest n list)
   where
-    step : (b : Bool) → closes x ≡ b → (stands n s x ≡ true) × (bad_rule n (after s x) (suc i) list ≡ none)
-        → ((t : Scan) (j : ℕ) → t.clauses ≤ max_clauses → t.literals ≤ max_literals → bad_rule n t j list ≡ none → Rest n t list) → Rest n s (x ∷ list)
+    step : (b : Bool) → closes x ≡ b → (stands n s x ≡ true) × (bad_rule n (after s x) (suc i) list ≡ None)
+        → ((t : Scan) (j : ℕ) → t.clauses ≤ max_clauses → t.literals ≤ max_literals → bad_rule n t j list ≡ None → Rest n t list) → Rest n s (x ∷ list)
     step true q h ih =
         let z : x ≡ pos 0 = is_zero x q in
         let t : stands n s (pos 0) ≡ true = rw z at h.0 in
-        let u : bad_rule n (after s (pos 0)) (suc i) list ≡ none = rw z at h.1 in
+        let u : bad_rule n (after s (pos 0)) (suc i) list ≡ None = rw z at h.1 in
         rw z (closing n s list (ih (after s (pos 0)) (suc i) (stands-zero n s t) hl u))
     step false q h ih =
         let u : leb (variable x) n && (ltb s.literals max_literals && may_join s.clause x) ≡ true = rw q at h.0 in
@@ -127,8 +126,8 @@ rest n (x ∷ list) s i hc hl e = step (closes x) refl (passed (stands n s x) (b
 
 -- a clause that stands is read to its end
 through : (n : ℕ) (c : List ℤ) (s : Scan) (i : ℕ) (list : List ℤ) → joining n s.clause c ≡ true → s.clauses < max_clauses → s.literals + length c ≤ max_literals
-    → ((k j : ℕ) → k ≡ s.literals + length c → bad_rule n (record { clauses = suc s.clauses; literals = k; clause = [] }) j list ≡ none)
-    → bad_rule n s i (c ++ pos 0 ∷ list) ≡ none
+    → ((k j : ℕ) → k ≡ s.literals + length c → bad_rule n (record { clauses = suc s.clauses; literals = k; clause = [] }) j list ≡ None)
+    → bad_rule n s i (c ++ pos 0 ∷ list) ≡ None
 through n [] s i list e hc hl next = rw (lt-ltb s.clauses max_clauses hc) (next s.literals (suc i) (omega arith))
 through n (x ∷ c) s i list e hc hl next =
     let j : Joined n s.clause x c = joined n s.clause x c e in
@@ -137,7 +136,7 @@ through n (x ∷ c) s i list e hc hl next =
     (λ (k m : ℕ) (q : k ≡ suc s.literals + length c). next k m (omega arith)))
 
 formula : (n : ℕ) (f : List (List ℤ)) (c l i : ℕ) → well_formed n f ≡ true → c + length f ≤ max_clauses → l + literals f ≤ max_literals
-    → bad_rule n (record { clauses = c; literals = l; clause = [] }) i (flat f) ≡ none
+    → bad_rule n (record { clauses = c; literals = l; clause = [] }) i (flat f) ≡ None
 formula n [] c l i e hc hl = refl
 formula n (d ∷ f) c l i e hc hl =
     through n d (record { clauses = c; literals = l; clause = [] }) i (flat f) (and_left (joining n [] d) (well_formed n f) e) (omega arith) (omega arith)

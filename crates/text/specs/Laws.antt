@@ -1,12 +1,12 @@
 -- The equations by which proofs count and put numbers.
-use Rattle.std.specs.Prelude.{◌≡◌, List, [], ◌∷◌, ◌++◌, ℕ, suc, ◌+◌, ◌-◌, ◌/◌, ◌%◌, ◌^◌, ◌≤◌, ◌<◌, ℤ, pos, negsuc, length, take, drop, set}
-use Rattle.std.proofs.Common.{sym, ap, ap₂, ◌∙◌, append_assoc, arith, length-append, drop-cons, lt-length-set, get_or-set_same, drop-set-lt}
+use Rattle.std.specs.Prelude.{◌≡◌, refl, Bool, true, false, cond, ltb, List, [], ◌∷◌, ◌++◌, ℕ, suc, ◌+◌, ◌-◌, ◌/◌, ◌%◌, ◌^◌, ◌≤◌, ◌<◌, ℤ, pos, negsuc, length, take, drop, set}
+use Rattle.std.proofs.Common.{sym, ap, ap₂, ◌∙◌, append_assoc, arith, length-append, lt-ltb, le-ltb, ltb-true, ltb-false, take-append-drop, drop-cons, lt-length-set, get_or-set_same, drop-set-lt}
 use Rattle.std.specs.Int.Signed.{mag}
 use Rattle.std.proofs.lemmas.List.{length-replicate, take-set-le, set_split}
 use Rattle.std.proofs.lemmas.List.Edits.{sets, sets-eq}
 use Rattle.literal.specs.Literal.{variable, wanted}
 use Rattle.decimal.specs.Decimal.{decimal}
-use Rattle.decimal.specs.Laws.{decimal_one, decimal_more, count_one, count_more, count_most}
+use Rattle.decimal.specs.Laws.{decimal_one, decimal_more, count_one, count_more, count_most, decimal-some}
 use Rattle.text.specs.Text.{numeral, column}
 
 -- a usize has at most twenty digits
@@ -63,3 +63,42 @@ pub written_only : (l : List ℕ) (at i v : ℕ) → v < 10 → i ≡ at + lengt
 written_only l at i v h e f =
     let next : i ≡ suc at = omega (arith, count_one v h) in
     rw (set_split l at (48 + v) (omega arith), decimal_one v h, next)
+
+-- the digits that are still to be put before place i, of a number that is put from place at on
+abbrev pub still : ℕ → ℕ → ℕ → List ℕ
+still at i v = cond (ltb at i) (decimal v) []
+
+pub still_some : (at i v : ℕ) → at < i → still at i v ≡ decimal v
+still_some at i v h = rw (lt-ltb at i h)
+
+pub still_none : (at i v : ℕ) → i ≤ at → still at i v ≡ []
+still_none at i v h = rw (le-ltb at i h)
+
+-- writing the last of them: what the buffer is to hold does not change
+pub still-next : (l : List ℕ) (at i v : ℕ) → at < i → i ≡ at + length (still at i v) → i ≤ length l
+    → (i - 1 ≡ at + length (still at (i - 1) (v / 10)))
+    × (take at l ++ (still at i v ++ drop i l)
+    ≡ take at (set l (i - 1) (48 + v % 10)) ++ (still at (i - 1) (v / 10) ++ drop (i - 1) (set l (i - 1) (48 + v % 10))))
+still-next l at i v h e f = go (ltb v 10) refl
+  where
+    all : i ≡ at + length (decimal v)
+    all = e ∙ ap (λ (w : List ℕ). at + length w) (still_some at i v h)
+
+    go : (b : Bool) → ltb v 10 ≡ b
+        → (i - 1 ≡ at + length (still at (i - 1) (v / 10)))
+        × (take at l ++ (still at i v ++ drop i l)
+        ≡ take at (set l (i - 1) (48 + v % 10)) ++ (still at (i - 1) (v / 10) ++ drop (i - 1) (set l (i - 1) (48 + v % 10))))
+    go true q =
+        let low : v < 10 = ltb-true v 10 q in
+        let first : i - 1 ≡ at = omega (arith, all, count_one v low) in
+        let digit : v % 10 ≡ v = omega arith in (
+          omega (arith, first, ap length (still_none at (i - 1) (v / 10) (omega (arith, first)))),
+          rw (still_some at i v h, still_none at (i - 1) (v / 10) (omega (arith, first)), first, digit)
+              (written_only l at i v low all f ∙ sym (take-append-drop at (set l at (48 + v)))),
+        )
+    go false q =
+        let high : 10 ≤ v = ltb-false v 10 q in
+        let more : at < i - 1 = omega (arith, all, count_more v high, decimal-some (v / 10)) in (
+          omega (arith, all, count_more v high, ap length (still_some at (i - 1) (v / 10) more)),
+          rw (still_some at i v h, still_some at (i - 1) (v / 10) more) (written_last l at i v high all f),
+        )

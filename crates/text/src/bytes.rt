@@ -7,20 +7,18 @@ pub fn put_byte(b: u8, out: &mut [u8], at: usize) -> usize
     requires { at < length out.old }
     ensures { Wrote (b ∷ []) out.old at out.new result }
 {
-    out[at] = b;
-    at + 1
+    writing::put(b, out, at)
 }
 
-// Puts a copy of some bytes.
+// Puts a copy of some bytes: one by one, so that those of a short text stand in the code, and not in read-only data as
+// for `writing::put_all`.
 pub fn put_bytes(bytes: &[u8], out: &mut [u8], from: usize) -> usize
     requires { from + length bytes.now ≤ length out.old }
     ensures { Wrote bytes.now out.old from out.new result }
 {
     let mut at = from;
-    let mut i = 0;
-    while i < bytes.len() {
-        at = put_byte(bytes[i], out, at);
-        i += 1;
+    for b in bytes {
+        at = put_byte(*b, out, at);
     }
     at
 }

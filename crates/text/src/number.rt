@@ -22,13 +22,10 @@ pub fn put_number(v: usize, out: &mut [u8], at: usize) -> usize
     ensures { Wrote (decimal v) out.old at out.new result }
 {
     let end = at + number_length(v);
-    let mut i = end;
     let mut rest = v;
-    while 10 <= rest {
-        i -= 1;
+    for i in (at..end).rev() {
         out[i] = b'0' + (rest % 10) as u8;
         rest = rest / 10;
     }
-    out[at] = b'0' + (rest % 10) as u8;
     end
 }

@@ -15,5 +15,5 @@ pub fn number() -> u64
 pub fn text() -> [u8; 5]
     ensures { result ≡ version_text }
 {
-    [b'1', b'.', b'0', b'.', b'1']
+    *b"1.0.1"
 }

@@ -1,6 +1,8 @@
 -- What writing into a lent list does, and how two writings follow one another.
 use Rattle.std.specs.Prelude.{◌≡◌, refl, List, [], ◌∷◌, ◌++◌, ℕ, suc, ◌+◌, ◌≤◌, ◌<◌, length, get_or, take, drop, set, replicate}
-use Rattle.std.proofs.Common.{sym, ap, ap₂, ◌∙◌, zero-add, add-one, arith, length-append, take-suc, take_at}
+use Rattle.std.proofs.Common.{sym, ap, ap₂, ◌∙◌, zero-add, add-one, arith, length-append, take-suc, take_at, take_all}
+use borrow.Rule.Slice.PartMut.{put_mid}
+use Rattle.std.proofs.lemmas.Slice.{put_mid-paste}
 use Rattle.std.proofs.lemmas.List.{replicate-append-replicate}
 use Rattle.std.proofs.lemmas.List.Edits.{sets, sets-eq}
 use Rattle.std.proofs.Math.Seq.{length-sets}
@@ -20,6 +22,19 @@ sets-append l at (x ∷ w) v =
 -- nothing
 pub wrote_none : {A : Type 0} (l : List A) (at : ℕ) → Wrote [] l at l at
 wrote_none l at = record { place = omega arith; list = refl }
+
+-- one element
+pub wrote_one : {A : Type 0} (x : A) (l : List A) (at : ℕ) → Wrote (x ∷ []) l at (set l at x) (at + 1)
+wrote_one x l at = record { place = refl; list = refl }
+
+-- a part of a list, written over as a whole by other elements
+pub wrote_part : {A : Type 0} (w l part : List A) (at k : ℕ) → part ≡ w → k ≡ length w → at + length w ≤ length l → Wrote w l at (put_mid at k l part) (at + length w)
+wrote_part w l part at k e q h =
+    let whole : take k w ≡ w = take_all k w (omega arith) in
+    record {
+      place = refl;
+      list = put_mid-paste at k l part w k e refl q ∙ rw (whole, q) (sym (sets-eq w l at h));
+    }
 
 -- one writing after another
 pub wrote_more : {A : Type 0} {w v l : List A} {at : ℕ} {m : List A} {i : ℕ} {k : List A} {j : ℕ} → Wrote w l at m i → Wrote v m i k j → Wrote (w ++ v) l at k j

@@ -1,20 +1,15 @@
 -- `checking::check` meets its contract: refused for what was lent, or answered.
-use mathlib.Core.Path.{sym, ◌∙◌}
+use Rattle.std.proofs.Common.{sym, ◌∙◌}
 use Rattle.refusal_causes.specs.Admitted.{admitted}
 use Rattle.refusal_causes.specs.Laws.{sound_weight}
-use Rattle.refusal_causes.specs.Lent.{Lent, unadmitted}
+use Rattle.refusal_causes.specs.Lent.{unadmitted}
 use Rattle.admission_steps.specs.Admission.{counts_of}
 use Rattle.admission_steps.specs.Laws.{admitted_by}
 use Rattle.checking.specs.Check.{lent_to_check}
-use borrow.Author.Rules.{rules}
 use Rattle.checking.proofs.check.Goals as goal
-
--- after the check of what was lent
-abbrev lent : goal.In-Admitted → Lent
-lent c = lent_to_check c.args.n c.args.rules.now c.args.row.now c.args.choice.now
 
 pub judge-requires : goal.judge-requires
 judge-requires c =
-    let s = lent c in
-    let known = admitted_by (unadmitted s) (counts_of s) c.in-Admitted.field-0 (sym c.admit_choice.ensures ∙ c.in-Admitted.is) in
+    let s = lent_to_check c.args.n c.args.rules.now c.args.row.now c.args.choice.now in
+    let known = admitted_by (unadmitted s) (counts_of s) c.in_ok-admit_choice.field-0 (sym c.admit_choice.ensures ∙ c.in_ok-admit_choice.was) in
     sound_weight c.args.row.now (admitted s known.0).sound_row

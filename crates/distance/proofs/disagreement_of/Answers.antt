@@ -1,23 +1,18 @@
-use Prim.Native.Nat.{◌-◌}
-use native.Mathlib.Omega.{arith}
-use lib.ListN.{length}
-use borrow.Author.Tests.{ltb-true, ltb-false}
-use Rattle.distance.specs.Laws.{disagreement-most, disagreement_step, disagreement_past}
+use Rattle.std.proofs.Common.{arith, ap₂, inl, inr}
+use Rattle.distance.specs.Distance.{disagreement}
+use Rattle.distance.specs.Laws.{disagreement-most, disagreement_no_row, disagreement_no_values}
 use Rattle.distance.proofs.disagreement_of.Goals as goal
 
 pub overflow_add-broken : goal.overflow_add-broken
 overflow_add-broken c =
-    let inside = c.before.before.before.before.before in
-    let at = inside.loop-i in
-    let args = inside.args in
-    omega (
-      arith,
-      c.cost_of-broken.ensures,
-      disagreement-most args.row.now args.assignment.now,
-      disagreement_step args.row.now args.assignment.now at.i inside.loop-i-test.true (ltb-true at.i (length args.assignment.now) c.if-i-assignment.true-raw),
-    )
+    let next = c.in-Some.ensures.steps in
+    omega (arith, disagreement-most c.args.row.now c.args.assignment.now, ap₂ disagreement next.0 next.1)
 
-pub returns-else-i-assignment : goal.returns-else-i-assignment
-returns-else-i-assignment c =
-    let args = c.args in
-    omega (arith, disagreement_past args.row.now args.assignment.now c.loop-i.i (ltb-false c.loop-i.i (length args.assignment.now) c.if-i-assignment.false-raw))
+pub returns : goal.returns
+returns c =
+    let row = c.loop-wish.wish-iterator.a.rest.now in
+    let values = c.loop-wish.wish-iterator.b.rest.now in
+    elim c.in-None.ensures.steps [
+      | inl e ↦ omega (arith, disagreement_no_row row values e.1.0)
+      | inr e ↦ omega (arith, disagreement_no_values row values e.1.0)
+    ]

@@ -1,8 +1,5 @@
 -- `formula::is_model` meets its contract. The loop's invariant: the clauses passed are satisfied.
-use mathlib.Core.Path.{◌≡◌}
-use Prim.Native.Nat.{◌-◌}
-use lib.ListN.{length, drop}
-use borrow.Author.Rules.{rules}
+use Rattle.std.proofs.Common.{◌≡◌, ◌-◌, length, drop}
 use Rattle.formula.specs.Formula.{clauses, models}
 use Rattle.formula.proofs.is_model.Given as goal
 

@@ -1,8 +1,5 @@
 -- `refusal_causes::row::scan_row` meets its contract. The loop's invariant: the bytes passed are good, and their wishes are counted and weighed.
-use mathlib.Core.Path.{◌≡◌}
-use mathlib.Core.List.{List}
-use Prim.Native.Nat.{ℕ, ◌+◌, ◌-◌, ◌≤◌}
-use lib.ListN.{length, drop}
+use Rattle.std.proofs.Common.{◌≡◌, List, ℕ, ◌+◌, ◌≤◌, length, drop}
 use Rattle.wish.specs.Wish as W
 use Rattle.limits.specs.Limits.{max_wishes}
 use Rattle.refusal_causes.specs.Sound.{bad_wish}
@@ -16,8 +13,5 @@ Passed row wishes weight i =
     × (wishes + W.wish_count (drop i row) ≡ W.wish_count row)
     × (weight + W.total_weight (drop i row) ≡ W.total_weight row)
 
-abbrev pub invariant-loop-i : goal.invariant-loop-i
-invariant-loop-i l = Passed l.row l.wishes l.weight l.i
-
-abbrev pub decreases-loop-i : goal.decreases-loop-i
-decreases-loop-i l = length l.row - l.i
+abbrev pub invariant-loop-place : goal.invariant-loop-place
+invariant-loop-place l = Passed l.row l.wishes l.weight l.place
