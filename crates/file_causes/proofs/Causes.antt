@@ -1,7 +1,6 @@
 -- What follows from the definitions of specs/Causes.antt.
-use Rattle.std.specs.Prelude.{◌≡◌, refl, Bool, true, false, cond, ◌&&◌, ◌||◌, List, [], ◌∷◌, ℕ, zero, suc, ◌+◌, eqb, ltb, leb, ℤ, length, get_or, drop}
+use Rattle.std.specs.Prelude.{◌≡◌, refl, Bool, true, false, cond, ◌&&◌, ◌||◌, List, [], ◌∷◌, ℕ, zero, suc, ◌+◌, eqb, ltb, leb, ℤ, length, get_or, drop, Option, None, Some}
 use Rattle.std.proofs.Common.{sym, ap, ◌∙◌, true≢false, arith, eqb-true}
-use Rattle.std.proofs.Math.Option.{Option, none, some}
 use Rattle.literal.specs.Literal.{variable}
 use Rattle.formula.specs.Formula.{all}
 use Rattle.refusal.specs.declared.Refusal.{Refusal}
@@ -32,8 +31,8 @@ abbrev RuleCause : Option Refusal → Type 0
 RuleCause = Passes (among rule_causes)
 
 token_cause : (n c : ℕ) (s : Scan) (place : ℕ) (o : Option ℤ) → RuleCause (rule.bad_token n c s place o)
-token_cause n c s place none = some-cause (refusal 3 place) refl
-token_cause n c s place (some x) =
+token_cause n c s place None = some-cause (refusal 3 place) refl
+token_cause n c s place (Some x) =
     by_first
     (more (by_place 6 refl (place_if (leb c s.clauses) place))
     (more (by_place 7 refl (place_if (rule.adds s x && leb max_literals s.literals) place))
@@ -56,8 +55,8 @@ rule_number file r e = found (rule.header (drop at file)) e
         rw (← same) t
 
     tokens : (n c : ℕ) (ts : List Token) (o : Option Refusal) → RuleCause o → rule.read_tokens n c ts o ≡ rule.refuses r → among rule_causes r.number ≡ true
-    tokens n c ts none cause f = absurd (let z : ◌≡◌ {A = ℕ} 0 1 = cc in omega arith)
-    tokens n c ts (some q) cause f = told q (cause.number q refl) f
+    tokens n c ts None cause f = absurd (let z : ◌≡◌ {A = ℕ} 0 1 = cc in omega arith)
+    tokens n c ts (Some q) cause f = told q (cause.number q refl) f
 
     ranged : (b : Bool) (n c : ℕ) (ts : List Token) (o : Option Refusal) → RuleCause o
         → cond b (rule.refuses (refusal 2 at)) (rule.read_tokens n c ts o) ≡ rule.refuses r → among rule_causes r.number ≡ true
@@ -65,8 +64,8 @@ rule_number file r e = found (rule.header (drop at file)) e
     ranged false n c ts o cause f = tokens n c ts o cause f
 
     found : (o : Option Header) → rule.read_from file at o ≡ rule.refuses r → among rule_causes r.number ≡ true
-    found none f = told (refusal 1 at) refl f
-    found (some h) f =
+    found None f = told (refusal 1 at) refl f
+    found (Some h) f =
         let next : ℕ = at + h.size in
         let ts : List Token = tokens_from file next in
         ranged (rule.outside h.variables h.clauses) h.variables h.clauses ts _
@@ -77,8 +76,8 @@ abbrev WishCause : Option Refusal → Type 0
 WishCause = Passes (among wish_causes)
 
 line-cause : (n before at : ℕ) (o : Option (List ℕ)) → WishCause (wish.bad_line n before at o)
-line-cause n before at none = some-cause (refusal 8 at) refl
-line-cause n before at (some vs) = by_place 10 refl (place_if (wish.misfit n before (wish.wish_of vs)) at)
+line-cause n before at None = some-cause (refusal 8 at) refl
+line-cause n before at (Some vs) = by_place 10 refl (place_if (wish.misfit n before (wish.wish_of vs)) at)
 
 lines_cause : (n m before at : ℕ) (s : List ℕ) → WishCause (wish.bad_lines n m before at s)
 lines_cause n zero before at [] = no_cause
@@ -100,8 +99,8 @@ wish_number file r e = header (line_numbers wish.header_columns file) e
         rw (← same) t
 
     lines : (n m d : ℕ) (o : Option Refusal) → WishCause o → wish.read_lines n m d s o ≡ wish.refuses r → among wish_causes r.number ≡ true
-    lines n m d none cause f = absurd (let z : ◌≡◌ {A = ℕ} 0 1 = cc in omega arith)
-    lines n m d (some q) cause f = told q (cause.number q refl) f
+    lines n m d None cause f = absurd (let z : ◌≡◌ {A = ℕ} 0 1 = cc in omega arith)
+    lines n m d (Some q) cause f = told q (cause.number q refl) f
 
     ranged : (b : Bool) (n m d : ℕ) (o : Option Refusal) → WishCause o
         → cond b (wish.refuses (refusal 9 0)) (wish.read_lines n m d s o) ≡ wish.refuses r → among wish_causes r.number ≡ true
@@ -109,8 +108,8 @@ wish_number file r e = header (line_numbers wish.header_columns file) e
     ranged false n m d o cause f = lines n m d o cause f
 
     header : (o : Option (List ℕ)) → wish.read_header s o ≡ wish.refuses r → among wish_causes r.number ≡ true
-    header none f = told (refusal 8 0) refl f
-    header (some vs) f =
+    header None f = told (refusal 8 0) refl f
+    header (Some vs) f =
         let n : ℕ = get_or vs 0 0 in
         let m : ℕ = get_or vs 1 0 in
         let d : ℕ = get_or vs 2 0 in

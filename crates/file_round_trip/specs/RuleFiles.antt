@@ -1,7 +1,6 @@
 -- The rule file's two calls, the reader first (document 01, "The rule file"): "a file in the writer's form, read and written, is that file".
-use Rattle.std.specs.Prelude.{◌≡◌, refl, List, ◌++◌, ℕ, ◌≤◌, ℤ, length, take, drop}
+use Rattle.std.specs.Prelude.{◌≡◌, refl, List, ◌++◌, ℕ, ◌≤◌, ℤ, length, take, drop, Option, None, Some}
 use Rattle.std.proofs.Common.{sym, ap, ◌∙◌, arith}
-use Rattle.std.proofs.Math.Option.{Option, none, some}
 use Rattle.std.proofs.Math.Seq.{take-append_seam}
 use Rattle.refusal.specs.declared.Refusal.{Refusal}
 use Rattle.refusal.specs.Reply.{answering, unless, too_short, filled}
@@ -19,13 +18,13 @@ use Rattle.file_round_trip.specs.Rules as rules
 -- what a call that answered has filled is its result
 filled_front : (o : Option Refusal) (list out : List ℤ) (v x y z n c : ℕ) → unless o (answering 1 n c (length list)) ≡ answering v x y z
     → (x ≡ n) × (take z (filled o list out) ≡ list)
-filled_front none list out v x y z n c e =
+filled_front None list out v x y z n c e =
     let size : length list ≡ z = cc in
     ((cc), rw (← size) (take-append_seam list (drop (length list) out)))
-filled_front (some r) list out v x y z n c e = let z : ◌≡◌ {A = ℕ} 0 1 = cc in absurd (omega arith)
+filled_front (Some r) list out v x y z n c e = let z : ◌≡◌ {A = ℕ} 0 1 = cc in absurd (omega arith)
 
 -- the writer takes what a file reads as, where it was lent the room
-unrefused : (file out : List ℕ) (n c : ℕ) (l : List ℤ) → reading file ≡ gives n c l → length (written n l) ≤ length out → refusal_of (lent_to_write n l (length out)) ≡ none
+unrefused : (file out : List ℕ) (n c : ℕ) (l : List ℤ) → reading file ≡ gives n c l → length (written n l) ≤ length out → refusal_of (lent_to_write n l (length out)) ≡ None
 unrefused file out n c l read room =
     let a = accepted file n c l read in
     admitted_room (plain_problem n l) (length (written n l)) (length out) (plain_admitted n l a.least a.most a.sound)

@@ -1,7 +1,6 @@
 -- The rule file's two calls, one after the other (document 01, "The rule file"): "Every sound list, written and read, is that list again".
-use Rattle.std.specs.Prelude.{◌≡◌, List, ◌++◌, ℕ, ◌≤◌, ℤ, length, take, drop}
+use Rattle.std.specs.Prelude.{◌≡◌, List, ◌++◌, ℕ, ◌≤◌, ℤ, length, take, drop, None}
 use Rattle.std.proofs.Common.{ap, ◌∙◌, le-ltb}
-use Rattle.std.proofs.Math.Option.{none}
 use Rattle.std.proofs.Math.Seq.{take-append_seam}
 use Rattle.formula.specs.Formula.{clauses}
 use Rattle.refusal.specs.Reply.{answering}
@@ -13,7 +12,7 @@ use Rattle.rule_file.specs.Written.{written}
 use Rattle.rule_file_writer.specs.Write.{lent_to_write, write_output}
 use Rattle.rule_file_reader.specs.Read.{read_reply, read_output}
 
-module _ (n : ℕ) (l : List ℤ) (file : List ℕ) (taken : refusal_of (lent_to_write n l (length file)) ≡ none) where
+module _ (n : ℕ) (l : List ℤ) (file : List ℕ) (taken : refusal_of (lent_to_write n l (length file)) ≡ None) where
   -- the part of the lent bytes that the writer filled
   abbrev pub part : List ℕ
   part = take (length (written n l)) (write_output n l file)

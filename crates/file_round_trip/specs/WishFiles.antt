@@ -1,7 +1,6 @@
 -- The wish file's two calls, the reader first (document 01, "The wish file"). Every accepted file is in the writer's form, so each, read and written, is that file.
-use Rattle.std.specs.Prelude.{◌≡◌, refl, List, ◌++◌, ℕ, ◌≤◌, length, take, drop}
+use Rattle.std.specs.Prelude.{◌≡◌, refl, List, ◌++◌, ℕ, ◌≤◌, length, take, drop, Option, None, Some}
 use Rattle.std.proofs.Common.{sym, ap, ◌∙◌, arith, take_at}
-use Rattle.std.proofs.Math.Option.{Option, none, some}
 use Rattle.refusal.specs.declared.Refusal.{Refusal}
 use Rattle.refusal.specs.Reply.{answering, unless, too_short, filled}
 use Rattle.refusal.specs.Laws.{room_enough}
@@ -16,10 +15,10 @@ use Rattle.wish_file_reader.specs.Read.{read_reply, read_output}
 -- what a call that answered has filled is its result
 filled_front : (o : Option Refusal) (row out : List ℕ) (v x y z n m d : ℕ) → length row ≡ n → unless o (answering 1 n m d) ≡ answering v x y z
     → (x ≡ n) × (z ≡ d) × (take x (filled o row out) ≡ row)
-filled_front none row out v x y z n m d size e =
+filled_front None row out v x y z n m d size e =
     let same : x ≡ n = cc in
     (same, (cc), take_at row (drop (length row) out) x (size ∙ sym same))
-filled_front (some r) row out v x y z n m d size e = let z : ◌≡◌ {A = ℕ} 0 1 = cc in absurd (omega arith)
+filled_front (Some r) row out v x y z n m d size e = let z : ◌≡◌ {A = ℕ} 0 1 = cc in absurd (omega arith)
 
 module _ (file out : List ℕ) where
   -- the writer answers with the file's length, and leaves the file
@@ -28,7 +27,7 @@ module _ (file out : List ℕ) where
 
   -- so it does with what an accepted file reads as
   module _ (room : length file ≤ length out) (n m d : ℕ) (row : List ℕ) (a : Accepted file n m d row) where
-    unrefused : refusal_of (lent_to_write n row d (length out)) ≡ none
+    unrefused : refusal_of (lent_to_write n row d (length out)) ≡ None
     unrefused =
         let space : length (written n row d) ≤ length out = omega (arith, ap length a.same) in
         admitted_room (wishes_alone n row d) (length (written n row d)) (length out) (alone_admitted n row d a.least a.most a.limit a.sound a.size)

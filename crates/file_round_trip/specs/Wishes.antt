@@ -1,7 +1,6 @@
 -- The wish file's two calls, one after the other (document 01, "The wish file").
-use Rattle.std.specs.Prelude.{◌≡◌, List, ◌++◌, ℕ, ◌≤◌, length, take, drop}
+use Rattle.std.specs.Prelude.{◌≡◌, List, ◌++◌, ℕ, ◌≤◌, length, take, drop, None}
 use Rattle.std.proofs.Common.{sym, ap, ◌∙◌, le-ltb}
-use Rattle.std.proofs.Math.Option.{none}
 use Rattle.std.proofs.Math.Seq.{take-append_seam}
 use Rattle.wish.specs.Wish.{wish_count}
 use Rattle.refusal.specs.Reply.{answering}
@@ -12,7 +11,7 @@ use Rattle.wish_file.proofs.RoundTrip.{read_written}
 use Rattle.wish_file_writer.specs.Write.{lent_to_write, write_output}
 use Rattle.wish_file_reader.specs.Read.{read_reply, read_output}
 
-module _ (n : ℕ) (row : List ℕ) (d : ℕ) (file : List ℕ) (taken : refusal_of (lent_to_write n row d (length file)) ≡ none) where
+module _ (n : ℕ) (row : List ℕ) (d : ℕ) (file : List ℕ) (taken : refusal_of (lent_to_write n row d (length file)) ≡ None) where
   -- the part of the lent bytes that the writer filled
   abbrev pub part : List ℕ
   part = take (length (written n row d)) (write_output n row d file)

@@ -1,7 +1,7 @@
 -- What follows from the definitions of specs/Accepted.antt.
-use Rattle.std.specs.Prelude.{◌≡◌, refl, Bool, true, false, cond, ◌&&◌, ◌||◌, List, [], ◌∷◌, map, ℕ, zero, suc, ◌+◌, ◌≤◌, ◌<◌, eqb, ltb, leb, ℤ, pos, negsuc, length, drop}
+use Rattle.std.specs.Prelude.{◌≡◌, refl, Bool, true, false, cond, ◌&&◌, ◌||◌, List, [], ◌∷◌, map, ℕ, zero, suc, ◌+◌, ◌≤◌, ◌<◌, eqb, ltb, leb, ℤ, pos, negsuc, length, drop, Option, None, Some, unwrap_or}
 use Rattle.std.proofs.Common.{sym, ap, ◌∙◌, true≢false, zero-add, arith, lt-ltb, le-leb, leb-false, ltb-false}
-use Rattle.std.proofs.Math.Option.{Option, none, some, get_or, some-ne-none, none-ne-some, some-injective}
+use Rattle.std.proofs.lemmas.Option.{none-some, same_Some}
 use Rattle.std.proofs.lemmas.Bool.{eqb-false}
 use Rattle.literal.specs.Literal.{variable}
 use Rattle.formula.specs.Formula.{closes, clauses}
@@ -22,7 +22,7 @@ use Rattle.rule_file.proofs.RoundTrip.{unsigned, tokens-written, header-fields, 
 use Rattle.rule_file.specs.Written.{body, header_text, written}
 use Rattle.rule_file.specs.Accepted.{Accepted, Next, Parts, past_header}
 
-pub good_next : (n c : ℕ) (s : Scan) (at : ℕ) (x : ℤ) → c ≤ max_clauses → bad_token n c s at (some x) ≡ none → Next n c s x
+pub good_next : (n c : ℕ) (s : Scan) (at : ℕ) (x : ℤ) → c ≤ max_clauses → bad_token n c s at (Some x) ≡ None → Next n c s x
 good_next n c s at x h e = record { below = less; inside = within; new = go (closes x) refl (may_join s.clause x) refl }
   where
     six : Option Refusal
@@ -34,10 +34,10 @@ good_next n c s at x h e = record { below = less; inside = within; new = go (clo
     four : Option Refusal
     four = cause (ltb n (variable x)) 4 at
 
-    p : (six ≡ none) × (first (seven ∷ four ∷ []) ≡ none)
+    p : (six ≡ None) × (first (seven ∷ four ∷ []) ≡ None)
     p = no_first six (seven ∷ four ∷ []) e
 
-    q : (seven ≡ none) × (first (four ∷ []) ≡ none)
+    q : (seven ≡ None) × (first (four ∷ []) ≡ None)
     q = no_first seven (four ∷ []) p.1
 
     less : s.clauses < c
@@ -57,8 +57,8 @@ good_next n c s at x h e = record { below = less; inside = within; new = go (clo
     go false f false g r = absurd (true≢false (rw (f, g) at r))
 
 -- where nothing is refused, the first token is not, nor any after it
-pub first_good : (n c size : ℕ) (s : Scan) (t : Token) (ts : List Token) → bad_tokens n c size s (t ∷ ts) ≡ none
-    → (bad_token n c s t.place (signed t.bytes) ≡ none) × (bad_tokens n c size (past s (element t)) ts ≡ none)
+pub first_good : (n c size : ℕ) (s : Scan) (t : Token) (ts : List Token) → bad_tokens n c size s (t ∷ ts) ≡ None
+    → (bad_token n c s t.place (signed t.bytes) ≡ None) × (bad_tokens n c size (past s (element t)) ts ≡ None)
 first_good n c size s t ts e =
     let later : Option Refusal = bad_tokens n c size (past s (element t)) ts in
     let parts = no_first (bad_token n c s t.place (signed t.bytes)) (later ∷ []) e in
@@ -66,10 +66,10 @@ first_good n c size s t ts e =
 
 -- a list is sound after what s says was read, and has as many clauses as were announced
 abbrev SoundRest : ℕ → ℕ → Scan → ℕ → List ℤ → Type 0
-SoundRest n c s i l = (bad_rule n s i l ≡ none) × (c ≡ s.clauses + zeros l)
+SoundRest n c s i l = (bad_rule n s i l ≡ None) × (c ≡ s.clauses + zeros l)
 
 -- so is what is stored of good tokens
-sound_tokens : (ts : List Token) (n c size : ℕ) (s : Scan) (i : ℕ) → c ≤ max_clauses → s.clauses ≤ c → bad_tokens n c size s ts ≡ none
+sound_tokens : (ts : List Token) (n c size : ℕ) (s : Scan) (i : ℕ) → c ≤ max_clauses → s.clauses ≤ c → bad_tokens n c size s ts ≡ None
     → SoundRest n c s i (stored s (map element ts))
 sound_tokens [] n c size s i h k e =
     let parts = neither (ltb s.clauses c) (unclosed s.clause) (cause_none (ltb s.clauses c || unclosed s.clause) 6 size e) in
@@ -77,7 +77,7 @@ sound_tokens [] n c size s i h k e =
 sound_tokens (t ∷ ts) n c size s i h k e =
     token (signed t.bytes) refl parts.0 (λ j m. sound_tokens ts n c size (past s (element t)) j h m parts.1)
   where
-    parts : (bad_token n c s t.place (signed t.bytes) ≡ none) × (bad_tokens n c size (past s (element t)) ts ≡ none)
+    parts : (bad_token n c s t.place (signed t.bytes) ≡ None) × (bad_tokens n c size (past s (element t)) ts ≡ None)
     parts = first_good n c size s t ts e
 
     l : List ℤ
@@ -97,11 +97,11 @@ sound_tokens (t ∷ ts) n c size s i h k e =
         let more : SoundRest n c (after s x) (suc i) (stored (after s x) l) = (rw (f) at rest) (suc i) count.0 in
         rw (f, next.new f) (more.0, count.1 (stored (after s x) l) more.1)
 
-    token : (o : Option ℤ) → signed t.bytes ≡ o → bad_token n c s t.place o ≡ none
-        → ((j : ℕ) → (past s (get_or o (pos 0))).clauses ≤ c → SoundRest n c (past s (get_or o (pos 0))) j (stored (past s (get_or o (pos 0))) l))
-        → SoundRest n c s i (stored s (get_or o (pos 0) ∷ l))
-    token none f g rest = absurd (some-ne-none (refusal 3 t.place) g)
-    token (some x) f g rest = number x (good_next n c s t.place x h g) (repeats s x) refl rest
+    token : (o : Option ℤ) → signed t.bytes ≡ o → bad_token n c s t.place o ≡ None
+        → ((j : ℕ) → (past s (unwrap_or o (pos 0))).clauses ≤ c → SoundRest n c (past s (unwrap_or o (pos 0))) j (stored (past s (unwrap_or o (pos 0))) l))
+        → SoundRest n c s i (stored s (unwrap_or o (pos 0) ∷ l))
+    token None f g rest = absurd (none-some (refusal 3 t.place) (sym g))
+    token (Some x) f g rest = number x (good_next n c s t.place x h g) (repeats s x) refl rest
 
 ranges : (n c : ℕ) → outside n c ≡ false → (1 ≤ n) × (n ≤ max_variables) × (c ≤ max_clauses)
 ranges n c e =
@@ -122,16 +122,16 @@ accepted_parts file n c l e = found (header (drop at file)) refl e
     never r f = cc
 
     found : (o : Option Header) → header (drop at file) ≡ o → read_from file at o ≡ gives n c l → Parts file n c l
-    found none f g = absurd (omega (arith, never (refusal 1 at) g))
-    found (some h) f g = ranged (outside h.variables h.clauses) refl g
+    found None f g = absurd (omega (arith, never (refusal 1 at) g))
+    found (Some h) f g = ranged (outside h.variables h.clauses) refl g
       where
         ts : List Token
         ts = past_header file h.size
 
         passed : (p : Option Refusal) → bad_tokens h.variables h.clauses (length file) unread ts ≡ p → outside h.variables h.clauses ≡ false
             → read_tokens h.variables h.clauses ts p ≡ gives n c l → Parts file n c l
-        passed (some r) k j i = absurd (omega (arith, never r i))
-        passed none k j i =
+        passed (Some r) k j i = absurd (omega (arith, never r i))
+        passed None k j i =
             let same-n : n ≡ h.variables = cc in
             let same-c : c ≡ h.clauses = cc in
             let same-l : l ≡ rules_of ts = cc in
@@ -154,23 +154,23 @@ accepted file n c l e =
     record { least = r.0; most = r.1; few = r.2; sound = sound; count = omega (arith, closed, (zeros-clauses n unread 0 l sound).0) }
 
 -- a written number that reads as one reads as itself
-positive_back : (o : Option ℕ) (v : ℕ) (y : ℤ) → ((u : ℕ) → o ≡ some u → u ≡ v) → positive o ≡ some y → y ≡ pos v
-positive_back none v y f e = absurd (none-ne-some y e)
-positive_back (some u) v y f e = sym (some-injective (pos u) y e) ∙ ap (λ (k : ℕ). pos k) (f u refl)
+positive_back : (o : Option ℕ) (v : ℕ) (y : ℤ) → ((u : ℕ) → o ≡ Some u → u ≡ v) → positive o ≡ Some y → y ≡ pos v
+positive_back None v y f e = absurd (none-some y e)
+positive_back (Some u) v y f e = sym (same_Some (pos u) y e) ∙ ap (λ (k : ℕ). pos k) (f u refl)
 
-negative_back : (o : Option ℕ) (k : ℕ) (y : ℤ) → ((u : ℕ) → o ≡ some u → u ≡ suc k) → negative o ≡ some y → y ≡ negsuc k
-negative_back none k y f e = absurd (none-ne-some y e)
-negative_back (some zero) k y f e = absurd (none-ne-some y e)
-negative_back (some (suc u)) k y f e =
+negative_back : (o : Option ℕ) (k : ℕ) (y : ℤ) → ((u : ℕ) → o ≡ Some u → u ≡ suc k) → negative o ≡ Some y → y ≡ negsuc k
+negative_back None k y f e = absurd (none-some y e)
+negative_back (Some zero) k y f e = absurd (none-some y e)
+negative_back (Some (suc u)) k y f e =
     let same : u ≡ k = omega (arith, f (suc u) refl) in
-    sym (some-injective (negsuc u) y e) ∙ ap (λ (j : ℕ). negsuc j) same
+    sym (same_Some (negsuc u) y e) ∙ ap (λ (j : ℕ). negsuc j) same
 
-signed_back : (x y : ℤ) → signed (numeral x) ≡ some y → y ≡ x
+signed_back : (x y : ℤ) → signed (numeral x) ≡ Some y → y ≡ x
 unfolding class_of
 signed_back (pos v) y e = positive_back (number (decimal v)) v y (decimal_read v) (sym (unsigned (decimal v) (decimal-some v) (decimal-digits v)) ∙ e)
 signed_back (negsuc k) y e = negative_back (number (decimal (suc k))) k y (decimal_read (suc k)) e
 
-tokens_back : (l : List ℤ) (n c size : ℕ) (s : Scan) (at : ℕ) → bad_tokens n c size s (tokens_of at l) ≡ none → map element (tokens_of at l) ≡ l
+tokens_back : (l : List ℤ) (n c size : ℕ) (s : Scan) (at : ℕ) → bad_tokens n c size s (tokens_of at l) ≡ None → map element (tokens_of at l) ≡ l
 tokens_back [] n c size s at e = refl
 tokens_back (x ∷ l) n c size s at e = token (signed (numeral x)) refl parts.0 (tokens_back l n c size (past s (element t)) next parts.1)
   where
@@ -180,21 +180,21 @@ tokens_back (x ∷ l) n c size s at e = token (signed (numeral x)) refl parts.0 
     next : ℕ
     next = suc (at + length (numeral x))
 
-    parts : (bad_token n c s at (signed (numeral x)) ≡ none) × (bad_tokens n c size (past s (element t)) (tokens_of next l) ≡ none)
+    parts : (bad_token n c s at (signed (numeral x)) ≡ None) × (bad_tokens n c size (past s (element t)) (tokens_of next l) ≡ None)
     parts = first_good n c size s t (tokens_of next l) e
 
-    token : (o : Option ℤ) → signed (numeral x) ≡ o → bad_token n c s at o ≡ none → map element (tokens_of next l) ≡ l
-        → get_or o (pos 0) ∷ map element (tokens_of next l) ≡ x ∷ l
-    token none f g same = absurd (some-ne-none (refusal 3 at) g)
-    token (some z) f g same = rw (signed_back x z f, same)
+    token : (o : Option ℤ) → signed (numeral x) ≡ o → bad_token n c s at o ≡ None → map element (tokens_of next l) ≡ l
+        → unwrap_or o (pos 0) ∷ map element (tokens_of next l) ≡ x ∷ l
+    token None f g same = absurd (none-some (refusal 3 at) (sym g))
+    token (Some z) f g same = rw (signed_back x z f, same)
 
 -- a header with both of its numbers
-numbered_parts : (o p : Option ℕ) (size n c k : ℕ) → numbered o p size ≡ some (record { variables = n; clauses = c; size = k }) → (o ≡ some n) × (size ≡ k)
-numbered_parts none p size n c k e = absurd (none-ne-some (record { variables = n; clauses = c; size = k }) e)
-numbered_parts (some m) none size n c k e = absurd (none-ne-some (record { variables = n; clauses = c; size = k }) e)
-numbered_parts (some m) (some d) size n c k e =
-    let same = some-injective (record { variables = m; clauses = d; size = size }) (record { variables = n; clauses = c; size = k }) e in
-    (ap (λ (h : Header). some h.variables) same, ap (λ (h : Header). h.size) same)
+numbered_parts : (o p : Option ℕ) (size n c k : ℕ) → numbered o p size ≡ Some (record { variables = n; clauses = c; size = k }) → (o ≡ Some n) × (size ≡ k)
+numbered_parts None p size n c k e = absurd (none-some (record { variables = n; clauses = c; size = k }) e)
+numbered_parts (Some m) None size n c k e = absurd (none-some (record { variables = n; clauses = c; size = k }) e)
+numbered_parts (Some m) (Some d) size n c k e =
+    let same = same_Some (record { variables = m; clauses = d; size = size }) (record { variables = n; clauses = c; size = k }) e in
+    (ap (λ (h : Header). Some h.variables) same, ap (λ (h : Header). h.size) same)
 
 -- What the writer's form reads as, if reading accepts it, is what it was written from, whatever that was, without the repeats.
 pub written_back : (n : ℕ) (l : List ℤ) (n' c' : ℕ) (l' : List ℤ) → reading (written n l) ≡ gives n' c' l' → (n' ≡ n) × (l' ≡ stored unread l)
@@ -203,7 +203,7 @@ written_back n l n' c' l' e =
     let p : Parts (written n l) n' c' l' = accepted_parts (written n l) n' c' l' e in
     let c : ℕ = length (clauses l) in
     let size : ℕ = 6 + (suc (length (decimal n)) + suc (length (decimal c))) in
-    let head : numbered (number (decimal n)) (number (decimal c)) size ≡ some (record { variables = n'; clauses = c'; size = p.size }) =
+    let head : numbered (number (decimal n)) (number (decimal c)) size ≡ Some (record { variables = n'; clauses = c'; size = p.size }) =
     sym (ap header (header-joined n c (body l)) ∙ header-fields (decimal n) (decimal c) (body l) (decimal-digits n) (decimal-digits c)) ∙ p.head in
     let parts = numbered_parts (number (decimal n)) (number (decimal c)) size n' c' p.size head in
     let place : 0 + p.size ≡ length (header_text n c) = zero-add p.size ∙ sym parts.1 ∙ header-length n c in

@@ -1,8 +1,8 @@
 -- What follows from the definitions of specs/RoundTrip.antt.
-use Rattle.std.specs.Prelude.{◌≡◌, refl, Bool, true, false, cond, ◌&&◌, List, [], ◌∷◌, ◌++◌, map, ℕ, suc, ◌+◌, ◌≤◌, ◌<◌, eqb, ltb, leb, ℤ, pos, negsuc, length, get_or, drop}
-use Rattle.std.proofs.Common.{ap, ◌∙◌, append_assoc, zero-add, not-suc-le-zero, arith, length-append, ne_eqb, le-ltb, lt-ltb, leb-true, ltb-true, eqb-true}
+use Rattle.std.specs.Prelude.{◌≡◌, refl, Bool, true, false, cond, ◌&&◌, List, [], ◌∷◌, ◌++◌, map, ℕ, suc, ◌+◌, ◌≤◌, ◌<◌, eqb, ltb, leb, ℤ, pos, negsuc, length, get_or, drop, None, Some}
+use Rattle.std.proofs.Common.{sym, ap, ◌∙◌, append_assoc, zero-add, not-suc-le-zero, arith, length-append, ne_eqb, le-ltb, lt-ltb, leb-true, ltb-true, eqb-true}
 use Rattle.std.proofs.Math.Bool.{and-eq-true_iff}
-use Rattle.std.proofs.Math.Option.{none, some, some-ne-none}
+use Rattle.std.proofs.lemmas.Option.{none-some}
 use Rattle.std.proofs.Math.Seq.{drop-append_seam}
 use Rattle.std.proofs.lemmas.Bool.{lt-leb}
 use Rattle.literal.specs.Literal.{variable}
@@ -37,7 +37,7 @@ pub unsigned : (w : List ℕ) → 0 < length w → only_digits w ≡ true → si
 unsigned [] l h = absurd (not-suc-le-zero l)
 unsigned (b ∷ w) l h = rw (digit_class b ((and-eq-true_iff (is_digit b) (only_digits w)).0 h).0)
 
-signed-numeral : (x : ℤ) → variable x < 100000 → signed (numeral x) ≡ some x
+signed-numeral : (x : ℤ) → variable x < 100000 → signed (numeral x) ≡ Some x
 unfolding class_of
 signed-numeral (pos v) h = unsigned (decimal v) (decimal-some v) (decimal-digits v) ∙ ap positive (number-decimal v h)
 signed-numeral (negsuc k) h = rw (number-decimal (suc k) h)
@@ -76,10 +76,10 @@ tokens-body (x ∷ l) p at o =
     (tokens-body l (step within (separator x)) (suc (at + length (numeral x))) (blank-outside (separator x) (separator-blank x)))
 
 -- an element that stands, in a file with clauses to come, is no bad token
-good_token : (n c : ℕ) (s : Scan) (at : ℕ) (x : ℤ) → s.clauses < c → stands n s x ≡ true → bad_token n c s at (some x) ≡ none
+good_token : (n c : ℕ) (s : Scan) (at : ℕ) (x : ℤ) → s.clauses < c → stands n s x ≡ true → bad_token n c s at (Some x) ≡ None
 good_token n c s at x h e = go (closes x) refl
   where
-    go : (b : Bool) → closes x ≡ b → bad_token n c s at (some x) ≡ none
+    go : (b : Bool) → closes x ≡ b → bad_token n c s at (Some x) ≡ None
     go true f =
         rw (lt-leb c s.clauses h, f, le-ltb n (variable x) (omega (arith, eqb-true (variable x) 0 f)))
     go false f =
@@ -104,7 +104,7 @@ stands_new n s x e = go (closes x) refl
         rw (f, ((and-eq-true_iff (ltb s.literals max_literals) (may_join s.clause x)).0 parts.1).1)
 
 -- so all of a sound list is stored: it has no repeats
-all_stored : (l : List ℤ) (n : ℕ) (s : Scan) (i : ℕ) → bad_rule n s i l ≡ none → stored s l ≡ l
+all_stored : (l : List ℤ) (n : ℕ) (s : Scan) (i : ℕ) → bad_rule n s i l ≡ None → stored s l ≡ l
 all_stored [] n s i e = refl
 all_stored (x ∷ l) n s i e =
     let sound = sound_step n s i x l e in
@@ -123,21 +123,21 @@ stands_inside n s x e = go (closes x) refl
 
 -- the tokens of a sound list are good, and their elements are the list
 record Good (n c size : ℕ) (s : Scan) (at : ℕ) (l : List ℤ) : Type 0 where
-  passed : bad_tokens n c size s (tokens_of at l) ≡ none
+  passed : bad_tokens n c size s (tokens_of at l) ≡ None
   same : map element (tokens_of at l) ≡ l
 
-good_tokens : (l : List ℤ) (n c size : ℕ) (s : Scan) (i at : ℕ) → n < 100000 → bad_rule n s i l ≡ none → c ≡ s.clauses + zeros l
+good_tokens : (l : List ℤ) (n c size : ℕ) (s : Scan) (i at : ℕ) → n < 100000 → bad_rule n s i l ≡ None → c ≡ s.clauses + zeros l
     → Good n c size s at l
 good_tokens [] n c size s i at h e f =
     record { passed = rw (le-ltb s.clauses c (omega arith), closed (unclosed s.clause) e); same = refl }
   where
-    closed : (t : Bool) → cond t (some i) none ≡ none → t ≡ false
-    closed true g = absurd (some-ne-none i g)
+    closed : (t : Bool) → cond t (Some i) None ≡ None → t ≡ false
+    closed true g = absurd (none-some i (sym g))
     closed false g = refl
 good_tokens (x ∷ l) n c size s i at h e f =
     go (good_tokens l n c size (after s x) (suc i) (suc (at + length (numeral x))) h sound.1 count)
   where
-    sound : (stands n s x ≡ true) × (bad_rule n (after s x) (suc i) l ≡ none)
+    sound : (stands n s x ≡ true) × (bad_rule n (after s x) (suc i) l ≡ None)
     sound = sound_step n s i x l e
 
     count : c ≡ (after s x).clauses + zeros l
@@ -147,7 +147,7 @@ good_tokens (x ∷ l) n c size s i at h e f =
         zeros_left true g = let here : c ≡ s.clauses + suc (zeros l) = rw (g) at f in rw (g) (omega arith)
         zeros_left false g = rw (g) (rw (g) at f)
 
-    read : signed (numeral x) ≡ some x
+    read : signed (numeral x) ≡ Some x
     read = signed-numeral x (omega (arith, stands_inside n s x sound.0))
 
     new : repeats s x ≡ false
@@ -186,11 +186,11 @@ header-length n c =
     omega (arith, length-append (decimal n) (32 ∷ (decimal c ++ 10 ∷ [])), length-append (decimal c) (10 ∷ []))
 
 header-written : (n c : ℕ) (r : List ℕ) → n < 100000 → c < 100000
-    → header (header_text n c ++ r) ≡ some (record { variables = n; clauses = c; size = length (header_text n c) })
+    → header (header_text n c ++ r) ≡ Some (record { variables = n; clauses = c; size = length (header_text n c) })
 header-written n c r h k =
     ap header (header-joined n c r)
     ∙ header-fields (decimal n) (decimal c) r (decimal-digits n) (decimal-digits c)
-    ∙ rw (number-decimal n h, number-decimal c k) (ap (λ (size : ℕ). some (record { variables = n; clauses = c; size = size })) (header-length n c))
+    ∙ rw (number-decimal n h, number-decimal c k) (ap (λ (size : ℕ). Some (record { variables = n; clauses = c; size = size })) (header-length n c))
 
 inside : (n c : ℕ) → 1 ≤ n → n ≤ max_variables → c ≤ max_clauses → outside n c ≡ false
 inside n c h k f = rw (ne_eqb n 0 (omega arith), le-ltb max_variables n k, le-ltb max_clauses c f)

@@ -1,7 +1,7 @@
 -- How much a sound list holds.
-use Rattle.std.specs.Prelude.{◌≡◌, refl, Bool, true, false, cond, List, ◌∷◌, ℕ, suc, ◌≤◌, ◌<◌, ℤ, length}
-use Rattle.std.proofs.Common.{ap, arith}
-use Rattle.std.proofs.Math.Option.{none, some, some-ne-none}
+use Rattle.std.specs.Prelude.{◌≡◌, refl, Bool, true, false, cond, List, ◌∷◌, ℕ, suc, ◌≤◌, ◌<◌, ℤ, length, None, Some}
+use Rattle.std.proofs.Common.{sym, ap, arith}
+use Rattle.std.proofs.lemmas.Option.{none-some}
 use Rattle.formula.specs.Formula.{closes, clauses}
 use Rattle.limits.specs.Limits.{max_clauses}
 use Rattle.rule_list.specs.Laws.{zeros, zeros-clauses}
@@ -10,15 +10,15 @@ use Rattle.rule_list_soundness.specs.Soundness.{sound}
 use Rattle.rule_list.specs.Sound.{SoundList, Scan, stands, after, unclosed, bad_rule}
 
 -- an element that stands, and a sound list after it
-pub sound_step : (n : ℕ) (s : Scan) (i : ℕ) (x : ℤ) (l : List ℤ) → bad_rule n s i (x ∷ l) ≡ none → (stands n s x ≡ true) × (bad_rule n (after s x) (suc i) l ≡ none)
+pub sound_step : (n : ℕ) (s : Scan) (i : ℕ) (x : ℤ) (l : List ℤ) → bad_rule n s i (x ∷ l) ≡ None → (stands n s x ≡ true) × (bad_rule n (after s x) (suc i) l ≡ None)
 sound_step n s i x l e = go (stands n s x) e
   where
-    go : (t : Bool) → cond t (bad_rule n (after s x) (suc i) l) (some i) ≡ none → (t ≡ true) × (bad_rule n (after s x) (suc i) l ≡ none)
+    go : (t : Bool) → cond t (bad_rule n (after s x) (suc i) l) (Some i) ≡ None → (t ≡ true) × (bad_rule n (after s x) (suc i) l ≡ None)
     go true f = (refl, f)
-    go false f = absurd (some-ne-none i f)
+    go false f = absurd (none-some i (sym f))
 
 -- where a sound list goes on, a closing zero is still to come
-pub zeros-some : (n : ℕ) (s : Scan) (i : ℕ) (x : ℤ) (l : List ℤ) → bad_rule n s i (x ∷ l) ≡ none → 0 < zeros (x ∷ l)
+pub zeros-some : (n : ℕ) (s : Scan) (i : ℕ) (x : ℤ) (l : List ℤ) → bad_rule n s i (x ∷ l) ≡ None → 0 < zeros (x ∷ l)
 zeros-some n s i x l e = go (closes x) refl (zeros-clauses n (after s x) (suc i) l (sound_step n s i x l e).1).1
   where
     go : (b : Bool) → closes x ≡ b → (unclosed (after s x).clause ≡ true → 0 < zeros l) → 0 < zeros (x ∷ l)

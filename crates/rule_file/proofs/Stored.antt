@@ -1,7 +1,6 @@
 -- What a number of a file adds to the list that is stored: nothing, a closing zero, or a literal.
-use Rattle.std.specs.Prelude.{◌≡◌, refl, Bool, true, false, not, ◌&&◌, List, [], ◌∷◌, ℕ, ◌+◌, ◌≤◌, ◌<◌, eqb, ℤ, get_or}
+use Rattle.std.specs.Prelude.{◌≡◌, refl, Bool, true, false, not, ◌&&◌, List, [], ◌∷◌, ℕ, ◌+◌, ◌≤◌, ◌<◌, eqb, ℤ, get_or, None, Some}
 use Rattle.std.proofs.Common.{sym, ap, true≢false, add-one, le-ltb}
-use Rattle.std.proofs.Math.Option.{none, some}
 use Rattle.std.proofs.lemmas.Bool.{lt-leb}
 use Rattle.literal.specs.Literal.{variable}
 use Rattle.literal.specs.Slots.{slot}
@@ -12,10 +11,10 @@ use Rattle.rule_list.specs.Stamps.{Stamped, stamp_tells}
 use Rattle.rule_file.specs.Format.{repeats, past, bad_token, stored}
 
 -- A repeat is no cause to refuse, however many literals there are: "Entry counts are taken after dropping repeats." (document 02, L3)
-pub repeat_passes : (n c : ℕ) (s : Scan) (place : ℕ) (x : ℤ) → repeats s x ≡ true → s.clauses < c → variable x ≤ n → bad_token n c s place (some x) ≡ none
+pub repeat_passes : (n c : ℕ) (s : Scan) (place : ℕ) (x : ℤ) → repeats s x ≡ true → s.clauses < c → variable x ≤ n → bad_token n c s place (Some x) ≡ None
 repeat_passes n c s place x e h k = go (closes x) refl (may_join s.clause x) refl
   where
-    go : (z : Bool) → closes x ≡ z → (j : Bool) → may_join s.clause x ≡ j → bad_token n c s place (some x) ≡ none
+    go : (z : Bool) → closes x ≡ z → (j : Bool) → may_join s.clause x ≡ j → bad_token n c s place (Some x) ≡ None
     go true f j g = absurd (true≢false (sym (rw (f) at e)))
     go false f true g = absurd (true≢false (sym (rw (f, g) at e)))
     go false f false g = rw (lt-leb c s.clauses h, f, g, le-ltb n (variable x) k)

@@ -1,12 +1,10 @@
 -- What is known of a file that reading accepts, and of one in the writer's form: "a file in the writer's form, read and written, is that file" (document 01, "The rule file").
-use Rattle.std.specs.Prelude.{◌≡◌, true, false, List, ℕ, ◌+◌, ◌≤◌, ◌<◌, ℤ, length, drop}
-use Rattle.std.proofs.Math.Option.{none, some}
+use Rattle.std.specs.Prelude.{◌≡◌, true, false, List, ℕ, ◌+◌, ◌≤◌, ◌<◌, ℤ, length, drop, None, Some}
 use Rattle.literal.specs.Literal.{variable}
 use Rattle.formula.specs.Formula.{clauses}
 use Rattle.limits.specs.Limits.{max_variables, max_clauses}
 use Rattle.rule_list.specs.Sound.{SoundList, Scan, unread, stands}
-use Rattle.decimal.specs.Decimal.{number}
-use Rattle.rule_file.specs.Format.{past_comments, header, outside, repeats, past, bad_tokens, rules_of, reading}
+use Rattle.rule_file.specs.Format.{past_comments, header, outside, repeats, bad_tokens, rules_of}
 use Rattle.rule_file.specs.Tokens.{Token, tokens_from}
 
 -- A token that is not refused is a number over the n variables, in a file with clauses to come; unless it is a repeat, it may come next.
@@ -32,7 +30,7 @@ past_header file size =
 -- its header and its tokens
 pub record Parts (file : List ℕ) (n c : ℕ) (l : List ℤ) : Type 0 where
   pub size : ℕ
-  pub head : header (drop (past_comments false 0 file) file) ≡ some (record { variables = n; clauses = c; size = size })
+  pub head : header (drop (past_comments false 0 file) file) ≡ Some (record { variables = n; clauses = c; size = size })
   pub range : outside n c ≡ false
-  pub good : bad_tokens n c (length file) unread (past_header file size) ≡ none
+  pub good : bad_tokens n c (length file) unread (past_header file size) ≡ None
   pub gave : l ≡ rules_of (past_header file size)

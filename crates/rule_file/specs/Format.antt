@@ -1,6 +1,5 @@
 -- The rule file (document 01, "The rule file"), a narrowed DIMACS CNF, and the causes to refuse one ("Refusals", 1 to 4, 6 and 7).
-use Rattle.std.specs.Prelude.{Bool, true, false, cond, not, ◌&&◌, ◌||◌, List, [], ◌∷◌, map, ℕ, zero, suc, ◌+◌, eqb, leb, ltb, ℤ, pos, negsuc, length, drop}
-use Rattle.std.proofs.Math.Option.{Option, none, some, get_or}
+use Rattle.std.specs.Prelude.{Bool, true, false, cond, not, ◌&&◌, ◌||◌, List, [], ◌∷◌, map, ℕ, zero, suc, ◌+◌, eqb, leb, ltb, ℤ, pos, negsuc, length, drop, Option, None, Some, unwrap_or}
 use Rattle.literal.specs.Literal.{variable}
 use Rattle.formula.specs.Formula.{all, closes}
 use Rattle.refusal.specs.declared.Refusal.{Refusal}
@@ -35,9 +34,9 @@ pub record Header : Type 0 where
 
 -- a header needs both of its numbers
 abbrev pub numbered : Option ℕ → Option ℕ → ℕ → Option Header
-numbered none c size = none
-numbered (some n) none size = none
-numbered (some n) (some c) size = some (record { variables = n; clauses = c; size = size })
+numbered None c size = None
+numbered (Some n) None size = None
+numbered (Some n) (Some c) size = Some (record { variables = n; clauses = c; size = size })
 
 -- no byte of some is stop
 abbrev pub without : ℕ → List ℕ → Bool
@@ -56,7 +55,7 @@ header s =
     let n : List ℕ = before 32 (drop 6 s) in
     let rest : List ℕ = beyond 32 (drop 6 s) in
     let c : List ℕ = before 10 rest in
-    cond (starts_with preamble s && ltb (length c) (length rest)) (numbered (number n) (number c) (6 + (suc (length n) + suc (length c)))) none
+    cond (starts_with preamble s && ltb (length c) (length rest)) (numbered (number n) (number c) (6 + (suc (length n) + suc (length c)))) None
 
 -- "N is 1 to 640, C 0 to 9,000"
 abbrev pub outside : ℕ → ℕ → Bool
@@ -64,22 +63,22 @@ outside n c = eqb n 0 || (ltb max_variables n || ltb max_clauses c)
 
 -- a number as it stands, and behind a minus, where 0 is none
 abbrev pub positive : Option ℕ → Option ℤ
-positive none = none
-positive (some v) = some (pos v)
+positive None = None
+positive (Some v) = Some (pos v)
 
 abbrev pub negative : Option ℕ → Option ℤ
-negative none = none
-negative (some zero) = none
-negative (some (suc k)) = some (negsuc k)
+negative None = None
+negative (Some zero) = None
+negative (Some (suc k)) = Some (negsuc k)
 
 -- "A token is a number, or a minus and a number other than 0."
 abbrev pub signed : List ℕ → Option ℤ
-signed [] = none
+signed [] = None
 signed (b ∷ w) = cond (eqb (class_of b) minus) (negative (number w)) (positive (number (b ∷ w)))
 
 -- the list's element that a token gives
 abbrev pub element : Token → ℤ
-element t = get_or (signed t.bytes) (pos 0)
+element t = unwrap_or (signed t.bytes) (pos 0)
 
 -- "An equal entry is stored once, at its first place." (document 02, L3): whether a number, after what s says was read, repeats a literal of the open clause, and whether it is a further literal of it
 abbrev pub repeats : Scan → ℤ → Bool
@@ -94,8 +93,8 @@ past s x = cond (repeats s x) s (after s x)
 
 -- the cause to refuse a token at a place, after what s says was read: "at one token 3, 6, 7, 4" (document 02, L3, leaves out 5)
 abbrev pub bad_token : ℕ → ℕ → Scan → ℕ → Option ℤ → Option Refusal
-bad_token n c s place none = some (refusal 3 place)
-bad_token n c s place (some x) =
+bad_token n c s place None = Some (refusal 3 place)
+bad_token n c s place (Some x) =
     first
     (cause (leb c s.clauses) 6 place
     ∷ cause (adds s x && leb max_literals s.literals) 7 place
@@ -123,13 +122,13 @@ rules_of ts = stored unread (map element ts)
 
 -- the reading of good tokens
 abbrev pub read_tokens : ℕ → ℕ → List Token → Option Refusal → Reading
-read_tokens n c ts none = gives n c (rules_of ts)
-read_tokens n c ts (some r) = refuses r
+read_tokens n c ts None = gives n c (rules_of ts)
+read_tokens n c ts (Some r) = refuses r
 
 -- the reading of a file whose first line that is no comment stands at a place
 abbrev pub read_from : List ℕ → ℕ → Option Header → Reading
-read_from file at none = refuses (refusal 1 at)
-read_from file at (some h) =
+read_from file at None = refuses (refusal 1 at)
+read_from file at (Some h) =
     let next : ℕ = at + h.size in
     let ts : List Token = tokens_from file next in
     cond (outside h.variables h.clauses)

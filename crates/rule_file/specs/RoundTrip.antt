@@ -1,8 +1,7 @@
 -- "Every sound list, written and read, is that list again" (document 01, "The rule file").
 use Rattle.std.specs.Prelude.{List, [], ◌∷◌, ℕ, suc, ◌+◌, ℤ, length}
 use Rattle.text.specs.Text.{numeral}
-use Rattle.rule_file.specs.Tokens.{Token, tokens}
-use Rattle.rule_file.specs.Written.{written}
+use Rattle.rule_file.specs.Tokens.{Token}
 
 -- the tokens of a written list
 abbrev pub tokens_of : ℕ → List ℤ → List Token

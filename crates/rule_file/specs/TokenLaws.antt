@@ -1,6 +1,6 @@
 -- The equations by which proofs find the tokens of a file.
 use Rattle.std.specs.Prelude.{◌≡◌, Bool, true, false, List, [], ◌∷◌, ℕ, ◌+◌, ◌≤◌, ◌<◌, length, drop}
-use Rattle.rule_file.specs.Tokens.{leading, in_token, Token, Position, line_start, between, within, comment, tokens, tokens_from}
+use Rattle.rule_file.specs.Tokens.{leading, in_token, Token, Position, line_start, between, within, comment, tokens_from}
 
 -- where a token may begin
 abbrev pub may_begin : Position → Bool

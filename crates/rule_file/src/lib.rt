@@ -2,28 +2,27 @@
 #![tactic(auto)]
 
 ghost use Rattle.std.specs.Prelude.{◌≡◌};
-ghost use Rattle.rule_file.specs.Class.{class_of};
+ghost use Rattle.rule_file.specs.Class.{class_of, class_number};
 
-pub const BLANK: u8 = 0;
-
-pub const DIGIT: u8 = 1;
-
-pub const MINUS: u8 = 2;
-
-pub const LETTER_C: u8 = 3;
-
-// Any byte that has no class above.
-pub const OTHER: u8 = 4;
+#[derive(Clone, Copy, Debug, PartialEq, Eq)]
+pub enum Class {
+    Blank,
+    Digit,
+    Minus,
+    LetterC,
+    // Any byte that has no class above.
+    Other,
+}
 
 // The class of a byte, "decided from the ranges themselves" (document 02, L4).
-pub fn class_of(b: u8) -> u8
-    ensures { result ≡ class_of b }
+pub fn class_of(b: u8) -> Class
+    ensures { class_number result ≡ class_of b }
 {
     match b {
-        9..=10 | 13 | 32 => BLANK,
-        decimal::FIRST_DIGIT..=decimal::LAST_DIGIT => DIGIT,
-        b'-' => MINUS,
-        b'c' => LETTER_C,
-        _ => OTHER,
+        9..=10 | 13 | 32 => Class::Blank,
+        decimal::FIRST_DIGIT..=decimal::LAST_DIGIT => Class::Digit,
+        b'-' => Class::Minus,
+        b'c' => Class::LetterC,
+        _ => Class::Other,
     }
 }

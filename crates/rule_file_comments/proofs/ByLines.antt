@@ -1,8 +1,7 @@
 -- What follows from the definitions of specs/ByLines.antt.
-use Rattle.std.specs.Prelude.{◌≡◌, refl, Bool, true, false, cond, not, ◌||◌, List, [], ◌∷◌, ◌++◌, ℕ, zero, suc, ◌+◌, ◌<◌, eqb, length, get_or, drop}
+use Rattle.std.specs.Prelude.{◌≡◌, refl, Bool, true, false, cond, not, ◌||◌, List, [], ◌∷◌, ◌++◌, ℕ, zero, suc, ◌+◌, ◌<◌, eqb, length, get_or, drop, None, Some}
 use Rattle.std.proofs.Common.{sym, ap, ap₂, ◌∙◌, true≢false, append-nil, arith, get_or-drop, eqb-true}
 use Rattle.std.proofs.Math.Bool.{and-eq-true_iff, and-false}
-use Rattle.std.proofs.Math.Option.{none, some}
 use Rattle.std.proofs.lemmas.Bool.{not-true}
 use Rattle.formula.specs.Formula.{any}
 use Rattle.decimal.specs.Decimal.{number, is_digit, only_digits}
@@ -96,7 +95,7 @@ last_line w at h =
     ∙ append-nil (line_tokens at w)
 
 -- Behind the header a line begins, so what reading takes for the tokens of a file are those of the lines there.
-pub body_lines : (file : List ℕ) (at : ℕ) (h : Header) → header (drop at file) ≡ some h → tokens_from file (at + h.size) ≡ tokens line_start (at + h.size) (drop (at + h.size) file)
+pub body_lines : (file : List ℕ) (at : ℕ) (h : Header) → header (drop at file) ≡ Some h → tokens_from file (at + h.size) ≡ tokens line_start (at + h.size) (drop (at + h.size) file)
 body_lines file at h e = go h.size refl (header-some (drop at file) h e)
   where
     go : (size : ℕ) → h.size ≡ size → 0 < size → tokens_from file (at + size) ≡ tokens line_start (at + size) (drop (at + size) file)
@@ -118,11 +117,11 @@ letter_digits (b ∷ w) e = go (eqb (class_of b) letter_c) refl (λ f. letter_di
     go false f later g = rw (later g) (and-false (is_digit b))
 
 -- A token with a `c` in it is malformed (document 02, L1): "A `c` inside a line still makes a malformed token."
-pub letter_malformed : (w : List ℕ) → any (λ (b : ℕ). eqb (class_of b) letter_c) w ≡ true → signed w ≡ none
+pub letter_malformed : (w : List ℕ) → any (λ (b : ℕ). eqb (class_of b) letter_c) w ≡ true → signed w ≡ None
 letter_malformed [] e = refl
 letter_malformed (b ∷ w) e = go (eqb (class_of b) minus) refl
   where
-    go : (t : Bool) → eqb (class_of b) minus ≡ t → cond t (negative (number w)) (positive (number (b ∷ w))) ≡ none
+    go : (t : Bool) → eqb (class_of b) minus ≡ t → cond t (negative (number w)) (positive (number (b ∷ w))) ≡ None
     go true f =
         let other : eqb (class_of b) letter_c ≡ false = ap (λ (k : ℕ). eqb k letter_c) (eqb-true (class_of b) minus f) in
         let rest : any (λ (c : ℕ). eqb (class_of c) letter_c) w ≡ true = rw (other) at e in

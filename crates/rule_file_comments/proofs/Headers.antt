@@ -1,8 +1,8 @@
 -- What follows from the definitions of specs/Headers.antt.
-use Rattle.std.specs.Prelude.{◌≡◌, refl, Bool, true, false, cond, not, ◌&&◌, List, [], ◌∷◌, ◌++◌, ◌⊎◌, ℕ, suc, ◌+◌, ◌<◌, eqb, leb, ltb, length, get_or, drop}
+use Rattle.std.specs.Prelude.{◌≡◌, refl, Bool, true, false, cond, not, ◌&&◌, List, [], ◌∷◌, ◌++◌, ◌⊎◌, ℕ, suc, ◌+◌, ◌<◌, eqb, leb, ltb, length, get_or, drop, Option, None, Some}
 use Rattle.std.proofs.Common.{sym, ap, ap₂, subst, ◌∙◌, true≢false, append_assoc, inl, inr, arith, length-append, get_or-drop, eqb-true, ltb-true}
 use Rattle.std.proofs.Math.Bool.{and-false, and-eq-true_iff}
-use Rattle.std.proofs.Math.Option.{Option, none, some, none-ne-some, some-injective}
+use Rattle.std.proofs.lemmas.Option.{none-some, same_Some}
 use Rattle.std.proofs.lemmas.Bool.{not-true, not-false}
 use Rattle.formula.specs.Formula.{all}
 use Rattle.decimal.specs.Decimal.{number, is_digit, only_digits}
@@ -13,13 +13,13 @@ use Rattle.rule_file_comments.specs.Lines.{ends_line}
 use Rattle.rule_file_comments.specs.Headers.{HeaderOf}
 
 -- the bytes of a header: its two fields
-numbered-size : (o p : Option ℕ) (size : ℕ) (h : Header) → numbered o p size ≡ some h → size ≡ h.size
-numbered-size none p size h e = absurd (none-ne-some h e)
-numbered-size (some n) none size h e = absurd (none-ne-some h e)
-numbered-size (some n) (some c) size h e =
-    ap (λ (g : Header). g.size) (some-injective (record { variables = n; clauses = c; size = size }) h e)
+numbered-size : (o p : Option ℕ) (size : ℕ) (h : Header) → numbered o p size ≡ Some h → size ≡ h.size
+numbered-size None p size h e = absurd (none-some h e)
+numbered-size (Some n) None size h e = absurd (none-some h e)
+numbered-size (Some n) (Some c) size h e =
+    ap (λ (g : Header). g.size) (same_Some (record { variables = n; clauses = c; size = size }) h e)
 
-module _ (s : List ℕ) (h : Header) (e : header s ≡ some h) where
+module _ (s : List ℕ) (h : Header) (e : header s ≡ Some h) where
   abbrev n_bytes : List ℕ
   n_bytes = before 32 (drop 6 s)
 
@@ -35,11 +35,11 @@ module _ (s : List ℕ) (h : Header) (e : header s ≡ some h) where
       size : ℕ
       size = 6 + (suc (length n_bytes) + suc (length c_bytes))
 
-      go : (t u : Bool) → ltb (length c_bytes) (length n_rest) ≡ u → cond (t && u) (numbered (number n_bytes) (number c_bytes) size) none ≡ some h
+      go : (t u : Bool) → ltb (length c_bytes) (length n_rest) ≡ u → cond (t && u) (numbered (number n_bytes) (number c_bytes) size) None ≡ Some h
           → (h.size ≡ size) × (length c_bytes < length n_rest)
       go true true f g = (sym (numbered-size (number n_bytes) (number c_bytes) size h g), ltb-true (length c_bytes) (length n_rest) f)
-      go true false f g = absurd (none-ne-some h g)
-      go false u f g = absurd (none-ne-some h g)
+      go true false f g = absurd (none-some h g)
+      go false u f g = absurd (none-some h g)
 
   pub header-some : 0 < h.size
   header-some = omega (arith, parts.0)
@@ -101,14 +101,14 @@ line_feed_digits : (v y : List ℕ) → only_digits (v ++ 10 ∷ y) ≡ false
 line_feed_digits [] y = refl
 line_feed_digits (b ∷ v) y = rw (line_feed_digits v y) (and-false (is_digit b))
 
-pub no_number : (w : List ℕ) → only_digits w ≡ false → number w ≡ none
+pub no_number : (w : List ℕ) → only_digits w ≡ false → number w ≡ None
 no_number w e = rw (e, and-false (leb (length w) 5), and-false (leb 1 (length w)))
 
-unnumbered : (t : Bool) (o p : Option ℕ) (size : ℕ) → o ≡ none → cond t (numbered o p size) none ≡ none
+unnumbered : (t : Bool) (o p : Option ℕ) (size : ℕ) → o ≡ None → cond t (numbered o p size) None ≡ None
 unnumbered true o p size e = rw e
 unnumbered false o p size e = refl
 
-field_open : (v x : List ℕ) → without 32 v ≡ true → header (preamble ++ (v ++ 10 ∷ x)) ≡ none
+field_open : (v x : List ℕ) → without 32 v ≡ true → header (preamble ++ (v ++ 10 ∷ x)) ≡ None
 field_open v x h =
     let field : before 32 (v ++ 10 ∷ x) ≡ v ++ 10 ∷ before 32 x = leading_through (λ (b : ℕ). not (eqb b 32)) v (10 ∷ x) h in
     let n : List ℕ = before 32 (v ++ 10 ∷ x) in
@@ -117,8 +117,8 @@ field_open v x h =
     unnumbered (ltb (length c) (length rest)) (number n) (number c) (6 + (suc (length n) + suc (length c)))
     (ap number field ∙ no_number (v ++ 10 ∷ before 32 x) (line_feed_digits v (before 32 x)))
 
-absent : {f : List ℕ} → ((x : List ℕ) → header (f ++ x) ≡ none) → HeaderOf f
-absent e = record { found = none; same = e; fits = λ h g. absurd (none-ne-some h g) }
+absent : {f : List ℕ} → ((x : List ℕ) → header (f ++ x) ≡ None) → HeaderOf f
+absent e = record { found = None; same = e; fits = λ h g. absurd (none-some h g) }
 
 all_behind : (p : ℕ → Bool) (a : List ℕ) (b : ℕ) (e : List ℕ) → all p (a ++ b ∷ e) ≡ true → all p e ≡ true
 all_behind p [] b e h = ((and-eq-true_iff (p b) (all p e)).0 h).1
@@ -159,7 +159,7 @@ first_line w r h = go (starts_with preamble (w ++ 10 ∷ [])) refl
     go false e =
         absent (λ x. ap header (append_assoc w (10 ∷ r) x) ∙ other (w ++ 10 ∷ (r ++ x)) (line_starts preamble w (r ++ x) refl ∙ e))
       where
-        other : (s : List ℕ) → starts_with preamble s ≡ false → header s ≡ none
+        other : (s : List ℕ) → starts_with preamble s ≡ false → header s ≡ None
         other s f = rw f
     go true e =
         let b : Behind preamble w = started preamble w refl e in

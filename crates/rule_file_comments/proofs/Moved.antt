@@ -1,7 +1,6 @@
 -- What follows from the definitions of specs/Moved.antt.
-use Rattle.std.specs.Prelude.{◌≡◌, refl, Bool, true, false, cond, ◌&&◌, ◌||◌, List, [], ◌∷◌, map, ℕ, ◌+◌, leb, ltb, ℤ, length}
+use Rattle.std.specs.Prelude.{◌≡◌, refl, Bool, true, false, cond, ◌&&◌, ◌||◌, List, [], ◌∷◌, map, ℕ, ◌+◌, leb, ltb, ℤ, length, Option, None, Some}
 use Rattle.std.proofs.Common.{ap, ap₂, ◌∙◌}
-use Rattle.std.proofs.Math.Option.{Option, none, some}
 use Rattle.literal.specs.Literal.{variable}
 use Rattle.refusal.specs.declared.Refusal.{Refusal}
 use Rattle.refusal.specs.Reply.{refusal, first, cause}
@@ -13,8 +12,8 @@ use Rattle.rule_file_comments.specs.Lines.{moved, moved_reading}
 use Rattle.rule_file_comments.specs.Moved.{moved_tokens}
 
 abbrev moved_cause : ℕ → ℕ → Option Refusal → Option Refusal
-moved_cause from by none = none
-moved_cause from by (some r) = some (refusal r.number (moved from by r.place))
+moved_cause from by None = None
+moved_cause from by (Some r) = Some (refusal r.number (moved from by r.place))
 
 module _ (from by : ℕ) where
   abbrev move : ℕ → ℕ
@@ -25,13 +24,13 @@ module _ (from by : ℕ) where
   cause_moves false number place = refl
 
   first_moves : (o q : Option Refusal) → first (moved_cause from by o ∷ moved_cause from by q ∷ []) ≡ moved_cause from by (first (o ∷ q ∷ []))
-  first_moves none none = refl
-  first_moves none (some r) = refl
-  first_moves (some r) q = refl
+  first_moves None None = refl
+  first_moves None (Some r) = refl
+  first_moves (Some r) q = refl
 
   token_moves : (n c : ℕ) (s : Scan) (place : ℕ) (o : Option ℤ) → bad_token n c s (move place) o ≡ moved_cause from by (bad_token n c s place o)
-  token_moves n c s place none = refl
-  token_moves n c s place (some x) =
+  token_moves n c s place None = refl
+  token_moves n c s place (Some x) =
       go (leb c s.clauses) (adds s x && leb max_literals s.literals) (ltb n (variable x))
     where
       found : Bool → Bool → Bool → ℕ → Option Refusal
@@ -56,15 +55,15 @@ module _ (from by : ℕ) where
 
   reading_moves : (n c : ℕ) (ts us : List Token) (o : Option Refusal) → map element us ≡ map element ts
       → read_tokens n c us (moved_cause from by o) ≡ moved_reading from by (read_tokens n c ts o)
-  reading_moves n c ts us none e = ap (λ (l : List ℤ). gives n c (stored unread l)) e
-  reading_moves n c ts us (some r) e = refl
+  reading_moves n c ts us None e = ap (λ (l : List ℤ). gives n c (stored unread l)) e
+  reading_moves n c ts us (Some r) e = refl
 
   -- a file whose header, tokens and end have so moved
   module _ (file file' : List ℕ) (at at' : ℕ) (header_at : at' ≡ move at) (end : length file' ≡ move (length file)) where
-    pub read_moves : (o : Option Header) → ((h : Header) → o ≡ some h → tokens_from file' (at' + h.size) ≡ moved_tokens from by (tokens_from file (at + h.size)))
+    pub read_moves : (o : Option Header) → ((h : Header) → o ≡ Some h → tokens_from file' (at' + h.size) ≡ moved_tokens from by (tokens_from file (at + h.size)))
         → read_from file' at' o ≡ moved_reading from by (read_from file at o)
-    read_moves none tokens = ap (λ (k : ℕ). refuses (refusal 1 k)) header_at
-    read_moves (some h) tokens = go (outside h.variables h.clauses)
+    read_moves None tokens = ap (λ (k : ℕ). refuses (refusal 1 k)) header_at
+    read_moves (Some h) tokens = go (outside h.variables h.clauses)
       where
         n : ℕ
         n = h.variables

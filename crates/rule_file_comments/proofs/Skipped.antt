@@ -1,7 +1,6 @@
 -- A comment line put in at any line's beginning changes nothing that is read of a rule file but the place of a refusal (document 02, L1): "A line beginning with `c` is now skipped anywhere after the header too."
-use Rattle.std.specs.Prelude.{◌≡◌, refl, Bool, true, false, cond, List, [], ◌∷◌, ◌++◌, ◌↔◌, ◌⊎◌, ℕ, zero, suc, ◌+◌, ◌≤◌, ◌<◌, eqb, ℤ, length, get_or, drop}
+use Rattle.std.specs.Prelude.{◌≡◌, refl, Bool, true, false, cond, List, [], ◌∷◌, ◌++◌, ◌↔◌, ◌⊎◌, ℕ, zero, suc, ◌+◌, ◌≤◌, ◌<◌, eqb, ℤ, length, get_or, drop, Option, Some}
 use Rattle.std.proofs.Common.{sym, ap, ap₂, ◌∙◌, append_assoc, append-nil, inl, inr, arith, length-append, length-drop, drop_of_length-le, get_or-drop, drop-drop, le-leb}
-use Rattle.std.proofs.Math.Option.{Option, some}
 use Rattle.std.proofs.Math.ListN.{get_or-append}
 use Rattle.std.proofs.lemmas.List.{drop-append-le}
 use Rattle.std.proofs.Math.Seq.{drop-append-add}
@@ -124,7 +123,7 @@ module _ (front x y : List ℕ) (by : ℕ) (b : Behind by x y) where
       o : Option Header
       o = header (drop at (front ++ y))
 
-      tokens_move : (h : Header) → o ≡ some h → tokens_from (front ++ x) (at' + h.size) ≡ moved_tokens from by (tokens_from (front ++ y) (at + h.size))
+      tokens_move : (h : Header) → o ≡ Some h → tokens_from (front ++ x) (at' + h.size) ≡ moved_tokens from by (tokens_from (front ++ y) (at + h.size))
       tokens_move h e = go h.size (header-some (drop at (front ++ y)) h e)
         where
           go : (size : ℕ) → 0 < size → tokens_from (front ++ x) (at' + size) ≡ moved_tokens from by (tokens_from (front ++ y) (at + size))
@@ -166,7 +165,7 @@ module _ (front x y : List ℕ) (by : ℕ) (b : Behind by x y) where
       found : (z : List ℕ) → header (drop at (front ++ z)) ≡ head.found
       found z = ap header (split z) ∙ head.same z
 
-      tokens_move : (h : Header) → head.found ≡ some h → tokens_from (front ++ x) (at + h.size) ≡ moved_tokens from by (tokens_from (front ++ y) (at + h.size))
+      tokens_move : (h : Header) → head.found ≡ Some h → tokens_from (front ++ x) (at + h.size) ≡ moved_tokens from by (tokens_from (front ++ y) (at + h.size))
       tokens_move h e =
           go h.size (header-some (drop at (front ++ x)) h (found x ∙ e)) (omega (arith, head.fits h e, length-drop stop.offset front, stop.before))
         where

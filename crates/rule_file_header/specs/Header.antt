@@ -1,10 +1,9 @@
 -- The answer for a header, by the definition `header`.
-use Rattle.std.proofs.Math.Option.{Option, none, some}
-use Rattle.std.specs.Prelude.{ℕ, ◌+◌}
+use Rattle.std.specs.Prelude.{ℕ, ◌+◌, Option, None, Some}
 use Rattle.rule_file.specs.Format.{Header}
-use Rattle.rule_file_header.specs.declared.ReadHeader as D
-use Rattle.rule_file_header.specs.declared.ReadHeader.{ReadHeader}
+use Rattle.rule_file_header.specs.declared.Header as D
 
-abbrev pub header_as : ℕ → Option Header → ReadHeader
-header_as at none = D.TheVariants.Malformed
-header_as at (some h) = D.TheVariants.Found h.variables h.clauses (at + h.size)
+-- its numbers, and the place past it if it begins at one
+abbrev pub header_as : ℕ → Option Header → Option D.Header
+header_as at None = None
+header_as at (Some h) = Some (record { variables = h.variables; clauses = h.clauses; next = at + h.size })

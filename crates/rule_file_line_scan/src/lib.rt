@@ -5,19 +5,19 @@ ghost use Rattle.std.specs.Prelude.{cond, ◌≡◌, ◌+◌, ◌<◌, length, g
 ghost use Rattle.rule_file.specs.Format.{before};
 ghost use Rattle.rule_file.specs.Tokens.{line_start, between, opens_comment, position_at};
 
+use rule_file::Class;
+
 // Where a byte comes next from a place on: at the first that is `stop`, or at the file's end. From a place past
 // the end it is that place.
 pub fn find_byte(file: &[u8], from: usize, stop: u8) -> usize
     ensures { result ≡ from + length (before stop (drop from file.now)) }
 {
-    let mut i = from;
-    while i < file.len() {
+    for i in from..file.len() {
         if file[i] == stop {
             return i;
         }
-        i += 1;
     }
-    i
+    from.max(file.len())
 }
 
 // Whether a comment line begins at a place: `c`, as the first byte of its line.
@@ -25,10 +25,7 @@ pub fn opens_comment(file: &[u8], at: usize) -> bool
     requires { at < length file.now }
     ensures { result ≡ opens_comment (position_at file.now at) (get_or file.now at 0) }
 {
-    if !begins_line(file, at) {
-        return false;
-    }
-    rule_file::class_of(file[at]) == rule_file::LETTER_C
+    begins_line(file, at) && rule_file::class_of(file[at]) == Class::LetterC
 }
 
 // Whether a line begins at a place: at the file's beginning and behind a line feed.
@@ -36,8 +33,5 @@ fn begins_line(file: &[u8], at: usize) -> bool
     requires { at < length file.now }
     ensures { position_at file.now at ≡ cond result line_start between }
 {
-    if at == 0 {
-        return true;
-    }
-    file[at - 1] == b'\n'
+    at == 0 || file[at - 1] == b'\n'
 }

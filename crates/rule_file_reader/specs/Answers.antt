@@ -1,7 +1,7 @@
 -- What the reading of a file comes to, for each way it can go.
-use Rattle.std.specs.Prelude.{◌≡◌, refl, Bool, true, false, cond, ◌||◌, List, ◌++◌, ℕ, ◌+◌, ◌≤◌, eqb, ltb, ℤ, length, drop}
+use Rattle.std.specs.Prelude.{◌≡◌, refl, Bool, true, false, cond, ◌||◌, List, ◌++◌, ℕ, ◌+◌, ◌≤◌, eqb, ltb, ℤ, length, drop, Option, None, Some}
 use Rattle.std.proofs.Common.{sym, ap, ◌∙◌, true≢false, zero-add, arith, le-ltb, ltb-false}
-use Rattle.std.proofs.Math.Option.{Option, none, some}
+use Rattle.std.proofs.lemmas.Option.{same_Some}
 use Rattle.std.proofs.lemmas.List.Edits.{sets, sets-eq}
 use Rattle.refusal.specs.declared.Refusal.{Refusal}
 use Rattle.refusal.specs.Reply.{Reply, refusal, refusing, answering, too_short}
@@ -9,7 +9,7 @@ use Rattle.limits.specs.Limits.{max_variables, max_clauses}
 use Rattle.rule_list.specs.Sound.{unread}
 use Rattle.rule_file.specs.Format.{past_comments, Header, header, outside, bad_tokens, rules_of, Reading, refuses, gives, read_tokens, read_from, reading}
 use Rattle.rule_file.specs.Tokens.{Token, tokens_from}
-use Rattle.rule_file_header.specs.declared.ReadHeader as H
+use Rattle.rule_file_header.specs.declared.Header as H
 use Rattle.rule_file_header.specs.Header.{header_as}
 use Rattle.rule_file_reader.specs.Read.{replying, leaving}
 
@@ -36,11 +36,11 @@ module _ (n c : ℕ) (file : List ℕ) (from : ℕ) (out : List ℤ) where
   abbrev fault : Option Refusal
   fault = bad_tokens n c (length file) unread ts
 
-  pub tokens-refused : (r : Refusal) → fault ≡ some r → Answers (refusing r) out (tokens_read n c file from) out
+  pub tokens-refused : (r : Refusal) → fault ≡ Some r → Answers (refusing r) out (tokens_read n c file from) out
   tokens-refused r e = refused (tokens_read n c file from) r out (ap (read_tokens n c ts) e)
 
   -- all are good, and k numbers are stored
-  module _ (good : fault ≡ none) (k : ℕ) (size : k ≡ length (rules_of ts)) where
+  module _ (good : fault ≡ None) (k : ℕ) (size : k ≡ length (rules_of ts)) where
     abbrev list : List ℤ
     list = rules_of ts
 
@@ -50,9 +50,9 @@ module _ (n c : ℕ) (file : List ℕ) (from : ℕ) (out : List ℤ) where
     given : tokens_read n c file from ≡ gives n c list
     given = ap (read_tokens n c ts) good
 
-    pub tokens_short : (r : Refusal) → too_short k (length out) ≡ some r → Answers (refusing r) out (tokens_read n c file from) out
+    pub tokens_short : (r : Refusal) → too_short k (length out) ≡ Some r → Answers (refusing r) out (tokens_read n c file from) out
     tokens_short r h =
-        let e : too_short (length list) (length out) ≡ some r = ap (λ (j : ℕ). too_short j (length out)) long ∙ h in
+        let e : too_short (length list) (length out) ≡ Some r = ap (λ (j : ℕ). too_short j (length out)) long ∙ h in
         answered (gives n c list) (tokens_read n c file from) (refusing r) out out given (rw (e) (refl, refl))
 
     pub tokens_read_lem : k ≤ length out → (result : List ℤ) → result ≡ sets out 0 list → Answers (answering 1 n c k) result (tokens_read n c file from) out
@@ -77,23 +77,29 @@ module _ (file : List ℕ) (place : ℕ) (here : place ≡ past_comments false 0
   from_place o e =
       ap (λ (at : ℕ). read_from file at (header (drop at file))) (sym here) ∙ ap (read_from file place) e
 
-  pub header_missing : H.TheVariants.Malformed ≡ header_as place (header (drop place file)) → reading file ≡ refuses (refusal 1 place)
+  pub header_missing : None ≡ header_as place (header (drop place file)) → reading file ≡ refuses (refusal 1 place)
   header_missing e = go (header (drop place file)) refl e
     where
-      go : (o : Option Header) → header (drop place file) ≡ o → H.TheVariants.Malformed ≡ header_as place o → reading file ≡ refuses (refusal 1 place)
-      go none f g = from_place none f
-      go (some h) f g = let z : ◌≡◌ {A = ℕ} 0 1 = cc in absurd (omega arith)
+      go : (o : Option Header) → header (drop place file) ≡ o → None ≡ header_as place o → reading file ≡ refuses (refusal 1 place)
+      go None f g = from_place None f
+      go (Some h) f g = cc
 
-  pub header_found : (n c next : ℕ) → H.TheVariants.Found n c next ≡ header_as place (header (drop place file))
-      → reading file ≡ cond (outside n c) (refuses (refusal 2 place)) (tokens_read n c file next)
-  header_found n c next e = go (header (drop place file)) refl e
+  pub header_found : (h : H.Header) → Some h ≡ header_as place (header (drop place file))
+      → reading file ≡ cond (outside h.variables h.clauses) (refuses (refusal 2 place)) (tokens_read h.variables h.clauses file h.next)
+  header_found h e = go (header (drop place file)) refl e
     where
-      go : (o : Option Header) → header (drop place file) ≡ o → H.TheVariants.Found n c next ≡ header_as place o
-          → reading file ≡ cond (outside n c) (refuses (refusal 2 place)) (tokens_read n c file next)
-      go none f g = let z : ◌≡◌ {A = ℕ} 0 1 = cc in absurd (omega arith)
-      go (some h) f g =
-          let same-n : h.variables ≡ n = cc in
-          let same-c : h.clauses ≡ c = cc in
-          let same_next : place + h.size ≡ next = cc in
-          from_place (some h) f
-          ∙ (λ i. cond (outside (same-n i) (same-c i)) (refuses (refusal 2 place)) (tokens_read (same-n i) (same-c i) file (same_next i)))
+      go : (o : Option Header) → header (drop place file) ≡ o → Some h ≡ header_as place o
+          → reading file ≡ cond (outside h.variables h.clauses) (refuses (refusal 2 place)) (tokens_read h.variables h.clauses file h.next)
+      go None f g = cc
+      go (Some k) f g =
+          from_place (Some k) f
+          ∙ ap (λ (t : H.Header). cond (outside t.variables t.clauses) (refuses (refusal 2 place)) (tokens_read t.variables t.clauses file t.next))
+          (sym (same_Some h (record { variables = k.variables; clauses = k.clauses; next = place + k.size }) g))
+
+  -- its numbers are out of range, or not
+  module _ (h : H.Header) (e : Some h ≡ header_as place (header (drop place file))) where
+    pub range_refused : outside h.variables h.clauses ≡ true → reading file ≡ refuses (refusal 2 place)
+    range_refused f = header_found h e ∙ rw f
+
+    pub range_kept : outside h.variables h.clauses ≡ false → reading file ≡ tokens_read h.variables h.clauses file h.next
+    range_kept f = header_found h e ∙ rw f

@@ -1,9 +1,9 @@
 -- The call that reads a rule file (document 01, "The rule file").
-use Rattle.std.specs.Prelude.{List, ℕ, ℤ, length}
+use Rattle.std.specs.Prelude.{List, ℕ, ℤ, length, Result, Ok, Err}
 use Rattle.refusal.specs.Reply.{Reply, refusing, answering, unless, too_short, filled}
 use Rattle.rule_file.specs.Format.{Reading, refuses, gives, reading}
-use Rattle.rule_file_reader.specs.declared.ReadRules.{ReadRules}
-use Rattle.rule_file_reader.specs.declared.ReadRules.TheVariants.{Refused, Read}
+use Rattle.refusal.specs.declared.Refusal.{Refusal}
+use Rattle.rule_file_reader.specs.declared.RuleCounts.{RuleCounts}
 
 -- The reply to what a file reads as: N, C and the list's length. After every cause of the file comes 15 ("Last 15"): the list needs room for each of its elements.
 abbrev pub replying : Reading → ℕ → Reply
@@ -24,6 +24,6 @@ abbrev pub read_output : List ℕ → List ℤ → List ℤ
 read_output file out = leaving (reading file) out
 
 -- the numbers of each answer
-abbrev pub reply_of : ReadRules → Reply
-reply_of (Refused r) = refusing r
-reply_of (Read h) = answering 1 h.variables h.clauses h.length
+abbrev pub reply_of : Result RuleCounts Refusal → Reply
+reply_of (Err r) = refusing r
+reply_of (Ok h) = answering 1 h.variables h.clauses h.length

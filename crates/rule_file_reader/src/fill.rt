@@ -6,7 +6,7 @@ ghost use Rattle.rule_file.specs.Tokens.{tokens_from};
 ghost use Rattle.rule_file_reader.specs.Passes.{FoundGood};
 
 use literal::Clause;
-use rule_file_tokens::NextToken;
+use rule_file_token_stream::TokenStream;
 
 // Fills a list with the numbers of the tokens from a place on, which were found good. A repeat is left
 // out.
@@ -16,32 +16,17 @@ pub fn fill_rules(file: &[u8], from: usize, rules: &mut [i32])
 {
     let mut stamps = rule_list::no_stamps();
     let mut clauses: usize = 0;
-    let mut at = from;
     let mut i = 0;
-    loop {
-        match rule_file_token_stream::next_token(file, at) {
-            NextToken::End => {
-                return;
-            }
-            NextToken::Malformed(_) => {
-                return;
-            }
-            NextToken::Element {
-                place: _,
-                value,
-                next,
-            } => {
-                let clause = Clause(clauses + 1);
-                if !rule_list::is_repeat(&stamps, value, clause) {
-                    rules[i] = value;
-                    i += 1;
-                    if literal::closes(value) {
-                        clauses += 1;
-                    } else {
-                        rule_list::stamp(&mut stamps, value, clause);
-                    }
-                }
-                at = next;
+    let mut tokens = TokenStream::from_offset(file, from);
+    while let Ok(Some(token)) = tokens.next_token() {
+        let clause = Clause(clauses + 1);
+        if !rule_list::is_repeat(&stamps, token.value, clause) {
+            rules[i] = token.value;
+            i += 1;
+            if literal::closes(token.value) {
+                clauses += 1;
+            } else {
+                rule_list::stamp(&mut stamps, token.value, clause);
             }
         }
     }

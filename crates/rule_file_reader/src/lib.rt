@@ -11,77 +11,56 @@ ghost use Rattle.rule_file_reader.specs.Answers.{tokens_read};
 ghost use Rattle.rule_file_reader.specs.Read.{replying, leaving, read_reply, read_output, reply_of};
 
 use limits::{MAX_CLAUSES, MAX_VARIABLES};
-use refusal::{Refusal, Verdict};
-use rule_file_header::ReadHeader;
-use rule_file_token_check::Check;
+use refusal::Refusal;
+use rule_file_header::Header;
 
 // What a file holds: N, C and the length of its list.
-#[derive(Clone, Copy)]
+#[derive(Clone, Copy, Debug, PartialEq, Eq)]
 pub struct RuleCounts {
     pub variables: usize,
     pub clauses: usize,
     pub length: usize,
 }
 
-// Refused, or what the file holds.
-#[derive(Clone, Copy)]
-pub enum ReadRules {
-    Refused(Refusal),
-    Read(RuleCounts),
-}
-
 // Reads a rule file into a list.
-pub fn read_rules(file: &[u8], rules: &mut [i32]) -> ReadRules
+pub fn read_rules(file: &[u8], rules: &mut [i32]) -> Result<RuleCounts, Refusal>
     ensures reply { reply_of result ≡ read_reply file.now (length rules.old) }
     ensures output { rules.new ≡ read_output file.now rules.old }
 {
     let place = rule_file_header::past_comments(file);
-    match rule_file_header::header_at(file, place) {
-        ReadHeader::Malformed => ReadRules::Refused(Refusal { number: 1, place }),
-        ReadHeader::Found {
-            variables,
-            clauses,
-            next,
-        } => {
-            if is_outside(variables, clauses) {
-                return ReadRules::Refused(Refusal { number: 2, place });
-            }
-            read_tokens(file, next, variables, clauses, rules)
-        }
+    let Some(header) = rule_file_header::header_at(file, place) else {
+        return Err(Refusal { number: 1, place });
+    };
+    if is_outside(header.variables, header.clauses) {
+        return Err(Refusal { number: 2, place });
     }
+    read_tokens(file, header, rules)
 }
 
 // Whether a header's numbers are out of range.
 fn is_outside(n: usize, count: usize) -> bool
     ensures { result ≡ outside n count }
 {
-    if n == 0 {
-        return true;
-    }
-    if MAX_VARIABLES < n {
-        return true;
-    }
-    MAX_CLAUSES < count
+    n == 0 || MAX_VARIABLES < n || MAX_CLAUSES < count
 }
 
-// Reads the tokens from a place on, if the list has room for their numbers.
-fn read_tokens(file: &[u8], from: usize, n: usize, count: usize, rules: &mut [i32]) -> ReadRules
-    requires { (n ≤ max_variables) × (count ≤ max_clauses) }
-    ensures reply { reply_of result ≡ replying (tokens_read n count file.now from) (length rules.old) }
-    ensures output { rules.new ≡ leaving (tokens_read n count file.now from) rules.old }
+// Reads the tokens behind a header, if the list has room for their numbers.
+fn read_tokens(file: &[u8], header: Header, rules: &mut [i32]) -> Result<RuleCounts, Refusal>
+    requires { (header.variables ≤ max_variables) × (header.clauses ≤ max_clauses) }
+    ensures reply { reply_of result ≡ replying (tokens_read header.variables header.clauses file.now header.next) (length rules.old) }
+    ensures output { rules.new ≡ leaving (tokens_read header.variables header.clauses file.now header.next) rules.old }
 {
-    match rule_file_token_check::check_tokens(file, from, n, count) {
-        Check::Refused(r) => ReadRules::Refused(r),
-        Check::Good(needed) => {
-            if let Verdict::Refuse(r) = refusal::check_room(needed, rules.len()) {
-                return ReadRules::Refused(r);
-            }
-            fill::fill_rules(file, from, rules);
-            ReadRules::Read(RuleCounts {
-                variables: n,
-                clauses: count,
-                length: needed,
-            })
-        }
-    }
+    let length = rule_file_token_check::check_tokens(
+        file,
+        header.next,
+        header.variables,
+        header.clauses,
+    )?;
+    refusal::check_room(length, rules.len())?;
+    fill::fill_rules(file, header.next, rules);
+    Ok(RuleCounts {
+        variables: header.variables,
+        clauses: header.clauses,
+        length,
+    })
 }

@@ -1,8 +1,8 @@
 -- What follows from the definitions of specs/Skipped.antt.
-use Rattle.std.specs.Prelude.{◌≡◌, refl, Bool, true, false, not, ◌&&◌, ◌||◌, List, [], ◌∷◌, ◌++◌, map, ℕ, suc, ◌≤◌, ◌<◌, eqb, ℤ, pos}
+use Rattle.std.specs.Prelude.{◌≡◌, refl, Bool, true, false, not, ◌&&◌, ◌||◌, List, [], ◌∷◌, ◌++◌, map, ℕ, suc, ◌≤◌, ◌<◌, eqb, ℤ, pos, Option, None, Some, unwrap_or}
 use Rattle.std.proofs.Common.{sym, ap, ◌∙◌, true≢false, arith, eqb-true}
 use Rattle.std.proofs.Math.Bool.{and-false}
-use Rattle.std.proofs.Math.Option.{Option, none, some, get_or, some-ne-none}
+use Rattle.std.proofs.lemmas.Option.{none-some}
 use Rattle.literal.specs.Literal.{variable, wanted}
 use Rattle.formula.specs.Formula.{closes, contains}
 use Rattle.refusal.specs.declared.Refusal.{Refusal}
@@ -50,17 +50,17 @@ module _ (n c : ℕ) where
       go false e false f = rw (e) (literal-within s y w next f)
 
   -- a token that is not refused gives a number, and then it is so past the token
-  token_within : (s : Scan) (t : Token) → c ≤ max_clauses → Within n c s → bad_token n c s t.place (signed t.bytes) ≡ none → Within n c (past s (element t))
+  token_within : (s : Scan) (t : Token) → c ≤ max_clauses → Within n c s → bad_token n c s t.place (signed t.bytes) ≡ None → Within n c (past s (element t))
   token_within s t h w e = go (signed t.bytes) e
     where
-      go : (o : Option ℤ) → bad_token n c s t.place o ≡ none → Within n c (past s (get_or o (pos 0)))
-      go none f = absurd (some-ne-none (refusal 3 t.place) f)
-      go (some y) f = past_within s y w (good_next n c s t.place y h f)
+      go : (o : Option ℤ) → bad_token n c s t.place o ≡ None → Within n c (past s (unwrap_or o (pos 0)))
+      go None f = absurd (none-some (refusal 3 t.place) (sym f))
+      go (Some y) f = past_within s y w (good_next n c s t.place y h f)
 
-  refusal_stays : (ts us : List Token) (t : Token) (x : ℤ) (size : ℕ) (s : Scan) → c ≤ max_clauses → Within n c s → signed t.bytes ≡ some x → repeats (past_all s ts) x ≡ true
+  refusal_stays : (ts us : List Token) (t : Token) (x : ℤ) (size : ℕ) (s : Scan) → c ≤ max_clauses → Within n c s → signed t.bytes ≡ Some x → repeats (past_all s ts) x ≡ true
       → bad_tokens n c size s (ts ++ t ∷ us) ≡ bad_tokens n c size s (ts ++ us)
   refusal_stays [] us t x size s h w g e =
-      ap (λ (o : Option ℤ). first (bad_token n c s t.place o ∷ bad_tokens n c size (past s (get_or o (pos 0))) us ∷ [])) g
+      ap (λ (o : Option ℤ). first (bad_token n c s t.place o ∷ bad_tokens n c size (past s (unwrap_or o (pos 0))) us ∷ [])) g
       ∙ rw (repeat_passes n c s t.place x e (w.fits x e).1 (w.fits x e).0, e) (first_last (bad_tokens n c size s us))
   refusal_stays (d ∷ ts) us t x size s h w g e =
       go (bad_token n c s d.place (signed d.bytes)) refl (λ f. refusal_stays ts us t x size (past s (element d)) h (token_within s d h w f) g e)
@@ -71,14 +71,14 @@ module _ (n c : ℕ) where
       without_it : Option Refusal
       without_it = bad_tokens n c size (past s (element d)) (ts ++ us)
 
-      go : (o : Option Refusal) → bad_token n c s d.place (signed d.bytes) ≡ o → (bad_token n c s d.place (signed d.bytes) ≡ none → with_it ≡ without_it)
+      go : (o : Option Refusal) → bad_token n c s d.place (signed d.bytes) ≡ o → (bad_token n c s d.place (signed d.bytes) ≡ None → with_it ≡ without_it)
           → first (o ∷ with_it ∷ []) ≡ first (o ∷ without_it ∷ [])
-      go none f same = ap (λ (q : Option Refusal). first (q ∷ [])) (same f)
-      go (some r) f same = refl
+      go None f same = ap (λ (q : Option Refusal). first (q ∷ [])) (same f)
+      go (Some r) f same = refl
 
-list_stays : (ts us : List Token) (t : Token) (x : ℤ) (s : Scan) → signed t.bytes ≡ some x → repeats (past_all s ts) x ≡ true
+list_stays : (ts us : List Token) (t : Token) (x : ℤ) (s : Scan) → signed t.bytes ≡ Some x → repeats (past_all s ts) x ≡ true
     → stored s (map element (ts ++ t ∷ us)) ≡ stored s (map element (ts ++ us))
-list_stays [] us t x s g e = ap (λ (o : Option ℤ). stored s (get_or o (pos 0) ∷ map element us)) g ∙ rw (e)
+list_stays [] us t x s g e = ap (λ (o : Option ℤ). stored s (unwrap_or o (pos 0) ∷ map element us)) g ∙ rw (e)
 list_stays (d ∷ ts) us t x s g e = go (repeats s (element d)) refl (list_stays ts us t x (past s (element d)) g e)
   where
     with_it : List ℤ

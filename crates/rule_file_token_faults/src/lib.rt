@@ -1,14 +1,13 @@
 // The causes to refuse a number of a rule file's list, but for 3, which needs its token.
 #![tactic(auto)]
 
-ghost use Rattle.std.specs.Prelude.{not, ◌&&◌, ◌≡◌, leb};
-ghost use Rattle.limits.specs.Limits.{max_literals};
+ghost use Rattle.std.specs.Prelude.{◌≡◌};
 ghost use Rattle.rule_file_token_faults.specs.Fault.{fault_of};
 
 use limits::MAX_LITERALS;
 
-// The cause to refuse a number of the list: 6 where every clause is closed, 7 where no more literals may
-// come and it does not repeat one of its clause, 4 above n; 0 without a cause.
+// The cause to refuse a number of the list, if there is one: 6 where every clause is closed, 7 where no more
+// literals may come and it does not repeat one of its clause, 4 above n.
 pub fn fault_of(
     n: usize,
     count: usize,
@@ -16,32 +15,23 @@ pub fn fault_of(
     literals: usize,
     x: i32,
     repeated: bool,
-) -> usize
+) -> Option<usize>
     ensures { result ≡ fault_of n count clauses literals x repeated }
 {
     if count <= clauses {
-        return 6;
+        return Some(6);
     }
     if literal::closes(x) {
-        return 0;
+        return None;
     }
     let v = literal::variable_of(x).0;
-    let full = is_full(literals, repeated);
+    // A repeat is no further literal.
+    let full = !repeated && MAX_LITERALS <= literals;
     if full {
-        return 7;
+        return Some(7);
     }
     if n < v {
-        return 4;
+        return Some(4);
     }
-    0
-}
-
-// Whether there are too many literals for one more. A repeat is none.
-fn is_full(literals: usize, repeated: bool) -> bool
-    ensures { result ≡ not repeated && leb max_literals literals }
-{
-    if repeated {
-        return false;
-    }
-    MAX_LITERALS <= literals
+    None
 }

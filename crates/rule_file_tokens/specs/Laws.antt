@@ -1,8 +1,7 @@
 -- The equations by which proofs read a token.
-use Rattle.std.specs.Prelude.{◌≡◌, refl, Bool, true, false, cond, List, [], ◌∷◌, map, ℕ, zero, suc, ◌+◌, ◌-◌, ◌≤◌, ◌<◌, eqb, ℤ, pos, negsuc, neg_ℤ, length, get_or, take, drop}
+use Rattle.std.specs.Prelude.{◌≡◌, refl, Bool, true, false, cond, List, [], ◌∷◌, map, ℕ, zero, suc, ◌+◌, ◌-◌, ◌≤◌, ◌<◌, eqb, ℤ, pos, negsuc, neg_ℤ, length, get_or, take, drop, Option, None, Some, unwrap_or, Ok}
 use Rattle.std.proofs.Common.{sym, ap, ap₂, ◌∙◌, subst, not-suc-le-zero, arith, length-drop, take_all, SFits, to_z, of_z, ne_eqb}
-use Rattle.std.proofs.Math.Option
-use Rattle.std.proofs.Math.Option.{Option, none, some, some-injective, none-ne-some}
+use Rattle.std.proofs.lemmas.Option.{same_Some, none-some}
 use Rattle.std.specs.Int.{w32}
 use Rattle.std.proofs.lemmas.Int.{to_z-of_z}
 use Rattle.decimal.specs.Decimal.{number}
@@ -13,21 +12,10 @@ use Rattle.rule_file.specs.Format.{positive, negative, signed, element}
 use Rattle.rule_file.specs.TokenLaws.{First, Shaped}
 use Rattle.rule_file.proofs.TokenLaws.{shaped}
 use Rattle.rule_file.specs.Tokens.{leading, in_token, Token, tokens_from}
-use Rattle.rule_file_tokens.specs.declared.NextToken as T
-use Rattle.rule_file_tokens.specs.declared.signed.Signed as L
-use Rattle.rule_file_tokens.specs.NextToken.{signed_as, next_as, next_of, first_place}
-
--- what the answers tell
-pub signed_none : (o : Option ℤ) → signed_as o ≡ L.TheVariants.Malformed → o ≡ none
-signed_none none e = refl
-signed_none (some x) e = cc
-
-pub signed-some : (o : Option ℤ) (x : ℤ) → signed_as o ≡ L.TheVariants.Value x → o ≡ some x
-signed-some none x e = cc
-signed-some (some y) x e = cc
+use Rattle.rule_file_tokens.specs.NextToken.{malformed, element_at, next_as, next_of, first_place}
 
 -- the first byte of a token: a minus or none
-pub signed_empty : (w : List ℕ) → length w ≡ 0 → signed w ≡ none
+pub signed_empty : (w : List ℕ) → length w ≡ 0 → signed w ≡ None
 signed_empty [] e = refl
 signed_empty (b ∷ w) e = absurd (omega arith)
 
@@ -42,10 +30,10 @@ signed-plain [] h e = absurd (not-suc-le-zero h)
 signed-plain (b ∷ w) h e = rw (ne_eqb (class_of b) minus e)
 
 -- a number with its sign
-pub negative-zero : (v : ℕ) → v ≡ 0 → negative (some v) ≡ none
+pub negative-zero : (v : ℕ) → v ≡ 0 → negative (Some v) ≡ None
 negative-zero v e = rw e
 
-pub negative-some : (v : ℕ) → (v ≡ 0 → ⊥) → negative (some v) ≡ some (neg_ℤ (pos v))
+pub negative-some : (v : ℕ) → (v ≡ 0 → ⊥) → negative (Some v) ≡ Some (neg_ℤ (pos v))
 negative-some zero e = absurd (e refl)
 negative-some (suc k) e = refl
 
@@ -57,20 +45,20 @@ pub negative_fits : (v : ℕ) → v < 100000 → SFits w32 (neg_ℤ (pos v))
 negative_fits zero h = record { sfits = omega arith }
 negative_fits (suc k) h = record { sfits = omega arith }
 
-positive_inverse : (o : Option ℕ) (x : ℤ) → ((v : ℕ) → o ≡ some v → v < 100000) → positive o ≡ some x → SFits w32 x
-positive_inverse none x f e = absurd (none-ne-some x e)
-positive_inverse (some v) x f e = subst (λ (z : ℤ). SFits w32 z) (some-injective (pos v) x e) (positive_fits v (f v refl))
+positive_inverse : (o : Option ℕ) (x : ℤ) → ((v : ℕ) → o ≡ Some v → v < 100000) → positive o ≡ Some x → SFits w32 x
+positive_inverse None x f e = absurd (none-some x e)
+positive_inverse (Some v) x f e = subst (λ (z : ℤ). SFits w32 z) (same_Some (pos v) x e) (positive_fits v (f v refl))
 
-negative_inverse : (o : Option ℕ) (x : ℤ) → ((v : ℕ) → o ≡ some v → v < 100000) → negative o ≡ some x → SFits w32 x
-negative_inverse none x f e = absurd (none-ne-some x e)
-negative_inverse (some zero) x f e = absurd (none-ne-some x e)
-negative_inverse (some (suc k)) x f e = subst (λ (z : ℤ). SFits w32 z) (some-injective (negsuc k) x e) (negative_fits (suc k) (f (suc k) refl))
+negative_inverse : (o : Option ℕ) (x : ℤ) → ((v : ℕ) → o ≡ Some v → v < 100000) → negative o ≡ Some x → SFits w32 x
+negative_inverse None x f e = absurd (none-some x e)
+negative_inverse (Some zero) x f e = absurd (none-some x e)
+negative_inverse (Some (suc k)) x f e = subst (λ (z : ℤ). SFits w32 z) (same_Some (negsuc k) x e) (negative_fits (suc k) (f (suc k) refl))
 
-pub signed_fits : (w : List ℕ) (x : ℤ) → signed w ≡ some x → SFits w32 x
-signed_fits [] x e = absurd (none-ne-some x e)
+pub signed_fits : (w : List ℕ) (x : ℤ) → signed w ≡ Some x → SFits w32 x
+signed_fits [] x e = absurd (none-some x e)
 signed_fits (b ∷ w) x e = go (eqb (class_of b) minus) e
   where
-    go : (t : Bool) → cond t (negative (number w)) (positive (number (b ∷ w))) ≡ some x → SFits w32 x
+    go : (t : Bool) → cond t (negative (number w)) (positive (number (b ∷ w))) ≡ Some x → SFits w32 x
     go true f = negative_inverse (number w) x (number_small w) f
     go false f = positive_inverse (number (b ∷ w)) x (number_small (b ∷ w)) f
 
@@ -87,10 +75,10 @@ first_of s at t ts e = subst (Shaped s at) e (shaped s at)
 
 -- the place at which the next token was found, and where it ends
 module _ (s : List ℕ) (at start : ℕ) (e : start ≡ first_place (length s) (tokens_from s at)) where
-  pub no_token : length s ≤ start → T.TheVariants.End ≡ next_of (tokens_from s at)
+  pub no_token : length s ≤ start → Ok None ≡ next_of (tokens_from s at)
   no_token h = go (tokens_from s at) refl
     where
-      go : (ts : List Token) → tokens_from s at ≡ ts → T.TheVariants.End ≡ next_of ts
+      go : (ts : List Token) → tokens_from s at ≡ ts → Ok None ≡ next_of ts
       go [] f = refl
       go (t ∷ ts) f =
           let first = first_of s at t ts f in
@@ -114,82 +102,82 @@ module _ (s : List ℕ) (at start : ℕ) (e : start ≡ first_place (length s) (
             let bytes : bytes_of ≡ t.bytes = ap (λ (k : ℕ). take k (drop start s)) size ∙ run_take in_token (drop start s) ∙ run in
             ap (next_as start end) (sym g ∙ ap signed bytes) ∙ ap₂ (λ (i j : ℕ). next_as i j (signed t.bytes)) place past
 
-    pub token_malformed : signed bytes_of ≡ none → T.TheVariants.Malformed start ≡ next_of (tokens_from s at)
-    token_malformed g = found none g
+    pub token_malformed : signed bytes_of ≡ None → malformed start ≡ next_of (tokens_from s at)
+    token_malformed g = found None g
 
-    pub token_element : (x : ℤ) → signed bytes_of ≡ some x → T.TheVariants.Element start (to_z w32 (of_z w32 x)) end ≡ next_of (tokens_from s at)
+    pub token_element : (x : ℤ) → signed bytes_of ≡ Some x → element_at start (to_z w32 (of_z w32 x)) end ≡ next_of (tokens_from s at)
     token_element x g =
-        ap (λ (z : ℤ). T.TheVariants.Element start z end) (held x x refl (signed_fits bytes_of x g)) ∙ found (some x) g
+        ap (λ (z : ℤ). element_at start z end) (held x x refl (signed_fits bytes_of x g)) ∙ found (Some x) g
 
 -- What the answer for an offset tells of all the tokens from there on.
 pub record Bad (s : List ℕ) (at place : ℕ) : Type 0 where
   pub bytes : List ℕ
   pub rest : List Token
   pub split : tokens_from s at ≡ record { place = place; bytes = bytes } ∷ rest
-  pub malformed : signed bytes ≡ none
+  pub malformed : signed bytes ≡ None
 
 pub record Good (s : List ℕ) (at place : ℕ) (x : ℤ) (next : ℕ) : Type 0 where
   pub bytes : List ℕ
   pub split : tokens_from s at ≡ record { place = place; bytes = bytes } ∷ tokens_from s next
-  pub number : signed bytes ≡ some x
+  pub number : signed bytes ≡ Some x
   pub later : at < next
   pub inside : next ≤ length s
 
 module _ (s : List ℕ) (at : ℕ) where
-  pub token_end : next_of (tokens_from s at) ≡ T.TheVariants.End → tokens_from s at ≡ []
+  pub token_end : next_of (tokens_from s at) ≡ Ok None → tokens_from s at ≡ []
   token_end e = go (tokens_from s at) e
     where
-      one : (t : Token) (o : Option ℤ) → next_as t.place (t.place + length t.bytes) o ≡ T.TheVariants.End → ⊥
-      one t none f = let z : ◌≡◌ {A = ℕ} 0 1 = cc in omega arith
-      one t (some x) f = let z : ◌≡◌ {A = ℕ} 0 1 = cc in omega arith
+      one : (t : Token) (o : Option ℤ) → next_as t.place (t.place + length t.bytes) o ≡ Ok None → ⊥
+      one t None f = cc
+      one t (Some x) f = cc
 
-      go : (ts : List Token) → next_of ts ≡ T.TheVariants.End → ts ≡ []
+      go : (ts : List Token) → next_of ts ≡ Ok None → ts ≡ []
       go [] f = refl
       go (t ∷ ts) f = absurd (one t (signed t.bytes) f)
 
-  pub token_bad : (place : ℕ) → next_of (tokens_from s at) ≡ T.TheVariants.Malformed place → Bad s at place
+  pub token_bad : (place : ℕ) → next_of (tokens_from s at) ≡ malformed place → Bad s at place
   token_bad place e = go (tokens_from s at) refl e
     where
       one : (t : Token) (ts : List Token) (o : Option ℤ) → tokens_from s at ≡ t ∷ ts → signed t.bytes ≡ o
-          → next_as t.place (t.place + length t.bytes) o ≡ T.TheVariants.Malformed place → Bad s at place
-      one t ts none f g k =
-          let same : t.place ≡ place = cc in
+          → next_as t.place (t.place + length t.bytes) o ≡ malformed place → Bad s at place
+      one t ts None f g k =
+          let same : t.place ≡ place = grind arith in
           record { bytes = t.bytes; rest = ts; split = f ∙ ap (λ (p : ℕ). record { place = p; bytes = t.bytes } ∷ ts) same; malformed = g }
-      one t ts (some x) f g k = let z : ◌≡◌ {A = ℕ} 0 1 = cc in absurd (omega arith)
+      one t ts (Some x) f g k = cc
 
-      go : (ts : List Token) → tokens_from s at ≡ ts → next_of ts ≡ T.TheVariants.Malformed place → Bad s at place
-      go [] f k = let z : ◌≡◌ {A = ℕ} 0 1 = cc in absurd (omega arith)
+      go : (ts : List Token) → tokens_from s at ≡ ts → next_of ts ≡ malformed place → Bad s at place
+      go [] f k = cc
       go (t ∷ ts) f k = one t ts (signed t.bytes) f refl k
 
-  pub token_good : (place : ℕ) (x : ℤ) (next : ℕ) → next_of (tokens_from s at) ≡ T.TheVariants.Element place x next → Good s at place x next
+  pub token_good : (place : ℕ) (x : ℤ) (next : ℕ) → next_of (tokens_from s at) ≡ element_at place x next → Good s at place x next
   token_good place x next e = go (tokens_from s at) refl e
     where
       one : (t : Token) (ts : List Token) → First s at t ts → (o : Option ℤ) → tokens_from s at ≡ t ∷ ts → signed t.bytes ≡ o
-          → next_as t.place (t.place + length t.bytes) o ≡ T.TheVariants.Element place x next → Good s at place x next
-      one t ts first none f g k = let z : ◌≡◌ {A = ℕ} 0 1 = cc in absurd (omega arith)
-      one t ts first (some y) f g k =
-          let same_place : t.place ≡ place = cc in
-          let same-value : some y ≡ some x = cc in
-          let same_next : t.place + length t.bytes ≡ next = cc in
+          → next_as t.place (t.place + length t.bytes) o ≡ element_at place x next → Good s at place x next
+      one t ts first None f g k = cc
+      one t ts first (Some y) f g k =
+          let same_place : t.place ≡ place = grind arith in
+          let same-value : y ≡ x = grind arith in
+          let same_next : t.place + length t.bytes ≡ next = grind arith in
           record {
             bytes = t.bytes;
             split = f ∙ ap₂ (λ (p : ℕ) (us : List Token). record { place = p; bytes = t.bytes } ∷ us) same_place (first.rest ∙ ap (tokens_from s) same_next);
-            number = g ∙ same-value;
+            number = g ∙ ap Some same-value;
             later = omega (arith, first.later, first.some);
             inside = omega (arith, first.inside);
           }
 
-      go : (ts : List Token) → tokens_from s at ≡ ts → next_of ts ≡ T.TheVariants.Element place x next → Good s at place x next
-      go [] f k = let z : ◌≡◌ {A = ℕ} 0 1 = cc in absurd (omega arith)
+      go : (ts : List Token) → tokens_from s at ≡ ts → next_of ts ≡ element_at place x next → Good s at place x next
+      go [] f k = cc
       go (t ∷ ts) f k = one t ts (first_of s at t ts f) (signed t.bytes) f refl k
 
 -- the numbers from there on are the token's and those past it
 pub token_numbers : (file : List ℕ) (at : ℕ) {place next : ℕ} {x : ℤ} → Good file at place x next → map element (tokens_from file at) ≡ x ∷ map element (tokens_from file next)
 token_numbers file at {place} {next} {x} g =
-    ap (map element) g.split ∙ ap (λ (o : Option ℤ). Option.get_or o (pos 0) ∷ map element (tokens_from file next)) g.number
+    ap (map element) g.split ∙ ap (λ (o : Option ℤ). unwrap_or o (pos 0) ∷ map element (tokens_from file next)) g.number
 
 -- the number that a token gives is held by an i32
-pub number-held : (file : List ℕ) (at : ℕ) {place next : ℕ} {x : ℤ} → T.TheVariants.Element place x next ≡ next_of (tokens_from file at) → to_z w32 (of_z w32 x) ≡ x
+pub number-held : (file : List ℕ) (at : ℕ) {place next : ℕ} {x : ℤ} → element_at place x next ≡ next_of (tokens_from file at) → to_z w32 (of_z w32 x) ≡ x
 number-held file at {place} {next} {x} e =
     let g = token_good file at place x next (sym e) in
     held x x refl (signed_fits g.bytes x g.number)

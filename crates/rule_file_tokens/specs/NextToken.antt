@@ -1,26 +1,25 @@
 -- The next token of a rule file from an offset on (document 01, "The rule file"): "Reading goes on token by token over the lent bytes from a kept offset."
-use Rattle.std.specs.Prelude.{List, [], ◌∷◌, ℕ, ◌+◌, ℤ, length}
-use Rattle.std.proofs.Math.Option.{Option, none, some}
+use Rattle.std.specs.Prelude.{List, [], ◌∷◌, ℕ, ◌+◌, ℤ, length, Option, None, Some, Result, Ok, Err}
 use Rattle.rule_file.specs.Format.{signed}
 use Rattle.rule_file.specs.Tokens.{Token}
-use Rattle.rule_file_tokens.specs.declared.NextToken as T
-use Rattle.rule_file_tokens.specs.declared.NextToken.{NextToken}
-use Rattle.rule_file_tokens.specs.declared.signed.Signed as S
-use Rattle.rule_file_tokens.specs.declared.signed.Signed.{Signed}
+use Rattle.rule_file_tokens.specs.declared.Element.{Element}
+use Rattle.rule_file_tokens.specs.declared.Malformed.{Malformed}
 
--- the answer for a number of the list, by the definition `signed`
-abbrev pub signed_as : Option ℤ → Signed
-signed_as none = S.TheVariants.Malformed
-signed_as (some x) = S.TheVariants.Value x
+-- a malformed token at a place, and a number of the list at a place, with the place past it
+abbrev pub malformed : ℕ → Result (Option Element) Malformed
+malformed place = Err (record { place = place })
 
--- the answer for a token at a place: its number, and the place past it
-abbrev pub next_as : ℕ → ℕ → Option ℤ → NextToken
-next_as place next none = T.TheVariants.Malformed place
-next_as place next (some x) = T.TheVariants.Element place x next
+abbrev pub element_at : ℕ → ℤ → ℕ → Result (Option Element) Malformed
+element_at place x next = Ok (Some (record { place = place; value = x; next = next }))
+
+-- the answer for a token at a place, by the definition `signed`: its number, and the place past it
+abbrev pub next_as : ℕ → ℕ → Option ℤ → Result (Option Element) Malformed
+next_as place next None = malformed place
+next_as place next (Some x) = element_at place x next
 
 -- the answer where some tokens are to come
-abbrev pub next_of : List Token → NextToken
-next_of [] = T.TheVariants.End
+abbrev pub next_of : List Token → Result (Option Element) Malformed
+next_of [] = Ok None
 next_of (t ∷ ts) = next_as t.place (t.place + length t.bytes) (signed t.bytes)
 
 -- where the first of them begins, in a file of so many bytes; the file's end without one

@@ -4,40 +4,50 @@
 mod signed;
 
 ghost use Rattle.std.specs.Prelude.{◌≡◌, ◌+◌, length, drop};
+ghost use Rattle.refusal.specs.Reply.{refusal};
 ghost use Rattle.rule_file.specs.Tokens.{leading, in_token, tokens_from};
 ghost use Rattle.rule_file_tokens.specs.NextToken.{next_of, first_place};
 
-use signed::Signed;
+use refusal::Refusal;
+use rule_file::Class;
 
-// What comes next from an offset on: no token, a malformed one at a place, or a number of the list at a
-// place, with the offset past it.
-#[derive(Clone, Copy)]
-pub enum NextToken {
-    End,
-    Malformed(usize),
-    Element {
-        place: usize,
-        value: i32,
-        next: usize,
-    },
+// A number of the list at a place, with the offset past it.
+#[derive(Clone, Copy, Debug, PartialEq, Eq)]
+pub struct Element {
+    pub place: usize,
+    pub value: i32,
+    pub next: usize,
 }
 
-// The next token from an offset on, which is past the header or a token.
-pub fn token_at(file: &[u8], at: usize) -> NextToken
+// A malformed token, by its place.
+#[derive(Clone, Copy, Debug, PartialEq, Eq)]
+pub struct Malformed {
+    pub place: usize,
+}
+
+impl From<Malformed> for Refusal {
+    ghost from_gives = { λ malformed r. r ≡ refusal 3 malformed.place };
+
+    fn from(malformed: Malformed) -> Refusal {
+        Refusal {
+            number: 3,
+            place: malformed.place,
+        }
+    }
+}
+
+// The next token from an offset on, which is past the header or a token; nothing where no token is left.
+pub fn token_at(file: &[u8], at: usize) -> Result<Option<Element>, Malformed>
     ensures { result ≡ next_of (tokens_from file.now at) }
 {
-    let start = token_start(file, at);
-    if file.len() <= start {
-        return NextToken::End;
+    let place = token_start(file, at);
+    if file.len() <= place {
+        return Ok(None);
     }
-    let next = token_end(file, start);
-    match signed::signed_of(&file[start..next]) {
-        Signed::Malformed => NextToken::Malformed(start),
-        Signed::Value(value) => NextToken::Element {
-            place: start,
-            value,
-            next,
-        },
+    let next = token_end(file, place);
+    match signed::signed_of(&file[place..next]) {
+        Some(value) => Ok(Some(Element { place, value, next })),
+        None => Err(Malformed { place }),
     }
 }
 
@@ -50,11 +60,10 @@ fn token_start(file: &[u8], from: usize) -> usize
     while i < file.len() {
         if rule_file_line_scan::opens_comment(file, i) {
             i = rule_file_line_scan::find_byte(file, i, b'\n');
-        } else {
-            if rule_file::class_of(file[i]) != rule_file::BLANK {
-                return i;
-            }
+        } else if rule_file::class_of(file[i]) == Class::Blank {
             i += 1;
+        } else {
+            return i;
         }
     }
     file.len()
@@ -64,12 +73,10 @@ fn token_start(file: &[u8], from: usize) -> usize
 fn token_end(file: &[u8], from: usize) -> usize
     ensures { result ≡ from + length (leading in_token (drop from file.now)) }
 {
-    let mut i = from;
-    while i < file.len() {
-        if rule_file::class_of(file[i]) == rule_file::BLANK {
+    for i in from..file.len() {
+        if rule_file::class_of(file[i]) == Class::Blank {
             return i;
         }
-        i += 1;
     }
-    i
+    from.max(file.len())
 }

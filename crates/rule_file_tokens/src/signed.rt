@@ -2,46 +2,33 @@
 ghost use Rattle.std.specs.Prelude.{◌≡◌};
 ghost use Rattle.decimal.specs.Decimal.{number};
 ghost use Rattle.rule_file.specs.Format.{signed, negative};
-ghost use Rattle.rule_file_tokens.specs.NextToken.{signed_as};
 
-use decimal::Number;
 use literal::Variable;
+use rule_file::Class;
 
-// Whether some bytes are a number of the list, and which.
-#[derive(Clone, Copy)]
-pub enum Signed {
-    Malformed,
-    Value(i32),
-}
-
-// Reads a number of the list: a number, or a minus and a number other than 0.
-pub fn signed_of(word: &[u8]) -> Signed
-    ensures { result ≡ signed_as (signed word.now) }
+// Reads a number of the list, if some bytes are one: a number, or a minus and a number other than 0.
+pub fn signed_of(word: &[u8]) -> Option<i32>
+    ensures { result ≡ signed word.now }
 {
-    if word.len() == 0 {
-        return Signed::Malformed;
+    let (first, digits) = word.split_first()?;
+    if rule_file::class_of(*first) == Class::Minus {
+        return negative_of(digits);
     }
-    if rule_file::class_of(word[0]) == rule_file::MINUS {
-        return behind_minus(&word[1..]);
-    }
-    let Number::Value(v) = decimal::number_of(word) else {
-        return Signed::Malformed;
-    };
+    let v = decimal::number_of(word)?;
     // A closing zero has no variable.
     if v == 0 {
-        return Signed::Value(0);
+        return Some(0);
     }
-    Signed::Value(literal::literal_of(Variable(v), true))
+    Some(literal::literal_of(Variable(v), true))
 }
 
-fn behind_minus(digits: &[u8]) -> Signed
-    ensures { result ≡ signed_as (negative (number digits.now)) }
+// The number behind a minus, negated.
+fn negative_of(digits: &[u8]) -> Option<i32>
+    ensures { result ≡ negative (number digits.now) }
 {
-    let Number::Value(magnitude) = decimal::number_of(digits) else {
-        return Signed::Malformed;
-    };
+    let magnitude = decimal::number_of(digits)?;
     if magnitude == 0 {
-        return Signed::Malformed;
+        return None;
     }
-    Signed::Value(literal::literal_of(Variable(magnitude), false))
+    Some(literal::literal_of(Variable(magnitude), false))
 }

@@ -16,10 +16,8 @@ pub fn body_length(rules: &[i32]) -> usize
     ensures { (result ≡ length (body rules.now)) × (result ≤ 480000) }
 {
     let mut total = 0;
-    let mut i = 0;
-    while i < rules.len() {
-        total += element_length(rules[i]);
-        i += 1;
+    for x in rules {
+        total += element_length(*x);
     }
     total
 }

@@ -11,31 +11,25 @@ ghost use Rattle.refusal_causes.specs.Admitted.{Admitted};
 ghost use Rattle.refusal_causes.specs.Lent.{plain_problem};
 ghost use Rattle.rule_file_writer.specs.Write.{write_reply, write_output};
 
-use admission_steps::Admission;
-use refusal::Verdict;
-use replies::Written;
+use refusal::Refusal;
 
 // Writes a rule list of n variables as a file.
-pub fn write_rules(n: usize, rules: &[i32], file: &mut [u8]) -> Written
+pub fn write_rules(n: usize, rules: &[i32], file: &mut [u8]) -> Result<usize, Refusal>
     ensures reply { reply_of result ≡ write_reply n rules.now (length file.old) }
     ensures output { file.new ≡ write_output n rules.now file.old }
 {
-    match admission::admit_rules(n, rules) {
-        Admission::Refused(r) => Written::Refused(r),
-        Admission::Admitted(counts) => write_sound(n, counts.clauses, rules, file),
-    }
+    let counts = admission::admit_rules(n, rules)?;
+    write_sound(n, counts.clauses, rules, file)
 }
 
 // Writes an admitted list of so many clauses, if the lent bytes have room for it.
-fn write_sound(n: usize, count: usize, rules: &[i32], file: &mut [u8]) -> Written
+fn write_sound(n: usize, count: usize, rules: &[i32], file: &mut [u8]) -> Result<usize, Refusal>
     requires { Admitted (plain_problem n rules.now) × (count ≡ length (clauses rules.now)) }
     ensures reply { reply_of result ≡ write_reply n rules.now (length file.old) }
     ensures output { file.new ≡ write_output n rules.now file.old }
 {
     let needed = count::header_length(n, count) + count::body_length(rules);
-    if let Verdict::Refuse(r) = refusal::check_room(needed, file.len()) {
-        return Written::Refused(r);
-    }
+    refusal::check_room(needed, file.len())?;
     let at = put::put_header(n, count, file);
-    Written::Done(put::put_body(rules, file, at))
+    Ok(put::put_body(rules, file, at))
 }

@@ -26,10 +26,8 @@ pub fn put_body(rules: &[i32], out: &mut [u8], from: usize) -> usize
     ensures { Wrote (body rules.now) out.old from out.new result }
 {
     let mut at = from;
-    let mut i = 0;
-    while i < rules.len() {
-        at = put_element(rules[i], out, at);
-        i += 1;
+    for x in rules {
+        at = put_element(*x, out, at);
     }
     at
 }

@@ -1,8 +1,7 @@
 -- What follows from the definitions of specs/RoundTrip.antt.
-use Rattle.std.specs.Prelude.{◌≡◌, refl, Bool, true, false, cond, ◌||◌, List, [], ◌∷◌, ◌++◌, ℕ, zero, suc, ◌+◌, ◌*◌, ◌≤◌, ◌<◌, eqb, ltb, leb, length, get_or, take, drop}
+use Rattle.std.specs.Prelude.{◌≡◌, refl, Bool, true, false, cond, ◌||◌, List, [], ◌∷◌, ◌++◌, ℕ, zero, suc, ◌+◌, ◌*◌, ◌≤◌, ◌<◌, eqb, ltb, leb, length, get_or, take, drop, Option, None, Some, unwrap_or}
 use Rattle.std.proofs.Common.{sym, ap, ap₂, ◌∙◌, arith, length-append, take-append-drop, drop_at, ne_eqb, le-ltb, ltb-false, leb-false}
-use Rattle.std.proofs.Math.Option
-use Rattle.std.proofs.Math.Option.{Option, none, some, some-ne-none}
+use Rattle.std.proofs.lemmas.Option.{none-some}
 use Rattle.std.proofs.lemmas.Bool.{lt-leb, eqb-false}
 use Rattle.wish.specs.Wish.{wish_count}
 use Rattle.wish.specs.RowLaws.{count_most, count-weight}
@@ -37,21 +36,21 @@ fields_fit : (n last : ℕ) (w : Wish) (ws : List Wish) → n < 100000 → Risin
 fields_fit n last w ws h r = (omega (arith, r.1), (omega (arith, r.2), tt))
 
 wish_read : (w : Wish) (s : List ℕ) → Fit (fields w) → wish_at (line (fields w) ++ s) ≡ w
-wish_read w s f = ap (λ (o : Option (List ℕ)). wish_of (Option.get_or o [])) (line_read (fields w) s f)
+wish_read w s f = ap (λ (o : Option (List ℕ)). wish_of (unwrap_or o [])) (line_read (fields w) s f)
 
 wish_next : (w : Wish) (s : List ℕ) → Fit (fields w) → drop (line_size wish_columns) (line (fields w) ++ s) ≡ s
 wish_next w s f = drop_at (line (fields w)) s (line_size wish_columns) (line-length (fields w) f)
 
 -- the lines of rising wishes are good, and read as these wishes
-good_lines : (ws : List Wish) (n last at : ℕ) → n < 100000 → Rising n last ws → bad_lines n (length ws) last at (wish_lines ws) ≡ none
+good_lines : (ws : List Wish) (n last at : ℕ) → n < 100000 → Rising n last ws → bad_lines n (length ws) last at (wish_lines ws) ≡ None
 good_lines [] n last at h r = refl
 good_lines (w ∷ ws) n last at h r =
     let f : Fit (fields w) = fields_fit n last w ws h r in
     let s : List ℕ = wish_lines (w ∷ ws) in
     let next : ℕ = at + line_size wish_columns in
-    let here : bad_line n last at (line_numbers wish_columns s) ≡ none =
+    let here : bad_line n last at (line_numbers wish_columns s) ≡ None =
     ap (bad_line n last at) (line_read (fields w) (wish_lines ws) f) ∙ ap (λ (t : Bool). cause t 10 at) (fitting n last w r.0 r.1 r.2) in
-    let later : bad_lines n (length ws) (wish_at s).variable next (drop (line_size wish_columns) s) ≡ none =
+    let later : bad_lines n (length ws) (wish_at s).variable next (drop (line_size wish_columns) s) ≡ None =
     ap₂ (λ (u : Wish) (t : List ℕ). bad_lines n (length ws) u.variable next t) (wish_read w (wish_lines ws) f) (wish_next w (wish_lines ws) f)
     ∙ good_lines ws n w.variable next h r.3 in
     ap₂ (λ (o p : Option Refusal). first (o ∷ p ∷ [])) here later
@@ -87,7 +86,7 @@ written-length n row d k l i =
     )
 
 -- sound values, written and read, are these values again
-pub read_written : (n : ℕ) (row : List ℕ) (d : ℕ) → 1 ≤ n → n ≤ max_wish_variables → length row ≡ n → bad_wish 0 0 row ≡ none → d ≤ max_limit
+pub read_written : (n : ℕ) (row : List ℕ) (d : ℕ) → 1 ≤ n → n ≤ max_wish_variables → length row ≡ n → bad_wish 0 0 row ≡ None → d ≤ max_limit
     → reading (written n row d) ≡ gives n (wish_count row) d row
 read_written n row d h k l e i =
     ap₂ read_header (drop_at (line vs) (wish_lines ws) (line_size header_columns) (line-length vs fit)) (line_read vs (wish_lines ws) fit)
@@ -109,7 +108,7 @@ read_written n row d h k l e i =
     rising : Rising n 0 ws
     rising = list_rising row 1 n 0 (omega arith) (omega arith)
 
-    passed : bad_lines n m 0 (line_size header_columns) (wish_lines ws) ≡ none
+    passed : bad_lines n m 0 (line_size header_columns) (wish_lines ws) ≡ None
     passed =
         ap (λ (j : ℕ). bad_lines n j 0 (line_size header_columns) (wish_lines ws)) (sym (list_length 1 row))
         ∙ good_lines ws n 0 (line_size header_columns) (omega arith) rising
@@ -133,21 +132,21 @@ three [] e = absurd (omega arith)
 three (a ∷ vs) e = ap (λ (us : List ℕ). a ∷ us) (two vs (omega arith))
 
 -- a line that is not refused is that of its wish, which fits
-wish_written : (n last at : ℕ) (s : List ℕ) → bad_line n last at (line_numbers wish_columns s) ≡ none
+wish_written : (n last at : ℕ) (s : List ℕ) → bad_line n last at (line_numbers wish_columns s) ≡ None
     → (misfit n last (wish_at s) ≡ false) × (line (fields (wish_at s)) ≡ take (line_size wish_columns) s)
 wish_written n last at s e = go (line_numbers wish_columns s) refl e
   where
-    go : (o : Option (List ℕ)) → line_numbers wish_columns s ≡ o → bad_line n last at o ≡ none
-        → (misfit n last (wish_of (Option.get_or o [])) ≡ false) × (line (fields (wish_of (Option.get_or o []))) ≡ take (line_size wish_columns) s)
-    go none f g = absurd (some-ne-none (refusal 8 at) g)
-    go (some vs) f g =
+    go : (o : Option (List ℕ)) → line_numbers wish_columns s ≡ o → bad_line n last at o ≡ None
+        → (misfit n last (wish_of (unwrap_or o [])) ≡ false) × (line (fields (wish_of (unwrap_or o []))) ≡ take (line_size wish_columns) s)
+    go None f g = absurd (none-some (refusal 8 at) (sym g))
+    go (Some vs) f g =
         let b : Begins wish_columns s vs = line-written wish_columns s vs f in
         (cause_none (misfit n last (wish_of vs)) 10 at g, ap line (two vs b.count) ∙ b.same)
 
 -- lines that are not refused are those of their wishes, which rise
-pub lines_written : (m n last at : ℕ) (s : List ℕ) → bad_lines n m last at s ≡ none → Rising n last (wishes_in m s) × (wish_lines (wishes_in m s) ≡ s)
+pub lines_written : (m n last at : ℕ) (s : List ℕ) → bad_lines n m last at s ≡ None → Rising n last (wishes_in m s) × (wish_lines (wishes_in m s) ≡ s)
 lines_written zero n last at [] e = (tt, refl)
-lines_written zero n last at (b ∷ s) e = absurd (some-ne-none (refusal 8 at) e)
+lines_written zero n last at (b ∷ s) e = absurd (none-some (refusal 8 at) (sym e))
 lines_written (suc m) n last at s e =
     let next : ℕ = at + line_size wish_columns in
     let t : List ℕ = drop (line_size wish_columns) s in
@@ -177,7 +176,7 @@ ranges n m d e =
 
 -- a header in range and good lines after it are the file of what they give
 good_file : (file : List ℕ) (n m d : ℕ) → line (n ∷ m ∷ d ∷ []) ≡ take (line_size header_columns) file → outside n m d ≡ false
-    → (s : List ℕ) → s ≡ drop (line_size header_columns) file → bad_lines n m 0 (line_size header_columns) s ≡ none
+    → (s : List ℕ) → s ≡ drop (line_size header_columns) file → bad_lines n m 0 (line_size header_columns) s ≡ None
     → Accepted file n m d (row_of n (wishes_in m s))
 good_file file n m d head range s tail e =
     record {
@@ -222,8 +221,8 @@ accepted_parts file n m d row e = header (line_numbers header_columns file) refl
     never r f = cc
 
     header : (o : Option (List ℕ)) → line_numbers header_columns file ≡ o → read_header s o ≡ gives n m d row → Parts file n m d row
-    header none f g = absurd (omega (arith, never (refusal 8 0) g))
-    header (some vs) f g = range (outside x y z) refl g
+    header None f g = absurd (omega (arith, never (refusal 8 0) g))
+    header (Some vs) f g = range (outside x y z) refl g
       where
         b : Begins header_columns file vs
         b = line-written header_columns file vs f
@@ -238,8 +237,8 @@ accepted_parts file n m d row e = header (line_numbers header_columns file) refl
         z = get_or vs 2 0
 
         lines : (p : Option Refusal) → bad_lines x y 0 (line_size header_columns) s ≡ p → outside x y z ≡ false → read_lines x y z s p ≡ gives n m d row → Parts file n m d row
-        lines (some r) k h i = absurd (omega (arith, never r i))
-        lines none k h i =
+        lines (Some r) k h i = absurd (omega (arith, never r i))
+        lines None k h i =
             let same-n : n ≡ x = cc in
             let same-m : m ≡ y = cc in
             let same-d : d ≡ z = cc in
@@ -266,5 +265,5 @@ pub short_files : (file : List ℕ) → length file < line_size header_columns �
 short_files file h = go (line_numbers header_columns file) refl
   where
     go : (o : Option (List ℕ)) → line_numbers header_columns file ≡ o → read_header (drop (line_size header_columns) file) o ≡ refuses (refusal 8 0)
-    go none e = refl
-    go (some vs) e = absurd (omega (arith, (line-written header_columns file vs e).long))
+    go None e = refl
+    go (Some vs) e = absurd (omega (arith, (line-written header_columns file vs e).long))

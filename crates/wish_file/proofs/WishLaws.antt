@@ -1,7 +1,7 @@
 -- What follows from the definitions of specs/WishLaws.antt.
-use Rattle.std.specs.Prelude.{◌≡◌, refl, Bool, true, false, cond, ◌&&◌, List, [], ◌∷◌, ◌++◌, ℕ, zero, suc, ◌+◌, ◌-◌, ◌≤◌, ◌<◌, leb, length, set, replicate}
+use Rattle.std.specs.Prelude.{◌≡◌, refl, Bool, true, false, cond, ◌&&◌, List, [], ◌∷◌, ◌++◌, ℕ, zero, suc, ◌+◌, ◌-◌, ◌≤◌, ◌<◌, leb, length, set, replicate, None, Some}
 use Rattle.std.proofs.Common.{sym, ap, ap₂, subst, subst₂, ◌∙◌, append_assoc, append-nil, add-zero, zero-add, arith, length-append, length-set, le-leb}
-use Rattle.std.proofs.Math.Option.{none, some, some-ne-none}
+use Rattle.std.proofs.lemmas.Option.{none-some}
 use Rattle.std.proofs.lemmas.List.{length-replicate, replicate-append-replicate, set_at}
 use Rattle.std.proofs.Math.Seq.{append_snoc}
 use Rattle.wish.specs.Wish.{weight, is_row_byte, free_byte, is_wish, wish_count, total_weight}
@@ -12,17 +12,17 @@ use Rattle.wish_file.specs.Wishes.{Wish, wish_list, marked, row_of, Rising, wish
 use Rattle.wish_file.specs.WishLaws.{Bytes}
 
 -- a row is sound where they may, and its wishes weigh little (`weight-from` of crate refusal_causes)
-pub sound_bytes : (row : List ℕ) (m i : ℕ) → bad_wish m i row ≡ none → Bytes row
+pub sound_bytes : (row : List ℕ) (m i : ℕ) → bad_wish m i row ≡ None → Bytes row
 sound_bytes [] m i e = tt
 sound_bytes (w ∷ row) m i e = go (is_row_byte w) refl (leb (m + weight w) max_wishes) e (sound_bytes row (m + weight w) (suc i))
   where
-    go : (t : Bool) → is_row_byte w ≡ t → (u : Bool) → cond (t && u) (bad_wish (m + weight w) (suc i) row) (some i) ≡ none
-        → (bad_wish (m + weight w) (suc i) row ≡ none → Bytes row) → (is_row_byte w ≡ true) × Bytes row
+    go : (t : Bool) → is_row_byte w ≡ t → (u : Bool) → cond (t && u) (bad_wish (m + weight w) (suc i) row) (Some i) ≡ None
+        → (bad_wish (m + weight w) (suc i) row ≡ None → Bytes row) → (is_row_byte w ≡ true) × Bytes row
     go true f true r ih = (f, ih r)
-    go true f false r ih = absurd (some-ne-none i r)
-    go false f u r ih = absurd (some-ne-none i r)
+    go true f false r ih = absurd (none-some i (sym r))
+    go false f u r ih = absurd (none-some i (sym r))
 
-pub sound_whole : (row : List ℕ) (m i : ℕ) → Bytes row → m + total_weight row ≤ max_wishes → bad_wish m i row ≡ none
+pub sound_whole : (row : List ℕ) (m i : ℕ) → Bytes row → m + total_weight row ≤ max_wishes → bad_wish m i row ≡ None
 sound_whole [] m i b h = refl
 sound_whole (w ∷ row) m i b h =
     rw (b.0, le-leb (m + weight w) max_wishes (omega arith)) (sound_whole row (m + weight w) (suc i) b.1 (omega arith))

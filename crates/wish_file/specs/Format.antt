@@ -1,7 +1,5 @@
 -- The wish file (document 01, "The wish file"), as it is written and read, and the causes to refuse one ("Refusals", 8 to 10).
-use Rattle.std.specs.Prelude.{Bool, cond, ◌||◌, List, [], ◌∷◌, ◌++◌, ℕ, zero, suc, ◌+◌, ◌*◌, eqb, ltb, leb, get_or, drop}
-use Rattle.std.proofs.Math.Option
-use Rattle.std.proofs.Math.Option.{Option, none, some}
+use Rattle.std.specs.Prelude.{Bool, cond, ◌||◌, List, [], ◌∷◌, ◌++◌, ℕ, zero, suc, ◌+◌, ◌*◌, eqb, ltb, leb, get_or, drop, Option, None, Some, unwrap_or}
 use Rattle.wish.specs.Wish.{wish_count}
 use Rattle.refusal.specs.declared.Refusal.{Refusal}
 use Rattle.refusal.specs.Reply.{refusal, first, cause}
@@ -46,17 +44,17 @@ misfit n last w = leb w.variable last || (ltb n w.variable || ltb 1 w.mark)
 
 -- the cause to refuse a wish line at a place, after the variable of the line before: "on a wish line 8, then 9 or 10"
 abbrev pub bad_line : ℕ → ℕ → ℕ → Option (List ℕ) → Option Refusal
-bad_line n last at none = some (refusal 8 at)
-bad_line n last at (some vs) = cause (misfit n last (wish_of vs)) 10 at
+bad_line n last at None = Some (refusal 8 at)
+bad_line n last at (Some vs) = cause (misfit n last (wish_of vs)) 10 at
 
 -- the wish on the line with which some bytes begin
 abbrev pub wish_at : List ℕ → Wish
-wish_at s = wish_of (Option.get_or (line_numbers wish_columns s) [])
+wish_at s = wish_of (unwrap_or (line_numbers wish_columns s) [])
 
 -- the first cause from a place on, where m wish lines and no more are to come
 abbrev pub bad_lines : ℕ → ℕ → ℕ → ℕ → List ℕ → Option Refusal
-bad_lines n zero last at [] = none
-bad_lines n zero last at (b ∷ s) = some (refusal 8 at)
+bad_lines n zero last at [] = None
+bad_lines n zero last at (b ∷ s) = Some (refusal 8 at)
 bad_lines n (suc m) last at s =
     first
     (bad_line n last at (line_numbers wish_columns s)
@@ -74,12 +72,12 @@ pub data Reading : Type 0 where
   gives : ℕ → ℕ → ℕ → List ℕ → Reading
 
 abbrev pub read_lines : ℕ → ℕ → ℕ → List ℕ → Option Refusal → Reading
-read_lines n m d s none = gives n m d (row_of n (wishes_in m s))
-read_lines n m d s (some r) = refuses r
+read_lines n m d s None = gives n m d (row_of n (wishes_in m s))
+read_lines n m d s (Some r) = refuses r
 
 abbrev pub read_header : List ℕ → Option (List ℕ) → Reading
-read_header s none = refuses (refusal 8 0)
-read_header s (some vs) =
+read_header s None = refuses (refusal 8 0)
+read_header s (Some vs) =
     let n : ℕ = get_or vs 0 0 in
     let m : ℕ = get_or vs 1 0 in
     let d : ℕ = get_or vs 2 0 in

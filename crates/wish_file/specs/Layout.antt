@@ -1,6 +1,5 @@
 -- The layout of the wish file's lines (document 01, "The wish file"): "Decimal numbers right-justified in columns of 5, spaces before, no leading zeros."
-use Rattle.std.specs.Prelude.{cond, List, [], ◌∷◌, ◌++◌, ℕ, zero, suc, ◌+◌, ◌*◌, eqb, take, drop}
-use Rattle.std.proofs.Math.Option.{Option, none, some}
+use Rattle.std.specs.Prelude.{cond, List, [], ◌∷◌, ◌++◌, ℕ, zero, suc, ◌+◌, ◌*◌, eqb, take, drop, Option, None, Some}
 use Rattle.decimal.specs.Decimal.{number}
 use Rattle.text.specs.Text.{column}
 
@@ -27,13 +26,13 @@ column_number s = number (past_spaces (take column_width s))
 
 -- no more numbers where a line feed comes
 abbrev pub line_end : List ℕ → Option (List ℕ)
-line_end [] = none
-line_end (b ∷ s) = cond (eqb b 10) (some []) none
+line_end [] = None
+line_end (b ∷ s) = cond (eqb b 10) (Some []) None
 
 abbrev pub joined : Option ℕ → Option (List ℕ) → Option (List ℕ)
-joined none vs = none
-joined (some v) none = none
-joined (some v) (some vs) = some (v ∷ vs)
+joined None vs = None
+joined (Some v) None = None
+joined (Some v) (Some vs) = Some (v ∷ vs)
 
 -- the numbers of the line of k columns with which some bytes begin, if it is one; what is cut has no line feed in its place
 abbrev pub line_numbers : ℕ → List ℕ → Option (List ℕ)

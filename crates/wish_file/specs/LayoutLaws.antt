@@ -1,6 +1,5 @@
 -- Writing and reading a line undo one another.
-use Rattle.std.specs.Prelude.{◌≡◌, List, [], ◌∷◌, ℕ, ◌-◌, ◌≤◌, ◌<◌, length, take}
-use Rattle.std.proofs.Math.Option.{some}
+use Rattle.std.specs.Prelude.{◌≡◌, List, [], ◌∷◌, ℕ, ◌-◌, ◌≤◌, ◌<◌, length, take, Some}
 use Rattle.wish_file.specs.Layout.{line, line_size}
 
 -- numbers that fit their columns

@@ -1,6 +1,5 @@
 -- "It too is written, and one meaning has one file." (document 01, "The wish file")
-use Rattle.std.specs.Prelude.{◌≡◌, false, List, [], ◌∷◌, ℕ, ◌≤◌, length, take, drop}
-use Rattle.std.proofs.Math.Option.{none}
+use Rattle.std.specs.Prelude.{◌≡◌, false, List, [], ◌∷◌, ℕ, ◌≤◌, length, take, drop, None}
 use Rattle.wish.specs.Wish.{wish_count}
 use Rattle.limits.specs.Limits.{max_wish_variables, max_limit}
 use Rattle.refusal_causes.specs.Sound.{bad_wish}
@@ -13,7 +12,7 @@ pub record Accepted (file : List ℕ) (n m d : ℕ) (row : List ℕ) : Type 0 wh
   pub least : 1 ≤ n
   pub most : n ≤ max_wish_variables
   pub size : length row ≡ n
-  pub sound : bad_wish 0 0 row ≡ none
+  pub sound : bad_wish 0 0 row ≡ None
   pub count : m ≡ wish_count row
   pub limit : d ≤ max_limit
   pub same : file ≡ written n row d
@@ -22,5 +21,5 @@ pub record Accepted (file : List ℕ) (n m d : ℕ) (row : List ℕ) : Type 0 wh
 pub record Parts (file : List ℕ) (n m d : ℕ) (row : List ℕ) : Type 0 where
   pub head : line (n ∷ m ∷ d ∷ []) ≡ take (line_size header_columns) file
   pub range : outside n m d ≡ false
-  pub good : bad_lines n m 0 (line_size header_columns) (drop (line_size header_columns) file) ≡ none
+  pub good : bad_lines n m 0 (line_size header_columns) (drop (line_size header_columns) file) ≡ None
   pub gave : row ≡ row_of n (wishes_in m (drop (line_size header_columns) file))

@@ -1,4 +1,4 @@
-// The sizes of the wish file's parts, in bytes.
+// The numbers of the wish file's line one, and the sizes of its parts, in bytes.
 #![tactic(auto)]
 
 pub const COLUMN_WIDTH: usize = 5;
@@ -7,3 +7,11 @@ pub const COLUMN_WIDTH: usize = 5;
 pub const HEADER_SIZE: usize = 16;
 
 pub const WISH_SIZE: usize = 11;
+
+// What a file holds beside its row: the numbers of its line one.
+#[derive(Clone, Copy, Debug, PartialEq, Eq)]
+pub struct WishHeader {
+    pub variables: usize,
+    pub wishes: usize,
+    pub limit: usize,
+}

@@ -10,19 +10,7 @@ use limits::{MAX_LIMIT, MAX_WISH_VARIABLES, MAX_WISHES};
 pub fn is_outside(n: usize, wishes: usize, limit: usize) -> bool
     ensures { result ≡ outside n wishes limit }
 {
-    if n == 0 {
-        return true;
-    }
-    if MAX_WISH_VARIABLES < n {
-        return true;
-    }
-    if n < wishes {
-        return true;
-    }
-    if MAX_WISHES < wishes {
-        return true;
-    }
-    MAX_LIMIT < limit
+    n == 0 || MAX_WISH_VARIABLES < n || n < wishes || MAX_WISHES < wishes || MAX_LIMIT < limit
 }
 
 // Whether the wish on a line may not stand there. The numbers are as they were read, so 0 may be among
@@ -30,11 +18,5 @@ pub fn is_outside(n: usize, wishes: usize, limit: usize) -> bool
 pub fn is_misfit(n: usize, last: usize, number: usize, mark: usize) -> bool
     ensures { result ≡ misfit n last (record { variable = number; mark = mark }) }
 {
-    if number <= last {
-        return true;
-    }
-    if n < number {
-        return true;
-    }
-    1 < mark
+    number <= last || n < number || 1 < mark
 }

@@ -2,31 +2,27 @@
 #![tactic(auto)]
 
 ghost use Rattle.std.specs.Prelude.{◌≡◌, ◌+◌, ◌≤◌, length, drop};
-ghost use Rattle.decimal.specs.Read.{number_as};
 ghost use Rattle.wish_file.specs.Layout.{past_spaces, column_number};
 ghost use Rattle.wish_file_lines.specs.Lines.{is_line, field};
 
-use decimal::Number;
 use wish_file::COLUMN_WIDTH;
 
 // How many spaces some bytes begin with.
 fn leading_spaces(bytes: &[u8]) -> usize
     ensures { (result ≤ length bytes.now) × (past_spaces bytes.now ≡ drop result bytes.now) }
 {
-    let mut i = 0;
-    while i < bytes.len() {
-        if bytes[i] != b' ' {
+    for (i, b) in bytes.iter().enumerate() {
+        if *b != b' ' {
             return i;
         }
-        i += 1;
     }
-    i
+    bytes.len()
 }
 
-// The number in the column at a place.
-fn column_number(file: &[u8], at: usize) -> Number
+// The number in the column at a place, if there is one.
+fn column_number(file: &[u8], at: usize) -> Option<usize>
     requires { at + 5 ≤ length file.now }
-    ensures { result ≡ number_as (column_number (drop at file.now)) }
+    ensures { result ≡ column_number (drop at file.now) }
 {
     let end = at + COLUMN_WIDTH;
     let column = &file[at..end];
@@ -39,22 +35,17 @@ pub fn is_line(file: &[u8], from: usize, columns: usize) -> bool
     requires { from ≤ length file.now }
     ensures { result ≡ is_line columns (drop from file.now) }
 {
-    let mut at = from;
-    let mut left = columns;
-    while 0 < left {
+    for i in 0..columns {
+        let at = from + COLUMN_WIDTH * i;
         if file.len() - at < COLUMN_WIDTH {
             return false;
         }
-        if let Number::Malformed = column_number(file, at) {
+        let Some(_) = column_number(file, at) else {
             return false;
-        }
-        at += COLUMN_WIDTH;
-        left -= 1;
+        };
     }
-    if file.len() <= at {
-        return false;
-    }
-    file[at] == b'\n'
+    let end = from + COLUMN_WIDTH * columns;
+    end < file.len() && file[end] == b'\n'
 }
 
 // The number in the column at a place of a line.
@@ -62,8 +53,5 @@ pub fn field_at(file: &[u8], at: usize) -> usize
     requires { at + 5 ≤ length file.now }
     ensures { result ≡ field (drop at file.now) }
 {
-    match column_number(file, at) {
-        Number::Value(v) => v,
-        Number::Malformed => 0,
-    }
+    column_number(file, at).unwrap_or(0)
 }

@@ -1,7 +1,6 @@
 -- The equations by which proofs fill a row from a wish file, line by line.
-use Rattle.std.specs.Prelude.{◌≡◌, refl, true, List, [], ◌∷◌, ◌++◌, ℕ, suc, ◌+◌, ◌-◌, ◌≤◌, ◌<◌, length, drop, set, replicate}
+use Rattle.std.specs.Prelude.{◌≡◌, refl, true, List, [], ◌∷◌, ◌++◌, ℕ, suc, ◌+◌, ◌-◌, ◌≤◌, ◌<◌, length, drop, set, replicate, Option, None, Some, unwrap_or}
 use Rattle.std.proofs.Common.{sym, ap, ap₂, subst, ◌∙◌, zero-add, not-suc-le-zero, arith, length-set, drop-drop, le-ltb}
-use Rattle.std.proofs.Math.Option.{Option, none, some, get_or}
 use Rattle.std.proofs.lemmas.List.{length-replicate, set-append_left}
 use Rattle.std.proofs.lemmas.List.Edits.{sets, sets-eq}
 use Rattle.refusal.specs.declared.Refusal.{Refusal}
@@ -40,9 +39,9 @@ module _ (size m : ℕ) (s : List ℕ) (h : 0 < m) (rising : Rising size 0 (wish
   pub marks_line : is_line wish_columns s ≡ true
   marks_line = go (line_numbers wish_columns s) parts.0
     where
-      go : (o : Option (List ℕ)) → 0 < (wish_of (get_or o [])).variable → present o ≡ true
-      go none k = absurd (not-suc-le-zero k)
-      go (some vs) k = refl
+      go : (o : Option (List ℕ)) → 0 < (wish_of (unwrap_or o [])).variable → present o ≡ true
+      go None k = absurd (not-suc-le-zero k)
+      go (Some vs) k = refl
 
   pub marks_fit : (0 < field s) × (field s ≤ size) × (field (drop column_width s) < 2)
   marks_fit =
@@ -103,7 +102,7 @@ module _ (file out : List ℕ) where
     abbrev ws : List Wish
     ws = wishes_in m (drop (line_size header_columns) file)
 
-    pub too_short_lem : (r : Refusal) → too_short n (length out) ≡ some r → Answers (refusing r) out
+    pub too_short_lem : (r : Refusal) → too_short n (length out) ≡ Some r → Answers (refusing r) out
     too_short_lem r h = (rw (e, h), rw (e, h))
 
     rising_row : Rising n 0 ws

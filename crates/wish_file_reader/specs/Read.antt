@@ -1,9 +1,9 @@
 -- The call that reads a wish file (document 01, "The wish file").
-use Rattle.std.specs.Prelude.{List, ℕ, length}
+use Rattle.std.specs.Prelude.{List, ℕ, length, Result, Ok, Err}
 use Rattle.refusal.specs.Reply.{Reply, refusing, answering, unless, too_short, filled}
 use Rattle.wish_file.specs.Format.{Reading, refuses, gives, reading}
-use Rattle.wish_file_reader.specs.declared.ReadWishes.{ReadWishes}
-use Rattle.wish_file_reader.specs.declared.ReadWishes.TheVariants.{Refused, Read}
+use Rattle.refusal.specs.declared.Refusal.{Refusal}
+use Rattle.wish_file.specs.declared.WishHeader.{WishHeader}
 
 -- The reply to what a file reads as: n, the number of wishes and the limit. After every cause of the file comes 15 ("Last 15"): the row needs n bytes.
 abbrev pub replying : Reading → ℕ → Reply
@@ -24,6 +24,6 @@ abbrev pub read_output : List ℕ → List ℕ → List ℕ
 read_output file out = leaving (reading file) out
 
 -- the numbers of each answer
-abbrev pub reply_of : ReadWishes → Reply
-reply_of (Refused r) = refusing r
-reply_of (Read h) = answering 1 h.variables h.wishes h.limit
+abbrev pub reply_of : Result WishHeader Refusal → Reply
+reply_of (Err r) = refusing r
+reply_of (Ok h) = answering 1 h.variables h.wishes h.limit

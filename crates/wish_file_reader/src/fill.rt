@@ -12,11 +12,7 @@ pub fn free_row(n: usize, row: &mut [u8])
     requires { n ≤ length row.old }
     ensures { row.new ≡ replicate n free_byte ++ drop n row.old }
 {
-    let mut i = 0;
-    while i < n {
-        row[i] = FREE;
-        i += 1;
-    }
+    row[..n].fill(FREE);
 }
 
 // Puts each wish's byte at its variable.
@@ -24,13 +20,10 @@ pub fn mark_row(file: &[u8], wishes: usize, row: &mut [u8])
     requires { Rising (length row.old) 0 (wishes_in wishes (drop 16 file.now)) }
     ensures { row.new ≡ marked row.old (wishes_in wishes (drop 16 file.now)) }
 {
-    let mut at = HEADER_SIZE;
-    let mut left = wishes;
-    while 0 < left {
+    for i in 0..wishes {
+        let at = HEADER_SIZE + WISH_SIZE * i;
         let variable = wish_file_lines::field_at(file, at);
         let mark = wish_file_lines::field_at(file, at + COLUMN_WIDTH);
         row[variable - 1] = wish::wish_for(mark as u8);
-        at += WISH_SIZE;
-        left -= 1;
     }
 }

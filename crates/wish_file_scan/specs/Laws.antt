@@ -1,8 +1,6 @@
 -- The equations by which proofs scan a wish file, line by line.
-use Rattle.std.specs.Prelude.{◌≡◌, Bool, true, false, cond, List, [], ◌∷◌, ℕ, suc, ◌+◌, ◌-◌, ◌*◌, ◌≤◌, ◌<◌, length, get_or, drop}
+use Rattle.std.specs.Prelude.{◌≡◌, Bool, true, false, cond, List, [], ◌∷◌, ℕ, suc, ◌+◌, ◌-◌, ◌*◌, ◌≤◌, ◌<◌, length, get_or, drop, Option, None, Some, unwrap_or}
 use Rattle.std.proofs.Common.{sym, ap, ap₂, ◌∙◌, arith, drop_of_length-le, drop-cons, drop-drop}
-use Rattle.std.proofs.Math.Option
-use Rattle.std.proofs.Math.Option.{Option, none, some}
 use Rattle.refusal.specs.declared.Refusal.{Refusal}
 use Rattle.refusal.specs.Laws.{first_last}
 use Rattle.refusal.specs.Reply.{refusal, first, cause}
@@ -22,8 +20,8 @@ module _ (n m last at : ℕ) (s : List ℕ) (h : 0 < m) where
       let more : m ≡ suc (m - 1) = omega arith in
       ap (λ (k : ℕ). bad_lines n k last at s) more ∙ ap (λ (p : Option Refusal). first (p ∷ later ∷ [])) e
 
-  pub lines_malformed : is_line wish_columns s ≡ false → bad_lines n m last at s ≡ some (refusal 8 at)
-  lines_malformed e = lines_step (some (refusal 8 at)) (ap (bad_line n last at) (line_none wish_columns s e))
+  pub lines_malformed : is_line wish_columns s ≡ false → bad_lines n m last at s ≡ Some (refusal 8 at)
+  lines_malformed e = lines_step (Some (refusal 8 at)) (ap (bad_line n last at) (line_none wish_columns s e))
 
   module _ (is-line : is_line wish_columns s ≡ true) where
     abbrev here : Wish
@@ -32,16 +30,16 @@ module _ (n m last at : ℕ) (s : List ℕ) (h : 0 < m) where
     line-cause : bad_line n last at (line_numbers wish_columns s) ≡ cause (misfit n last here) 10 at
     line-cause =
         let p = line_numbers_lem wish_columns s is-line in
-        let same : wish_of p.0 ≡ here = ap (λ (o : Option (List ℕ)). wish_of (Option.get_or o [])) (sym p.1) ∙ wish_fields s is-line in
+        let same : wish_of p.0 ≡ here = ap (λ (o : Option (List ℕ)). wish_of (unwrap_or o [])) (sym p.1) ∙ wish_fields s is-line in
         ap (bad_line n last at) p.1 ∙ ap (λ (w : Wish). cause (misfit n last w) 10 at) same
 
-    pub lines_misfit : misfit n last here ≡ true → bad_lines n m last at s ≡ some (refusal 10 at)
-    lines_misfit e = lines_step (some (refusal 10 at)) (line-cause ∙ ap (λ (t : Bool). cause t 10 at) e)
+    pub lines_misfit : misfit n last here ≡ true → bad_lines n m last at s ≡ Some (refusal 10 at)
+    lines_misfit e = lines_step (Some (refusal 10 at)) (line-cause ∙ ap (λ (t : Bool). cause t 10 at) e)
 
     pub lines_good : misfit n last here ≡ false
         → bad_lines n m last at s ≡ bad_lines n (m - 1) (field s) (at + line_size wish_columns) (drop (line_size wish_columns) s)
     lines_good e =
-        lines_step none (line-cause ∙ ap (λ (t : Bool). cause t 10 at) e)
+        lines_step None (line-cause ∙ ap (λ (t : Bool). cause t 10 at) e)
         ∙ first_last later
         ∙ ap (λ (w : Wish). bad_lines n (m - 1) w.variable (at + line_size wish_columns) (drop (line_size wish_columns) s)) (wish_fields s is-line)
 
@@ -51,7 +49,7 @@ module _ (file : List ℕ) (n m last at x y : ℕ) (h : 0 < m) (is-line : is_lin
   same_wish =
       ap₂ (λ (v b : ℕ). misfit n last (record { variable = v; mark = b })) first_field (second-field ∙ ap field (sym (drop-drop column_width at file)))
 
-  pub wish_misfit : misfit n last (record { variable = x; mark = y }) ≡ true → bad_lines n m last at (drop at file) ≡ some (refusal 10 at)
+  pub wish_misfit : misfit n last (record { variable = x; mark = y }) ≡ true → bad_lines n m last at (drop at file) ≡ Some (refusal 10 at)
   wish_misfit e = lines_misfit n m last at (drop at file) h is-line (sym same_wish ∙ e)
 
   pub wish_fits : misfit n last (record { variable = x; mark = y }) ≡ false
@@ -61,10 +59,10 @@ module _ (file : List ℕ) (n m last at x y : ℕ) (h : 0 < m) (is-line : is_lin
       ∙ ap₂ (λ (v : ℕ) (s : List ℕ). bad_lines n (m - 1) v (at + line_size wish_columns) s) (sym first_field) (drop-drop (line_size wish_columns) at file)
 
 -- no line is to come: the end, or bytes after the last line
-pub lines_end : (n last at : ℕ) (file : List ℕ) → length file ≤ at → bad_lines n 0 last at (drop at file) ≡ none
+pub lines_end : (n last at : ℕ) (file : List ℕ) → length file ≤ at → bad_lines n 0 last at (drop at file) ≡ None
 lines_end n last at file h = rw (drop_of_length-le file h)
 
-pub lines_extra : (n last at : ℕ) (file : List ℕ) → at < length file → bad_lines n 0 last at (drop at file) ≡ some (refusal 8 at)
+pub lines_extra : (n last at : ℕ) (file : List ℕ) → at < length file → bad_lines n 0 last at (drop at file) ≡ Some (refusal 8 at)
 lines_extra n last at file h = rw (drop-cons file at 0 h)
 
 -- the reading of a file: no line one, a line one out of range, refused lines, or good ones
@@ -97,8 +95,8 @@ module _ (file : List ℕ) where
     pub header-outside : outside n m d ≡ true → reading file ≡ refuses (refusal 9 0)
     header-outside e = header_read ∙ rw e
 
-    pub lines_refused : outside n m d ≡ false → (r : Refusal) → bad_lines n m 0 (line_size header_columns) rest ≡ some r → reading file ≡ refuses r
+    pub lines_refused : outside n m d ≡ false → (r : Refusal) → bad_lines n m 0 (line_size header_columns) rest ≡ Some r → reading file ≡ refuses r
     lines_refused inside r e = header_read ∙ rw (inside) (ap (read_lines n m d rest) e)
 
-    pub lines_passed : outside n m d ≡ false → bad_lines n m 0 (line_size header_columns) rest ≡ none → reading file ≡ gives n m d (row_of n (wishes_in m rest))
+    pub lines_passed : outside n m d ≡ false → bad_lines n m 0 (line_size header_columns) rest ≡ None → reading file ≡ gives n m d (row_of n (wishes_in m rest))
     lines_passed inside e = header_read ∙ rw (inside) (ap (read_lines n m d rest) e)

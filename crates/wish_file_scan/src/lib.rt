@@ -6,33 +6,21 @@ ghost use Rattle.refusal.specs.Reply.{refused};
 ghost use Rattle.wish_file.specs.Format.{bad_lines, reading};
 ghost use Rattle.wish_file_scan.specs.Scan.{file_scan};
 
-use refusal::{Refusal, Verdict};
-use wish_file::{COLUMN_WIDTH, HEADER_SIZE, WISH_SIZE};
+use refusal::Refusal;
+use wish_file::{COLUMN_WIDTH, HEADER_SIZE, WISH_SIZE, WishHeader};
 
 const HEADER_COLUMNS: usize = 3;
 
 const WISH_COLUMNS: usize = 2;
 
-// Refused, or the numbers of line one.
-#[derive(Clone, Copy)]
-pub enum FileScan {
-    Refused(Refusal),
-    Sound {
-        variables: usize,
-        wishes: usize,
-        limit: usize,
-    },
-}
-
 // Scans the lines after line one, and the end.
-fn scan_lines(file: &[u8], n: usize, wishes: usize) -> Verdict
+fn scan_lines(file: &[u8], n: usize, wishes: usize) -> Result<(), Refusal>
     requires { 16 ≤ length file.now }
     ensures { refused result ≡ bad_lines n wishes 0 16 (drop 16 file.now) }
 {
     let mut last: usize = 0;
-    let mut at = HEADER_SIZE;
-    let mut left = wishes;
-    while 0 < left {
+    for i in 0..wishes {
+        let at = HEADER_SIZE + WISH_SIZE * i;
         if !wish_file_lines::is_line(file, at, WISH_COLUMNS) {
             return refusal::refuse(8, at);
         }
@@ -42,21 +30,20 @@ fn scan_lines(file: &[u8], n: usize, wishes: usize) -> Verdict
             return refusal::refuse(10, at);
         }
         last = number;
-        at += WISH_SIZE;
-        left -= 1;
     }
-    if at < file.len() {
-        return refusal::refuse(8, at);
+    let end = HEADER_SIZE + WISH_SIZE * wishes;
+    if end < file.len() {
+        return refusal::refuse(8, end);
     }
-    Verdict::Pass
+    Ok(())
 }
 
-// Scans a file from its first byte to its last.
-pub fn scan_file(file: &[u8]) -> FileScan
+// Scans a file from its first byte to its last: the numbers of line one, if there is no cause.
+pub fn scan_file(file: &[u8]) -> Result<WishHeader, Refusal>
     ensures { result ≡ file_scan (reading file.now) }
 {
     if !wish_file_lines::is_line(file, 0, HEADER_COLUMNS) {
-        return FileScan::Refused(Refusal {
+        return Err(Refusal {
             number: 8,
             place: 0,
         });
@@ -65,17 +52,15 @@ pub fn scan_file(file: &[u8]) -> FileScan
     let wishes = wish_file_lines::field_at(file, COLUMN_WIDTH);
     let limit = wish_file_lines::field_at(file, 2 * COLUMN_WIDTH);
     if wish_file_faults::is_outside(variables, wishes, limit) {
-        return FileScan::Refused(Refusal {
+        return Err(Refusal {
             number: 9,
             place: 0,
         });
     }
-    match scan_lines(file, variables, wishes) {
-        Verdict::Refuse(r) => FileScan::Refused(r),
-        Verdict::Pass => FileScan::Sound {
-            variables,
-            wishes,
-            limit,
-        },
-    }
+    scan_lines(file, variables, wishes)?;
+    Ok(WishHeader {
+        variables,
+        wishes,
+        limit,
+    })
 }

@@ -38,10 +38,8 @@ pub fn put_wishes(row: &[u8], out: &mut [u8], from: usize) -> usize
     ensures { Wrote (wish_lines (wish_list 1 row.now)) out.old from out.new result }
 {
     let mut at = from;
-    let mut i = 0;
-    while i < row.len() {
-        at = put_wish(Variable(i + 1), row[i], out, at);
-        i += 1;
+    for (i, wish) in row.iter().enumerate() {
+        at = put_wish(Variable(i + 1), *wish, out, at);
     }
     at
 }

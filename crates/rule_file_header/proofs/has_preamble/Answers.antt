@@ -1,15 +1,15 @@
-use mathlib.Core.Path.{sym, ◌∙◌}
-use Prim.Native.Nat.{◌-◌}
-use native.Mathlib.Omega.{arith}
-use lib.ListN.{drop, length-drop}
+-- `rule_file_header::has_preamble` meets its contract: the slice's own test.
+use Rattle.std.specs.Prelude.{List, ℕ, ◌-◌, eqb, length, take, drop}
+use Rattle.std.specs.Cmp.Lexicographic.{pointwise}
+use Rattle.std.proofs.Common.{ap, ◌∙◌, arith, take_all, length-drop}
 use Rattle.rule_file.specs.Format.{preamble}
-use Rattle.rule_file_header.specs.Laws.{starts_short, starts_agree}
+use Rattle.rule_file_header.specs.Laws.{starts_pointwise}
 use Rattle.rule_file_header.proofs.has_preamble.Goals as goal
 
-pub returns-then-file-at-lt6 : goal.returns-then-file-at-lt6
-returns-then-file-at-lt6 c =
-    sym (starts_short preamble (drop c.args.at c.args.file.now) (omega (arith, length-drop c.args.at c.args.file.now, c.if-file-at-lt6.true)))
-
-pub loop-i-preserved : goal.loop-i-preserved
-loop-i-preserved c =
-    c.loop-i.invariant ∙ starts_agree preamble c.args.file.now c.args.at c.loop-i.i c.loop-i-test.true (omega (arith, c.loop-i-test.true, c.if-file-at-lt6.false)) c.if-file-at.false
+pub returns : goal.returns
+returns c =
+    let s : List ℕ = c.args.file.now in
+    let at : ℕ = c.args.at in
+    c.starts_with.ensures.value
+    ∙ ap (λ (t : List ℕ). pointwise eqb preamble (take 6 t)) (take_all (length s - at) (drop at s) (omega (arith, length-drop at s)))
+    ∙ starts_pointwise preamble (drop at s)

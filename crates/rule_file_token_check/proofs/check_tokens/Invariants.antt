@@ -1,13 +1,14 @@
 -- `rule_file_token_check::check_tokens` meets its contract: each turn is one of the laws of `Checking`.
-use Prim.Native.Nat.{◌-◌}
-use lib.ListN.{length}
+use Rattle.std.specs.Prelude.{◌≡◌, ◌-◌, length}
 use Rattle.rule_file_token_check.proofs.Checking.{Checking}
 use Rattle.rule_file_token_check.proofs.check_tokens.Given as goal
 
-abbrev pub invariant-loop-place : goal.invariant-loop-place
-invariant-loop-place l =
-    Checking l.n l.count l.file l.from l.stamps l.clauses l.literals l.is_open l.at
+abbrev pub invariant-loop-token : goal.invariant-loop-token
+invariant-loop-token l = record {
+  same_file : l.tokens.file.now ≡ l.file;
+  so_far : Checking l.n l.count l.file l.from l.stamps l.clauses l.literals l.is_open l.tokens.at;
+}
 
-abbrev pub decreases-loop-place : goal.decreases-loop-place
-decreases-loop-place l =
-    length l.file - l.at
+abbrev pub decreases-loop-token : goal.decreases-loop-token
+decreases-loop-token l =
+    length l.file - l.tokens.at

@@ -1,82 +1,44 @@
 -- `wish_file_reader::read_wishes` meets its contract: refused for the file, for its row, or read.
-use mathlib.Core.Path.{◌≡◌, sym, ap, subst, ◌∙◌}
-use mathlib.Core.List.{List}
-use Prim.Native.Nat.{ℕ, ◌≤◌}
-use lib.ListN.{length, drop}
+use Rattle.std.specs.Prelude.{List, ℕ, ◌≤◌, length, drop, Err}
+use Rattle.std.proofs.Common.{sym, ap, subst, ◌∙◌}
+use Rattle.std.proofs.lemmas.Result.{err_from_is_err_and}
 use Rattle.refusal.specs.Laws.{enough_room}
 use Rattle.refusal.specs.Reply.{refused}
-use Rattle.wish_file.specs.Format.{wishes_in, gives, reading}
+use Rattle.wish_file.specs.Format.{wishes_in}
 use Rattle.wish_file.specs.Wishes.{marked, Rising}
 use Rattle.wish_file_scan.specs.Scan.{scan-refused, scan_sound}
-use Rattle.wish_file_reader.specs.Laws.{refused_for_lem, rising_room, row_read}
+use Rattle.wish_file_reader.specs.Read.{reply_of}
+use Rattle.wish_file_reader.specs.Laws.{refused_for_lem, too_short_lem, rising_room, row_read}
 use Rattle.wish_file_reader.proofs.read_wishes.Goals as goal
 
--- past the scan: what was lent, and the numbers of line one; the file is good
-module _ (c : goal.After-mark_row-arg-1) where
-  abbrev file-after-mark_row-arg-1 : List ℕ
-  file-after-mark_row-arg-1 = c.args.file.now
+pub returns-in_err-header : goal.returns-in_err-header
+returns-in_err-header c =
+    let passed = err_from_is_err_and c.from_residual.result c.from_residual.ensures.1 in
+    let both = refused_for_lem c.args.file.now c.args.row.now c.in_err-header.field-0.0 (scan-refused c.args.file.now c.scan_file.result c.in_err-header.field-0.0 c.scan_file.ensures c.in_err-header.was) in
+    record { reply = ap reply_of (passed.1 ∙ ap Err passed.2) ∙ both.0; output = both.1 }
 
-  abbrev row-after-mark_row-arg-1 : List ℕ
-  row-after-mark_row-arg-1 = c.args.row.now
-
-  abbrev n-after-mark_row-arg-1 : ℕ
-  n-after-mark_row-arg-1 = c.in-Sound.variables
-
-  abbrev wishes-after-mark_row-arg-1 : ℕ
-  wishes-after-mark_row-arg-1 = c.in-Sound.wishes
-
-  abbrev limit-after-mark_row-arg-1 : ℕ
-  limit-after-mark_row-arg-1 = c.in-Sound.limit
-
-  good-after-mark_row-arg-1 : (read : List ℕ) × (reading file-after-mark_row-arg-1 ≡ gives n-after-mark_row-arg-1 wishes-after-mark_row-arg-1 limit-after-mark_row-arg-1 read)
-  good-after-mark_row-arg-1 = scan_sound file-after-mark_row-arg-1 c.scan_file.result n-after-mark_row-arg-1 wishes-after-mark_row-arg-1 limit-after-mark_row-arg-1 c.scan_file.ensures c.in-Sound.is
-
--- past the check of the room
-room-after-mark_row-arg-1 : (c : goal.After-mark_row-arg-1) → n-after-mark_row-arg-1 c ≤ length (row-after-mark_row-arg-1 c)
-room-after-mark_row-arg-1 c =
-    enough_room (n-after-mark_row-arg-1 c) (length (row-after-mark_row-arg-1 c)) (sym c.check_room.ensures ∙ ap refused c.in_default.is)
+pub returns-in_err-check_room : goal.returns-in_err-check_room
+returns-in_err-check_room c =
+    let h = c.in_ok-header.header in
+    let good = scan_sound c.args.file.now c.scan_file.result h c.scan_file.ensures c.in_ok-header.was in
+    let passed = err_from_is_err_and c.from_residual-in_err-check_room.result c.from_residual-in_err-check_room.ensures.1 in
+    let both = too_short_lem c.args.file.now c.args.row.now h.variables h.wishes h.limit good.0 good.1 c.in_err-check_room.field-0.0
+    (sym c.check_room.ensures ∙ ap refused c.in_err-check_room.was) in
+    record { reply = ap reply_of (passed.1 ∙ ap Err passed.2) ∙ both.0; output = both.1 }
 
 pub mark_row-requires : goal.mark_row-requires
 mark_row-requires c =
-    subst (λ (k : ℕ). Rising k 0 (wishes_in (wishes-after-mark_row-arg-1 c) (drop 16 (file-after-mark_row-arg-1 c)))) (sym c.free_row.auto.row)
-    (rising_room (file-after-mark_row-arg-1 c) (row-after-mark_row-arg-1 c) (n-after-mark_row-arg-1 c) (wishes-after-mark_row-arg-1 c) (limit-after-mark_row-arg-1 c) (good-after-mark_row-arg-1 c).0 (good-after-mark_row-arg-1 c).1 (room-after-mark_row-arg-1 c))
+    let h = c.in_ok-header.header in
+    let good = scan_sound c.args.file.now c.scan_file.result h c.scan_file.ensures c.in_ok-header.was in
+    let room : h.variables ≤ length c.args.row.now = enough_room h.variables (length c.args.row.now) (sym c.check_room.ensures ∙ ap refused c.in_ok-check_room.was) in
+    subst (λ (k : ℕ). Rising k 0 (wishes_in h.wishes (drop 16 c.args.file.now))) (sym c.free_row.auto.row)
+    (rising_room c.args.file.now c.args.row.now h.variables h.wishes h.limit good.0 good.1 room)
 
-pub returns-in-Refused : goal.returns-in-Refused
-returns-in-Refused c = record { reply = (refused_for_lem c.args.file.now c.args.row.now c.in-Refused.r (scan-refused c.args.file.now c.scan_file.result c.in-Refused.r c.scan_file.ensures c.in-Refused.is)).0; output = (refused_for_lem c.args.file.now c.args.row.now c.in-Refused.r (scan-refused c.args.file.now c.scan_file.result c.in-Refused.r c.scan_file.ensures c.in-Refused.is)).1 }
-
--- what is left of `row`
-abbrev row-left : goal.After-slice_known-in-Sound-2-1 → List ℕ
-row-left c = c.mark_row.new.row
-
--- past the scan: what was lent, and the numbers of line one; the file is good
-module _ (c : goal.After-slice_known-in-Sound-2-1) where
-  abbrev file-after-slice_known-in-Sound-2-1 : List ℕ
-  file-after-slice_known-in-Sound-2-1 = c.args.file.now
-
-  abbrev row-after-slice_known-in-Sound-2-1 : List ℕ
-  row-after-slice_known-in-Sound-2-1 = c.args.row.now
-
-  abbrev n-after-slice_known-in-Sound-2-1 : ℕ
-  n-after-slice_known-in-Sound-2-1 = c.in-Sound.variables
-
-  abbrev wishes-after-slice_known-in-Sound-2-1 : ℕ
-  wishes-after-slice_known-in-Sound-2-1 = c.in-Sound.wishes
-
-  abbrev limit-after-slice_known-in-Sound-2-1 : ℕ
-  limit-after-slice_known-in-Sound-2-1 = c.in-Sound.limit
-
-  good-after-slice_known-in-Sound-2-1 : (read : List ℕ) × (reading file-after-slice_known-in-Sound-2-1 ≡ gives n-after-slice_known-in-Sound-2-1 wishes-after-slice_known-in-Sound-2-1 limit-after-slice_known-in-Sound-2-1 read)
-  good-after-slice_known-in-Sound-2-1 = scan_sound file-after-slice_known-in-Sound-2-1 c.scan_file.result n-after-slice_known-in-Sound-2-1 wishes-after-slice_known-in-Sound-2-1 limit-after-slice_known-in-Sound-2-1 c.scan_file.ensures c.in-Sound.is
-
--- past the check of the room
-room-after-slice_known-in-Sound-2-1 : (c : goal.After-slice_known-in-Sound-2-1) → n-after-slice_known-in-Sound-2-1 c ≤ length (row-after-slice_known-in-Sound-2-1 c)
-room-after-slice_known-in-Sound-2-1 c =
-    enough_room (n-after-slice_known-in-Sound-2-1 c) (length (row-after-slice_known-in-Sound-2-1 c)) (sym c.check_room.ensures ∙ ap refused c.in_default.is)
-
-pub returns-in_default : goal.returns-in_default
-returns-in_default c = record {
-  reply = (row_read (file-after-slice_known-in-Sound-2-1 c) (row-after-slice_known-in-Sound-2-1 c) (n-after-slice_known-in-Sound-2-1 c) (wishes-after-slice_known-in-Sound-2-1 c) (limit-after-slice_known-in-Sound-2-1 c) (good-after-slice_known-in-Sound-2-1 c).0 (good-after-slice_known-in-Sound-2-1 c).1 (room-after-slice_known-in-Sound-2-1 c) (row-left c)
-      (c.mark_row.ensures ∙ ap (λ (l : List ℕ). marked l (wishes_in (wishes-after-slice_known-in-Sound-2-1 c) (drop 16 (file-after-slice_known-in-Sound-2-1 c)))) c.free_row.ensures)).0;
-  output = (row_read (file-after-slice_known-in-Sound-2-1 c) (row-after-slice_known-in-Sound-2-1 c) (n-after-slice_known-in-Sound-2-1 c) (wishes-after-slice_known-in-Sound-2-1 c) (limit-after-slice_known-in-Sound-2-1 c) (good-after-slice_known-in-Sound-2-1 c).0 (good-after-slice_known-in-Sound-2-1 c).1 (room-after-slice_known-in-Sound-2-1 c) (row-left c)
-      (c.mark_row.ensures ∙ ap (λ (l : List ℕ). marked l (wishes_in (wishes-after-slice_known-in-Sound-2-1 c) (drop 16 (file-after-slice_known-in-Sound-2-1 c)))) c.free_row.ensures)).1;
-}
+pub returns : goal.returns
+returns c =
+    let h = c.in_ok-header.header in
+    let good = scan_sound c.args.file.now c.scan_file.result h c.scan_file.ensures c.in_ok-header.was in
+    let room : h.variables ≤ length c.args.row.now = enough_room h.variables (length c.args.row.now) (sym c.check_room.ensures ∙ ap refused c.in_ok-check_room.was) in
+    let both = row_read c.args.file.now c.args.row.now h.variables h.wishes h.limit good.0 good.1 room c.mark_row.new.row
+    (c.mark_row.ensures ∙ ap (λ (l : List ℕ). marked l (wishes_in h.wishes (drop 16 c.args.file.now))) c.free_row.ensures) in
+    record { reply = both.0; output = both.1 }

@@ -1,126 +1,61 @@
-use Rattle.wish_file_lines.specs.Laws.{line_inside}
-use Rattle.wish_file_lines.specs.Lines.{is_line}
-use mathlib.Core.Path.{◌≡◌, sym, ap, ◌∙◌}
-use mathlib.Core.Bool.{true}
-use mathlib.Core.List.{List}
-use Prim.Native.Nat.{ℕ, ◌+◌, ◌≤◌}
-use native.Mathlib.Omega.{arith}
-use lib.ListN.{length, drop}
-use borrow.Author.Tests.{not-true, not-false}
+use Rattle.std.specs.Prelude.{◌≡◌, List, ℕ, ◌+◌, ◌-◌, ◌*◌, ◌<◌, drop}
+use Rattle.std.proofs.Common.{sym, ap₂, ◌∙◌, arith}
 use Rattle.wish_file.specs.Format.{bad_lines}
-use Rattle.wish_file_scan.specs.Laws.{lines_malformed, wish_misfit, wish_fits, lines_extra}
+use Rattle.wish_file_lines.specs.Laws.{line_inside}
+use Rattle.wish_file_scan.specs.Laws.{lines_malformed, wish_misfit, wish_fits, lines_end, lines_extra}
 use Rattle.wish_file_scan.proofs.scan_lines.Goals as goal
-
--- at the loop's head: what was lent
-module _ (c : goal.After-refuse) where
-  abbrev file-after-refuse : List ℕ
-  file-after-refuse = c.args.file.now
-
-  abbrev n-after-refuse : ℕ
-  n-after-refuse = c.args.n
 
 pub returns-then-not-is_line : goal.returns-then-not-is_line
 returns-then-not-is_line c =
+    let left : 0 < c.args.wishes - c.loop-i.i = omega arith in
     c.refuse.ensures
-    ∙ sym (c.loop-left.invariant.1 ∙ lines_malformed (n-after-refuse c) c.loop-left.left c.loop-left.last c.loop-left.at (drop c.loop-left.at (file-after-refuse c)) c.loop-left-test.true (sym c.is_line.ensures ∙ not-true c.is_line.result c.if-not-is_line.true-raw))
-
--- at the loop's head: what was lent
-module _ (c : goal.Else-not-is_line) where
-  abbrev file-else-not-is_line : List ℕ
-  file-else-not-is_line = c.args.file.now
-
-  abbrev n-else-not-is_line : ℕ
-  n-else-not-is_line = c.args.n
-
--- past the first test: a line, which ends inside the file
-module _ (c : goal.Else-not-is_line) where
-  a_line-else-not-is_line : is_line 2 (drop c.loop-left.at (file-else-not-is_line c)) ≡ true
-  a_line-else-not-is_line = sym c.is_line.ensures ∙ not-false c.is_line.result c.if-not-is_line.false-raw
-
-  long-else-not-is_line : c.loop-left.at + 11 ≤ length (file-else-not-is_line c)
-  long-else-not-is_line = line_inside 2 (file-else-not-is_line c) c.loop-left.at a_line-else-not-is_line
+    ∙ sym (c.loop-i.invariant.1 ∙ lines_malformed c.args.n (c.args.wishes - c.loop-i.i) c.loop-i.last (16 + 11 * c.loop-i.i) (drop (16 + 11 * c.loop-i.i) c.args.file.now) left (sym c.is_line.ensures ∙ c.if-not-is_line.true))
 
 pub field_at-number-requires : goal.field_at-number-requires
-field_at-number-requires c = omega (arith, long-else-not-is_line c)
-
--- at the loop's head: what was lent
-module _ (c : goal.After-field_at-number) where
-  abbrev file-after-field_at-number : List ℕ
-  file-after-field_at-number = c.args.file.now
-
-  abbrev n-after-field_at-number : ℕ
-  n-after-field_at-number = c.args.n
-
--- past the first test: a line, which ends inside the file
-module _ (c : goal.After-field_at-number) where
-  a_line-after-field_at-number : is_line 2 (drop c.loop-left.at (file-after-field_at-number c)) ≡ true
-  a_line-after-field_at-number = sym c.is_line.ensures ∙ not-false c.is_line.result c.if-not-is_line.false-raw
-
-  long-after-field_at-number : c.loop-left.at + 11 ≤ length (file-after-field_at-number c)
-  long-after-field_at-number = line_inside 2 (file-after-field_at-number c) c.loop-left.at a_line-after-field_at-number
+field_at-number-requires c =
+    omega (arith, line_inside 2 c.args.file.now (16 + 11 * c.loop-i.i) (sym c.is_line.ensures ∙ c.if-not-is_line.false))
 
 pub field_at-mark-requires : goal.field_at-mark-requires
-field_at-mark-requires c = omega (arith, long-after-field_at-number c)
-
--- at the loop's head: what was lent
-module _ (c : goal.After-refuse-then-is_misfit) where
-  abbrev file-after-refuse-then-is_misfit : List ℕ
-  file-after-refuse-then-is_misfit = c.args.file.now
-
-  abbrev n-after-refuse-then-is_misfit : ℕ
-  n-after-refuse-then-is_misfit = c.args.n
-
--- past the first test: a line, which ends inside the file
-module _ (c : goal.After-refuse-then-is_misfit) where
-  a_line-after-refuse-then-is_misfit : is_line 2 (drop c.loop-left.at (file-after-refuse-then-is_misfit c)) ≡ true
-  a_line-after-refuse-then-is_misfit = sym c.is_line.ensures ∙ not-false c.is_line.result c.if-not-is_line.false-raw
-
-  long-after-refuse-then-is_misfit : c.loop-left.at + 11 ≤ length (file-after-refuse-then-is_misfit c)
-  long-after-refuse-then-is_misfit = line_inside 2 (file-after-refuse-then-is_misfit c) c.loop-left.at a_line-after-refuse-then-is_misfit
+field_at-mark-requires c =
+    omega (arith, line_inside 2 c.args.file.now (16 + 11 * c.loop-i.i) (sym c.is_line.ensures ∙ c.if-not-is_line.false))
 
 pub returns-then-is_misfit : goal.returns-then-is_misfit
 returns-then-is_misfit c =
+    let left : 0 < c.args.wishes - c.loop-i.i = omega arith in
     c.refuse-then-is_misfit.ensures
-    ∙ sym (c.loop-left.invariant.1
-    ∙ wish_misfit (file-after-refuse-then-is_misfit c) (n-after-refuse-then-is_misfit c) c.loop-left.left c.loop-left.last c.loop-left.at c.field_at-number.result c.field_at-mark.result c.loop-left-test.true (a_line-after-refuse-then-is_misfit c) c.field_at-number.ensures c.field_at-mark.ensures
-    (sym c.is_misfit.ensures ∙ c.if-is_misfit.true))
+    ∙ sym (c.loop-i.invariant.1
+    ∙ wish_misfit c.args.file.now c.args.n (c.args.wishes - c.loop-i.i) c.loop-i.last (16 + 11 * c.loop-i.i) c.field_at-number.result c.field_at-mark.result left
+    (sym c.is_line.ensures ∙ c.if-not-is_line.false) c.field_at-number.ensures c.field_at-mark.ensures (sym c.is_misfit.ensures ∙ c.if-is_misfit.true))
 
--- at the loop's head: what was lent
-module _ (c : goal.Else-is_misfit) where
-  abbrev file-else-is_misfit : List ℕ
-  file-else-is_misfit = c.args.file.now
+pub loop-i-preserved : goal.loop-i-preserved
+loop-i-preserved c =
+    let s : List ℕ = c.args.file.now in
+    let is-line = sym c.is_line.ensures ∙ c.if-not-is_line.false in
+    let left : 0 < c.args.wishes - c.loop-i.i = omega arith in
+    let fewer : c.args.wishes - c.loop-i.i - 1 ≡ c.args.wishes - (c.loop-i.i + 1) = omega arith in
+    let next : 16 + 11 * c.loop-i.i + 11 ≡ 16 + 11 * (c.loop-i.i + 1) = omega arith in (
+      omega (arith, line_inside 2 s (16 + 11 * c.loop-i.i) is-line),
+      c.loop-i.invariant.1
+          ∙ wish_fits s c.args.n (c.args.wishes - c.loop-i.i) c.loop-i.last (16 + 11 * c.loop-i.i) c.field_at-number.result c.field_at-mark.result left
+          is-line c.field_at-number.ensures c.field_at-mark.ensures (sym c.is_misfit.ensures ∙ c.if-is_misfit.false)
+          ∙ ap₂ (λ (k at : ℕ). bad_lines c.args.n k c.field_at-number.result at (drop at s)) fewer next,
+    )
 
-  abbrev n-else-is_misfit : ℕ
-  n-else-is_misfit = c.args.n
+pub returns-then-end-file : goal.returns-then-end-file
+returns-then-end-file c =
+    let s : List ℕ = c.args.file.now in
+    let none : c.args.wishes - c.loop-i.i ≡ 0 = omega arith in
+    let past : 16 + 11 * c.loop-i.i ≡ 16 + 11 * c.args.wishes = omega arith in
+    c.refuse-then-end-file.ensures
+    ∙ sym (c.loop-i.invariant.1
+    ∙ ap₂ (λ (k at : ℕ). bad_lines c.args.n k c.loop-i.last at (drop at s)) none past
+    ∙ lines_extra c.args.n c.loop-i.last (16 + 11 * c.args.wishes) s c.if-end-file.true)
 
--- past the first test: a line, which ends inside the file
-module _ (c : goal.Else-is_misfit) where
-  a_line-else-is_misfit : is_line 2 (drop c.loop-left.at (file-else-is_misfit c)) ≡ true
-  a_line-else-is_misfit = sym c.is_line.ensures ∙ not-false c.is_line.result c.if-not-is_line.false-raw
-
-  long-else-is_misfit : c.loop-left.at + 11 ≤ length (file-else-is_misfit c)
-  long-else-is_misfit = line_inside 2 (file-else-is_misfit c) c.loop-left.at a_line-else-is_misfit
-
-pub loop-left-preserved : goal.loop-left-preserved
-loop-left-preserved c = (
-  omega (arith, long-else-is_misfit c),
-  c.loop-left.invariant.1
-      ∙ wish_fits (file-else-is_misfit c) (n-else-is_misfit c) c.loop-left.left c.loop-left.last c.loop-left.at c.field_at-number.result c.field_at-mark.result c.loop-left-test.true (a_line-else-is_misfit c) c.field_at-number.ensures c.field_at-mark.ensures
-      (sym c.is_misfit.ensures ∙ c.if-is_misfit.false),
-)
-
--- at the loop's head: what was lent
-module _ (c : goal.After-refuse-then-at-file) where
-  abbrev file-after-refuse-then-at-file : List ℕ
-  file-after-refuse-then-at-file = c.args.file.now
-
-  abbrev n-after-refuse-then-at-file : ℕ
-  n-after-refuse-then-at-file = c.args.n
-
-pub returns-then-at-file : goal.returns-then-at-file
-returns-then-at-file c =
-    let done : c.loop-left.left ≡ 0 = omega arith in
-    c.refuse-then-at-file.ensures
-    ∙ sym (c.loop-left.invariant.1
-    ∙ ap (λ (k : ℕ). bad_lines (n-after-refuse-then-at-file c) k c.loop-left.last c.loop-left.at (drop c.loop-left.at (file-after-refuse-then-at-file c))) done
-    ∙ lines_extra (n-after-refuse-then-at-file c) c.loop-left.last c.loop-left.at (file-after-refuse-then-at-file c) c.if-at-file.true)
+pub returns : goal.returns
+returns c =
+    let s : List ℕ = c.args.file.now in
+    let none : c.args.wishes - c.loop-i.i ≡ 0 = omega arith in
+    let past : 16 + 11 * c.loop-i.i ≡ 16 + 11 * c.args.wishes = omega arith in
+    sym (c.loop-i.invariant.1
+    ∙ ap₂ (λ (k at : ℕ). bad_lines c.args.n k c.loop-i.last at (drop at s)) none past
+    ∙ lines_end c.args.n c.loop-i.last (16 + 11 * c.args.wishes) s c.if-end-file.false)

@@ -1,13 +1,8 @@
--- `rule_file_writer::put::put_body` meets its contract. The loop's invariant: the elements from index i on are still to be put.
-use Prim.Native.Nat.{◌-◌}
-use lib.ListN.{length, drop}
-use borrow.Author.Rules.{rules}
+-- `rule_file_writer::put::put_body` meets its contract. The loop's invariant: the elements from this one on are still to be put.
+use Rattle.std.specs.Prelude.{drop}
 use Rattle.writing.specs.Wrote.{Remaining}
 use Rattle.rule_file.specs.Written.{body}
 use Rattle.rule_file_writer.proofs.put.put_body.Given as goal
 
-abbrev pub invariant-loop-i : goal.invariant-loop-i
-invariant-loop-i l = Remaining (body l.rules) l.initial.out l.from (body (drop l.i l.rules)) l.out l.at
-
-abbrev pub decreases-loop-i : goal.decreases-loop-i
-decreases-loop-i l = length l.rules - l.i
+abbrev pub invariant-loop-x : goal.invariant-loop-x
+invariant-loop-x l = Remaining (body l.rules) l.initial.out l.from (body (drop l.x-index l.rules)) l.out l.at

@@ -1,100 +1,65 @@
-use mathlib.Core.Path.{sym, ap, ◌∙◌}
-use mathlib.Core.List.{List}
-use Prim.Native.Nat.{ℕ, ◌+◌, ◌-◌, ◌≤◌, ◌<◌}
-use native.Mathlib.Omega.{arith}
-use lib.ListN.{length, drop, length-set, set}
+use Rattle.std.specs.Prelude.{◌≡◌, List, ℕ, ◌+◌, ◌-◌, ◌*◌, ◌<◌, length, drop, set}
+use Rattle.std.proofs.Common.{sym, ap, ap₂, subst, ◌∙◌, arith, length-set}
 use Rattle.wish_file.specs.Format.{wishes_in}
-use Rattle.wish_file.specs.Wishes.{marked}
+use Rattle.wish_file.specs.Wishes.{Wish, marked, Rising}
 use Rattle.wish_file_lines.specs.Laws.{line_inside}
 use Rattle.wish_file_reader.specs.Laws.{marks_line, mark_fits, mark_after, mark_step}
 use Rattle.wish_file_reader.proofs.fill.mark_row.Goals as goal
 
--- at the loop's head: the file, and the row's length
-module _ (c : goal.In-loop-left) where
-  abbrev bytes-in-loop-left : List ℕ
-  bytes-in-loop-left = c.args.file.now
-
-  abbrev size-in-loop-left : ℕ
-  size-in-loop-left = length c.args.row.now
-
--- a line to come, which ends inside the file
-long-in-loop-left : (c : goal.In-loop-left) → c.loop-left.at + 11 ≤ length (bytes-in-loop-left c)
-long-in-loop-left c =
-    line_inside 2 (bytes-in-loop-left c) c.loop-left.at (marks_line (size-in-loop-left c) c.loop-left.left (drop c.loop-left.at (bytes-in-loop-left c)) c.loop-left-test.true c.loop-left.invariant.1)
-
 pub field_at-variable-requires : goal.field_at-variable-requires
-field_at-variable-requires c = omega (arith, long-in-loop-left c)
-
--- at the loop's head: the file, and the row's length
-module _ (c : goal.After-field_at-variable) where
-  abbrev bytes-after-field_at-variable : List ℕ
-  bytes-after-field_at-variable = c.args.file.now
-
-  abbrev size-after-field_at-variable : ℕ
-  size-after-field_at-variable = length c.args.row.now
-
--- a line to come, which ends inside the file
-long-after-field_at-variable : (c : goal.After-field_at-variable) → c.loop-left.at + 11 ≤ length (bytes-after-field_at-variable c)
-long-after-field_at-variable c =
-    line_inside 2 (bytes-after-field_at-variable c) c.loop-left.at (marks_line (size-after-field_at-variable c) c.loop-left.left (drop c.loop-left.at (bytes-after-field_at-variable c)) c.loop-left-test.true c.loop-left.invariant.1)
+field_at-variable-requires c =
+    let left : 0 < c.args.wishes - c.loop-i.i = omega arith in
+    omega (arith, line_inside 2 c.args.file.now (16 + 11 * c.loop-i.i) (marks_line (length c.args.row.now) (c.args.wishes - c.loop-i.i) (drop (16 + 11 * c.loop-i.i) c.args.file.now) left c.loop-i.invariant.rising))
 
 pub overflow_add-at : goal.overflow_add-at
-overflow_add-at c = omega (arith, long-after-field_at-variable c)
+overflow_add-at c =
+    let left : 0 < c.args.wishes - c.loop-i.i = omega arith in
+    omega (arith, line_inside 2 c.args.file.now (16 + 11 * c.loop-i.i) (marks_line (length c.args.row.now) (c.args.wishes - c.loop-i.i) (drop (16 + 11 * c.loop-i.i) c.args.file.now) left c.loop-i.invariant.rising))
 
 pub field_at-mark-requires : goal.field_at-mark-requires
-field_at-mark-requires c = omega (arith, long-after-field_at-variable c)
-
--- at the loop's head: the file, and the row's length
-module _ (c : goal.After-field_at-mark) where
-  abbrev bytes-after-field_at-mark : List ℕ
-  bytes-after-field_at-mark = c.args.file.now
-
-  abbrev size-after-field_at-mark : ℕ
-  size-after-field_at-mark = length c.args.row.now
-
--- the wish that was read
-fits-after-field_at-mark : (c : goal.After-field_at-mark) → (0 < c.field_at-variable.result) × (c.field_at-variable.result ≤ size-after-field_at-mark c) × (c.field_at-mark.result < 2)
-fits-after-field_at-mark c =
-    mark_fits (bytes-after-field_at-mark c) (size-after-field_at-mark c) c.loop-left.left c.loop-left.at c.field_at-variable.result c.field_at-mark.result c.loop-left-test.true c.loop-left.invariant.1 c.field_at-variable.ensures c.field_at-mark.ensures
+field_at-mark-requires c =
+    let left : 0 < c.args.wishes - c.loop-i.i = omega arith in
+    omega (arith, line_inside 2 c.args.file.now (16 + 11 * c.loop-i.i) (marks_line (length c.args.row.now) (c.args.wishes - c.loop-i.i) (drop (16 + 11 * c.loop-i.i) c.args.file.now) left c.loop-i.invariant.rising))
 
 pub overflow_cast-mark : goal.overflow_cast-mark
-overflow_cast-mark c = omega (arith, fits-after-field_at-mark c)
+overflow_cast-mark c =
+    let left : 0 < c.args.wishes - c.loop-i.i = omega arith in
+    omega (arith, mark_fits c.args.file.now (length c.args.row.now) (c.args.wishes - c.loop-i.i) (16 + 11 * c.loop-i.i) c.field_at-variable.result c.field_at-mark.result left c.loop-i.invariant.rising c.field_at-variable.ensures c.field_at-mark.ensures)
 
 pub wish_for-requires : goal.wish_for-requires
-wish_for-requires c = omega (arith, fits-after-field_at-mark c)
-
--- at the loop's head: the file, and the row's length
-module _ (c : goal.After-wish_for) where
-  abbrev bytes-after-wish_for : List ℕ
-  bytes-after-wish_for = c.args.file.now
-
-  abbrev size-after-wish_for : ℕ
-  size-after-wish_for = length c.args.row.now
-
--- a line to come, which ends inside the file
-long-after-wish_for : (c : goal.After-wish_for) → c.loop-left.at + 11 ≤ length (bytes-after-wish_for c)
-long-after-wish_for c =
-    line_inside 2 (bytes-after-wish_for c) c.loop-left.at (marks_line (size-after-wish_for c) c.loop-left.left (drop c.loop-left.at (bytes-after-wish_for c)) c.loop-left-test.true c.loop-left.invariant.1)
-
--- the wish that was read
-fits-after-wish_for : (c : goal.After-wish_for) → (0 < c.field_at-variable.result) × (c.field_at-variable.result ≤ size-after-wish_for c) × (c.field_at-mark.result < 2)
-fits-after-wish_for c =
-    mark_fits (bytes-after-wish_for c) (size-after-wish_for c) c.loop-left.left c.loop-left.at c.field_at-variable.result c.field_at-mark.result c.loop-left-test.true c.loop-left.invariant.1 c.field_at-variable.ensures c.field_at-mark.ensures
+wish_for-requires c =
+    let left : 0 < c.args.wishes - c.loop-i.i = omega arith in
+    omega (arith, mark_fits c.args.file.now (length c.args.row.now) (c.args.wishes - c.loop-i.i) (16 + 11 * c.loop-i.i) c.field_at-variable.result c.field_at-mark.result left c.loop-i.invariant.rising c.field_at-variable.ensures c.field_at-mark.ensures)
 
 pub overflow_sub-row : goal.overflow_sub-row
-overflow_sub-row c = omega (arith, fits-after-wish_for c)
+overflow_sub-row c =
+    let left : 0 < c.args.wishes - c.loop-i.i = omega arith in
+    omega (arith, mark_fits c.args.file.now (length c.args.row.now) (c.args.wishes - c.loop-i.i) (16 + 11 * c.loop-i.i) c.field_at-variable.result c.field_at-mark.result left c.loop-i.invariant.rising c.field_at-variable.ensures c.field_at-mark.ensures)
 
 pub bounds-row-variable : goal.bounds-row-variable
-bounds-row-variable c = omega (arith, fits-after-wish_for c)
+bounds-row-variable c =
+    let left : 0 < c.args.wishes - c.loop-i.i = omega arith in
+    omega (arith, mark_fits c.args.file.now (length c.args.row.now) (c.args.wishes - c.loop-i.i) (16 + 11 * c.loop-i.i) c.field_at-variable.result c.field_at-mark.result left c.loop-i.invariant.rising c.field_at-variable.ensures c.field_at-mark.ensures)
 
-pub overflow_add-at-in-loop-left : goal.overflow_add-at-in-loop-left
-overflow_add-at-in-loop-left c = omega (arith, long-after-wish_for c)
+pub loop-i-preserved : goal.loop-i-preserved
+loop-i-preserved c =
+    let left : 0 < c.args.wishes - c.loop-i.i = omega arith in
+    let fewer : c.args.wishes - c.loop-i.i - 1 ≡ c.args.wishes - (c.loop-i.i + 1) = omega arith in
+    let next : 16 + 11 * c.loop-i.i + 11 ≡ 16 + 11 * (c.loop-i.i + 1) = omega arith in
+    let same : wishes_in (c.args.wishes - c.loop-i.i - 1) (drop (16 + 11 * c.loop-i.i + 11) c.args.file.now) ≡ wishes_in (c.args.wishes - (c.loop-i.i + 1)) (drop (16 + 11 * (c.loop-i.i + 1)) c.args.file.now)
+    = ap₂ (λ (k at : ℕ). wishes_in k (drop at c.args.file.now)) fewer next in
+    let after : List ℕ = set c.loop-i.row (c.field_at-variable.result - 1) c.wish_for.result in
+    record {
+      long = length-set c.loop-i.row (c.field_at-variable.result - 1) c.wish_for.result ∙ c.loop-i.invariant.long;
+      inside = omega (arith, line_inside 2 c.args.file.now (16 + 11 * c.loop-i.i) (marks_line (length c.args.row.now) (c.args.wishes - c.loop-i.i) (drop (16 + 11 * c.loop-i.i) c.args.file.now) left c.loop-i.invariant.rising));
+      rising = subst (Rising (length c.args.row.now) 0) same (mark_after c.args.file.now (length c.args.row.now) (c.args.wishes - c.loop-i.i) (16 + 11 * c.loop-i.i) c.field_at-variable.result c.field_at-mark.result left c.loop-i.invariant.rising c.field_at-variable.ensures c.field_at-mark.ensures);
+      to_come =
+          c.loop-i.invariant.to_come
+          ∙ mark_step c.args.file.now (length c.args.row.now) (c.args.wishes - c.loop-i.i) (16 + 11 * c.loop-i.i) c.field_at-variable.result c.field_at-mark.result left c.loop-i.invariant.rising c.field_at-variable.ensures c.field_at-mark.ensures c.loop-i.row
+          ∙ ap₂ (λ (b : ℕ) (ws : List Wish). marked (set c.loop-i.row (c.field_at-variable.result - 1) b) ws) (sym c.wish_for.ensures) same;
+    }
 
-pub loop-left-preserved : goal.loop-left-preserved
-loop-left-preserved c = (
-  length-set c.loop-left.row (c.field_at-variable.result - 1) c.wish_for.result ∙ c.loop-left.invariant.0,
-  mark_after (bytes-after-wish_for c) (size-after-wish_for c) c.loop-left.left c.loop-left.at c.field_at-variable.result c.field_at-mark.result c.loop-left-test.true c.loop-left.invariant.1 c.field_at-variable.ensures c.field_at-mark.ensures,
-  c.loop-left.invariant.2
-      ∙ mark_step (bytes-after-wish_for c) (size-after-wish_for c) c.loop-left.left c.loop-left.at c.field_at-variable.result c.field_at-mark.result c.loop-left-test.true c.loop-left.invariant.1 c.field_at-variable.ensures c.field_at-mark.ensures c.loop-left.row
-      ∙ ap (λ (b : ℕ). marked (set c.loop-left.row (c.field_at-variable.result - 1) b) (wishes_in (c.loop-left.left - 1) (drop (c.loop-left.at + 11) (bytes-after-wish_for c)))) (sym c.wish_for.ensures),
-)
+pub returns : goal.returns
+returns c =
+    let none : c.args.wishes - c.loop-i.i ≡ 0 = omega arith in
+    sym (c.loop-i.invariant.to_come ∙ ap (λ (k : ℕ). marked c.loop-i.row (wishes_in k (drop (16 + 11 * c.loop-i.i) c.args.file.now))) none)
