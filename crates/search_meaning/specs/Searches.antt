@@ -1,6 +1,5 @@
 -- What the three searches of document 01 are lent and reply ("The wish search"), and the bytes that they leave in the lent choice.
-use Rattle.std.specs.Prelude.{List, ◌++◌, ℕ, ℤ, length, drop}
-use Rattle.std.proofs.Math.Option.{Option, none, some}
+use Rattle.std.specs.Prelude.{List, ◌++◌, ℕ, ℤ, length, drop, Option, None, Some}
 use Rattle.formula.specs.Formula.{clauses}
 use Rattle.distance.specs.Distance.{disagreement, nearest, first_nearest}
 use Rattle.refusal.specs.declared.Refusal.{Refusal}
@@ -10,23 +9,23 @@ use Rattle.walk.specs.Walk.{Answer, walk, plain_walk}
 
 -- found, with the number of broken wishes, or none
 abbrev pub found : Option ℕ → Reply
-found none = answering 0 0 0 0
-found (some broken) = answering 1 broken 0 0
+found None = answering 0 0 0 0
+found (Some broken) = answering 1 broken 0 0
 
 abbrev pub broken_by : Option Answer → Option ℕ
-broken_by none = none
-broken_by (some x) = some x.broken
+broken_by None = None
+broken_by (Some x) = Some x.broken
 
 -- a choice, if there is one, with the number of wishes that it breaks
 abbrev pub with_broken : List ℕ → Option (List ℕ) → Option Answer
-with_broken row none = none
-with_broken row (some a) = some (record { choice = a; broken = disagreement row a })
+with_broken row None = None
+with_broken row (Some a) = Some (record { choice = a; broken = disagreement row a })
 
 -- "The choice that a search writes needs n bytes": a choice that is found stands in the first n bytes; "None" and a refusal leave the choice unchanged, and "on success bytes past the needed length stay"
 abbrev pub choice_after : Option Refusal → Option Answer → ℕ → List ℕ → List ℕ
-choice_after (some r) answer n choice = choice
-choice_after none none n choice = choice
-choice_after none (some x) n choice = x.choice ++ drop n choice
+choice_after (Some r) answer n choice = choice
+choice_after None None n choice = choice
+choice_after None (Some x) n choice = x.choice ++ drop n choice
 
 -- The wish search: n, the rules, the row, the limit and the choice's room.
 abbrev pub lent_to_search : ℕ → List ℤ → List ℕ → ℕ → ℕ → Lent

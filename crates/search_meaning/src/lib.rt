@@ -1,12 +1,3 @@
-// What the searches answer.
+// What the searches answer: `Result<Option<usize>, Refusal>`. A search is refused, or it found a choice, with the
+// number of wishes that this breaks, or there is none. What that means is said in specs/.
 #![tactic(auto)]
-
-use refusal::Refusal;
-
-// Refused, or a choice that was found, with the number of wishes it breaks, or none.
-#[derive(Clone, Copy)]
-pub enum Searched {
-    Refused(Refusal),
-    Found(usize),
-    Nothing,
-}

@@ -1,8 +1,8 @@
 -- A fork: its two states in turn (document 01, step 5).
-use Rattle.std.specs.Prelude.{◌≡◌, refl, List, [], ◌∷◌, ◌++◌, ℕ, suc, ◌+◌, ◌-◌, ◌<◌, min, ℤ, length, take}
+use Rattle.std.specs.Prelude.{◌≡◌, List, [], ◌∷◌, ◌++◌, ℕ, suc, ◌+◌, ◌-◌, ◌<◌, min, ℤ, length, take, None, Some}
 use Rattle.std.proofs.Common.{sym, ap, ap₂, subst, ◌∙◌, arith, lit<}
-use Rattle.std.proofs.Math.Option.{none}
 use Rattle.std.proofs.Math.Seq.{slice, slice_empty}
+use Rattle.std.proofs.lemmas.Option.{none-some}
 use Rattle.walk.specs.Promises.{Branches}
 use Rattle.walk.specs.State.{unassigned, assign}
 use Rattle.walk.specs.Walk.{Outcome, fork}
@@ -14,14 +14,13 @@ use Rattle.walk_propagation.specs.Trail.{undone, slice-stored, Grown}
 use Rattle.walk_unit_queue.specs.Theorems.{Covers}
 use Rattle.walk_unit_queue.proofs.Theorems.{fork_covers}
 use Rattle.search_state.specs.declared.result.Tried.{Tried}
-use Rattle.search_state.specs.declared.result.Tried.TheVariants.{Found, Nothing}
 use Rattle.search_state.specs.Result.{clip, with_forks}
 use Rattle.search_state.specs.Newest.{newest, before}
 use Rattle.walk_unit_queue.specs.Due.{NoneDue}
-use Rattle.search_state.specs.Tried.{TriedBy}
+use Rattle.search_state.specs.Tried.{TriedBy, answer_in}
 
 -- one more fork, counted as far as 64 bits go
-clip_one : (g k : ℕ) → g ≡ clip k → clip (suc (k + 0)) ≡ min (g + 0 + 1) 18446744073709551615
+clip_one : (g k : ℕ) → g ≡ clip k → clip (suc (k + 0)) ≡ min (0 + g + 1) 18446744073709551615
 clip_one g k e = omega arith
 
 clip_two : (g₁ g₂ k₁ k₂ : ℕ) → g₁ ≡ clip k₁ → g₂ ≡ clip k₂ → clip (suc (k₁ + k₂)) ≡ min (g₁ + g₂ + 1) 18446744073709551615
@@ -70,35 +69,35 @@ module _ {n : ℕ} {f : List (List ℤ)} {row a trail : List ℕ} {t : Tally} {v
       pub in_branch : (r : Tried) → TriedBy (try a₁) (newest t₁) (before t₁ a₁ trail₁) trail₁ trail' a' r → TriedBy (try (assign a v b)) (newest t₁) (before t₁ a₁ trail₁) trail₁ trail' a' r
       in_branch r = subst (λ (l : List ℕ). TriedBy (try l) (newest t₁) (before t₁ a₁ trail₁) trail₁ trail' a' r) told.values
 
-      -- it has none, and the state is a again
-      pub branch_undone : (g : ℕ) → TriedBy (try a₁) (newest t₁) (before t₁ a₁ trail₁) trail₁ trail' a' (Nothing g) → (a' ≡ a) × (take t.settled trail' ≡ take t.settled trail)
-      branch_undone g w =
-          let kept : take t.settled trail' ≡ take t.settled trail₁ = subst (λ (k : ℕ). take k trail' ≡ take k trail₁) newest_here w.3 in
-          (w.2 ∙ branch_back, kept ∙ grown.kept)
+      -- where it has none, the state is a again
+      pub branch_undone : (r : Tried) → r.found ≡ None → TriedBy (try a₁) (newest t₁) (before t₁ a₁ trail₁) trail₁ trail' a' r → (a' ≡ a) × (take t.settled trail' ≡ take t.settled trail)
+      branch_undone r z w =
+          let kept : take t.settled trail' ≡ take t.settled trail₁ = subst (λ (k : ℕ). take k trail' ≡ take k trail₁) newest_here (w.2 z).1 in
+          ((w.2 z).0 ∙ branch_back, kept ∙ grown.kept)
 
       -- the first value has the answer
-      pub first_found : b ≡ c → (broken g forks : ℕ) → TriedBy (try a₁) (newest t₁) (before t₁ a₁ trail₁) trail₁ trail' a' (Found broken g) → forks ≡ min (g + 0 + 1) 18446744073709551615
-          → TriedBy (fork try a v c) t.settled a trail trail' a' (Found broken forks)
-      first_found z broken g forks said q =
-          let w = subst (λ (k : ℕ). TriedBy (try (assign a v k)) (newest t₁) (before t₁ a₁ trail₁) trail₁ trail' a' (Found broken g)) z (in_branch (Found broken g) said) in
-          rw w.0 (refl, q ∙ sym (clip_one g (try (assign a v c)).forks w.1))
+      pub first_found : b ≡ c → (r : Tried) (broken : ℕ) → r.found ≡ Some broken → TriedBy (try a₁) (newest t₁) (before t₁ a₁ trail₁) trail₁ trail' a' r → TriedBy (fork try a v c) t.settled a trail trail' a' (with_forks 0 r)
+      first_found z r broken q said =
+          let w = subst (λ (k : ℕ). TriedBy (try (assign a v k)) (newest t₁) (before t₁ a₁ trail₁) trail₁ trail' a' r) z (in_branch r said) in
+          let found : (try (assign a v c)).answer ≡ Some (record { choice = a'; broken = broken }) = w.0 ∙ ap (answer_in a') q in
+          rw found (sym (ap (answer_in a') q), sym (clip_one r.forks (try (assign a v c)).forks w.1), λ y. absurd (none-some broken (sym y ∙ q)))
 
 -- the first value has no answer, after g₁ forks, and the state a₃ with trail₃ is a again
 pub record Undone (try : List ℕ → Outcome) (n : ℕ) (f : List (List ℤ)) (row a trail : List ℕ) (t : Tally) (v c : ℕ) (trail₃ a₃ : List ℕ) (g₁ : ℕ) : Type 0 where
-  pub none_there : (try (assign a v c)).answer ≡ none
+  pub none_there : (try (assign a v c)).answer ≡ None
   pub clipped : g₁ ≡ clip (try (assign a v c)).forks
   pub back : a₃ ≡ a
   pub kept : take t.settled trail₃ ≡ take t.settled trail
   pub again : Forks n f row a₃ trail₃ t v c
 
 module _ {n : ℕ} {f : List (List ℤ)} {row a trail : List ℕ} {t : Tally} {v c : ℕ} (p : Forks n f row a trail t v c) {t₁ : Tally} {a₁ trail₁ : List ℕ} (told : AssignedTo row v c t a trail t₁ a₁ trail₁) where
-  pub first_undone : (try : List ℕ → Outcome) (trail' a' : List ℕ) (g : ℕ) → TriedBy (try a₁) (newest t₁) (before t₁ a₁ trail₁) trail₁ trail' a' (Nothing g) → length trail' ≡ length trail
-      → Undone try n f row a trail t v c trail' a' g
-  first_undone try trail' a' g said long =
-      let w = in_branch p p.bit told try trail' a' (Nothing g) said in
-      let u = branch_undone p p.bit told try trail' a' g said in
+  pub first_undone : (try : List ℕ → Outcome) (trail' a' : List ℕ) (r : Tried) → r.found ≡ None → TriedBy (try a₁) (newest t₁) (before t₁ a₁ trail₁) trail₁ trail' a' r → length trail' ≡ length trail
+      → Undone try n f row a trail t v c trail' a' r.forks
+  first_undone try trail' a' r z said long =
+      let w = in_branch p p.bit told try trail' a' r said in
+      let u = branch_undone p p.bit told try trail' a' r z said in
       record {
-        none_there = w.0;
+        none_there = w.0 ∙ ap (answer_in a') z;
         clipped = w.1;
         back = u.0;
         kept = u.1;
@@ -119,10 +118,6 @@ module _ {try : List ℕ → Outcome} {n : ℕ} {f : List (List ℤ)} {row a tra
       subst (λ (l : List ℕ). TriedBy (try (assign l v (1 - c))) (newest t₄) (before t₄ a₄ trail₄) trail₄ trail' a' r) u.back (in_branch u.again other told try trail' a' r w)
 
   pub second_said : (trail' a' : List ℕ) (r : Tried) → TriedBy (try a₄) (newest t₄) (before t₄ a₄ trail₄) trail₄ trail' a' r → TriedBy (fork try a v c) t.settled a trail trail' a' (with_forks g₁ r)
-  second_said trail' a' (Found broken g₂) said =
-      let w = in_second trail' a' (Found broken g₂) said in
-      rw (u.none_there, w.0) (refl, forks_two g₂ w.1)
-  second_said trail' a' (Nothing g₂) said =
-      let w = in_second trail' a' (Nothing g₂) said in
-      let b = branch_undone u.again other told try trail' a' g₂ said in
-      rw (u.none_there, w.0) (refl, forks_two g₂ w.1, b.0 ∙ u.back, b.1 ∙ u.kept)
+  second_said trail' a' r said =
+      let w = in_second trail' a' r said in
+      rw u.none_there (w.0, forks_two r.forks w.1, λ z. let b = branch_undone u.again other told try trail' a' r z said in (b.0 ∙ u.back, b.1 ∙ u.kept))

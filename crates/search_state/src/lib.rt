@@ -6,12 +6,10 @@ mod copying;
 mod preparing;
 mod result;
 mod root;
-mod tables;
 mod unwinding;
 
-pub use copying::{copy_numbers, copy_to, unassign_all};
+pub use copying::copy_to;
 pub use preparing::prepare;
 pub use result::{Tried, add_forks, answer_of, with_forks};
 pub use root::settle_root;
-pub use tables::{no_arrangement, no_assumed, no_trail, no_values, no_weights, no_witnesses};
 pub use unwinding::{newest_of, unwind};

@@ -5,8 +5,6 @@ ghost use Rattle.rule_list.specs.Sound.{SoundList};
 ghost use Rattle.walk_occurrences.specs.Layout.{arrangement_room};
 ghost use Rattle.search_state.specs.Ready.{Prepared};
 
-use crate::copying::copy_numbers;
-
 // Arranges the clauses, and notes a witness for each: at first what stands where the clause begins. Gives how
 // many clauses there are, which is how many witnesses.
 pub fn prepare(n: usize, rules: &[i32], arrangement: &mut [u16], witnesses: &mut [u16]) -> usize
@@ -14,6 +12,6 @@ pub fn prepare(n: usize, rules: &[i32], arrangement: &mut [u16], witnesses: &mut
     ensures { Prepared n rules.now arrangement.new witnesses.new result }
 {
     walk_occurrences::arrange(n, rules, &mut *arrangement);
-    copy_numbers(walk_occurrences::begins_of(&*arrangement), witnesses);
+    witnesses.copy_from_slice(walk_occurrences::begins_of(&*arrangement));
     walk_occurrences::clause_count(&*arrangement)
 }

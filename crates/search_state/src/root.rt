@@ -6,8 +6,7 @@ ghost use Rattle.walk_occurrences.specs.Table.{Beside};
 ghost use Rattle.rule_list.specs.Sound.{SoundList};
 ghost use Rattle.search_state.specs.Root.{SettledRoot};
 
-use crate::copying::unassign_all;
-use walk_propagation::Propagated;
+use walk_propagation::DeadEnd;
 use walk_tally::Tally;
 
 // Settles the root in lent space, whatever that holds.
@@ -18,11 +17,12 @@ pub fn settle_root(
     d: usize,
     a: &mut [u8],
     trail: &mut [u16],
-) -> Propagated
+) -> Result<Tally, DeadEnd>
     requires { (length a.old ≤ max_variables) × SoundList (length a.old) rules.now × Beside (length a.old) rules.now arrangement.now × (length trail.old ≡ length a.old) }
     ensures { SettledRoot (length a.old) (clauses rules.now) row.now d trail.old a.new trail.new result }
 {
-    unassign_all(a);
+    // every variable unassigned
+    a.fill(2);
     let root = Tally {
         settled: 0,
         broken: 0,

@@ -9,19 +9,16 @@ use crate::result::Tried;
 pub fn newest_of(settled: usize) -> usize
     ensures { result ≡ settled - 1 }
 {
-    if settled == 0 {
-        return 0;
-    }
-    settled - 1
+    settled.saturating_sub(1)
 }
 
 // Passes on what a try came to; where that is nothing, it unassigns the variables of a part of the trail.
 pub fn unwind(tried: Tried, from: usize, to: usize, trail: &[u16], a: &mut [u8]) -> Tried
-    requires { MayUnwind tried to trail.now (length a.old) }
+    requires { MayUnwind tried.found to trail.now (length a.old) }
     ensures same { result ≡ tried }
-    ensures state { a.new ≡ unwound tried (slice from to trail.now) a.old }
+    ensures state { a.new ≡ unwound tried.found (slice from to trail.now) a.old }
 {
-    if let Tried::Nothing(_) = tried {
+    if tried.found.is_none() {
         walk_propagation::undo(from, to, trail, a);
     }
     tried

@@ -1,10 +1,9 @@
 -- What follows from the definitions of specs/BranchingLaws.antt.
-use Rattle.std.specs.Prelude.{◌≡◌, refl, Bool, true, false, cond, not, ◌&&◌, ◌||◌, ℕ, zero, suc, min, ◌≤◌, ◌<◌, eqb, ltb, leb, ℤ, length}
+use Rattle.std.specs.Prelude.{◌≡◌, refl, Bool, true, false, cond, not, ◌&&◌, ◌||◌, ℕ, zero, suc, min, ◌≤◌, ◌<◌, eqb, ltb, leb, ℤ, length, Option, None, Some, option_map}
 use Rattle.std.proofs.Common.{sym, ap, ap₂, subst, ◌∙◌, true≢false, arith, eqb-true, ltb-true, ltb-false, leb-true, leb-false, eq-eqb}
 use Rattle.std.proofs.Math.Bool.{and-eq-true_iff}
 use mathlib.Core.List.Memᴰ
 use mathlib.Core.List.{List, [], ◌∷◌, Memᴰ}
-use Rattle.std.proofs.Math.Option.{Option, none, some, map}
 use Rattle.std.proofs.lemmas.Bool.{eqb-false, not-true}
 use Rattle.literal.specs.Literal.{variable, value}
 use Rattle.formula.specs.Formula.{any, all, satisfied, models}
@@ -33,8 +32,8 @@ module _ (candidate : ℕ → Bool) (score : ℕ → ℕ) where
     pub wins : (u : ℕ) → 0 < u → u ≤ k → LosesTo v u
 
   abbrev pub IsBest : ℕ → Option ℕ → Type 0
-  IsBest k none = (u : ℕ) → 0 < u → u ≤ k → candidate u ≡ false
-  IsBest k (some v) = Best k v
+  IsBest k None = (u : ℕ) → 0 < u → u ≤ k → candidate u ≡ false
+  IsBest k (Some v) = Best k v
 
   -- the next variable, or one of those before
   next_or_before {ℓ} : {P : ℕ → Type ℓ} (k : ℕ) → P (suc k) → ((u : ℕ) → 0 < u → u ≤ k → P u) → (u : ℕ) → 0 < u → u ≤ suc k → P u
@@ -45,9 +44,9 @@ module _ (candidate : ℕ → Bool) (score : ℕ → ℕ) where
       go false e = let q : u ≡ suc k → ⊥ = eqb-false u (suc k) e in before u l (omega arith)
 
   best_step : (k : ℕ) (o : Option ℕ) → IsBest k o → IsBest (suc k) (better candidate score o (suc k))
-  best_step k none h = go (candidate (suc k)) refl
+  best_step k None h = go (candidate (suc k)) refl
     where
-      go : (t : Bool) → candidate (suc k) ≡ t → IsBest (suc k) (cond t (some (suc k)) none)
+      go : (t : Bool) → candidate (suc k) ≡ t → IsBest (suc k) (cond t (Some (suc k)) None)
       go true e =
           record {
             passes = e;
@@ -56,7 +55,7 @@ module _ (candidate : ℕ → Bool) (score : ℕ → ℕ) where
             wins = next_or_before {P = LosesTo (suc k)} k (λ p. omega arith) (λ u l q p. absurd (true≢false (sym p ∙ h u l q)));
           }
       go false e = next_or_before {P = λ (u : ℕ). candidate u ≡ false} k e h
-  best_step k (some v) h = go (candidate (suc k)) refl (ltb (score v) (score (suc k))) refl
+  best_step k (Some v) h = go (candidate (suc k)) refl (ltb (score v) (score (suc k))) refl
     where
       stays : LosesTo v (suc k) → Best (suc k) v
       stays here =
@@ -67,7 +66,7 @@ module _ (candidate : ℕ → Bool) (score : ℕ → ℕ) where
             wins = next_or_before {P = LosesTo v} k here (λ u l q p. h.wins u l q p);
           }
 
-      go : (t : Bool) → candidate (suc k) ≡ t → (s : Bool) → ltb (score v) (score (suc k)) ≡ s → IsBest (suc k) (cond (t && s) (some (suc k)) (some v))
+      go : (t : Bool) → candidate (suc k) ≡ t → (s : Bool) → ltb (score v) (score (suc k)) ≡ s → IsBest (suc k) (cond (t && s) (Some (suc k)) (Some v))
       go true e true q =
           record {
             passes = e;
@@ -82,19 +81,19 @@ module _ (candidate : ℕ → Bool) (score : ℕ → ℕ) where
   best_is zero = λ u l h. absurd (omega arith)
   best_is (suc k) = best_step k (best candidate score k) (best_is k)
 
-  pub best_found : (k : ℕ) {v : ℕ} → best candidate score k ≡ some v → Best k v
+  pub best_found : (k : ℕ) {v : ℕ} → best candidate score k ≡ Some v → Best k v
   best_found k e = subst (IsBest k) e (best_is k)
 
   -- a candidate among them means that there is a best one
-  pub best_exists : (k u : ℕ) → 0 < u → u ≤ k → candidate u ≡ true → (v : ℕ) × (best candidate score k ≡ some v)
+  pub best_exists : (k u : ℕ) → 0 < u → u ≤ k → candidate u ≡ true → (v : ℕ) × (best candidate score k ≡ Some v)
   best_exists k u l h p = go (best candidate score k) refl (best_is k)
     where
-      go : (o : Option ℕ) → best candidate score k ≡ o → IsBest k o → (v : ℕ) × (o ≡ some v)
-      go none e q = absurd (true≢false (sym p ∙ q u l h))
-      go (some v) e q = (v, refl)
+      go : (o : Option ℕ) → best candidate score k ≡ o → IsBest k o → (v : ℕ) × (o ≡ Some v)
+      go None e q = absurd (true≢false (sym p ∙ q u l h))
+      go (Some v) e q = (v, refl)
 
 -- the branching variable is unassigned, and one of the state's
-pub branching_sound : {n : ℕ} {a : List ℕ} → State n a → (row : List ℕ) (f : List (List ℤ)) {v : ℕ} → branching_variable row a f ≡ some v → Branches a n v
+pub branching_sound : {n : ℕ} {a : List ℕ} → State n a → (row : List ℕ) (f : List (List ℤ)) {v : ℕ} → branching_variable row a f ≡ Some v → Branches a n v
 branching_sound {n} {a} h row f {v} e =
     let r = best_found (is_candidate row a f) (score a f) (length a) e in
     let two = ((and-eq-true_iff (is_unset (value a v)) (any (offers row a (fewest row a f) v) f)).0 r.passes).0 in
@@ -124,25 +123,25 @@ shorter-fewer a c e = go (ltb (unassigned_in a e) (unassigned_in a c)) refl
     go false q = omega (arith, ltb-false (unassigned_in a e) (unassigned_in a c) q)
 
 -- the fewest of a formula, clause by clause
-pub fewest_opposed : (row a : List ℕ) (c : List ℤ) (f : List (List ℤ)) → is_opposed row a c ≡ true → fewest row a (c ∷ f) ≡ fewer (some (unassigned_in a c)) (fewest row a f)
+pub fewest_opposed : (row a : List ℕ) (c : List ℤ) (f : List (List ℤ)) → is_opposed row a c ≡ true → fewest row a (c ∷ f) ≡ fewer (Some (unassigned_in a c)) (fewest row a f)
 fewest_opposed row a c f e = rw e (go (shortest row a f))
   where
-    go : (o : Option (List ℤ)) → map (unassigned_in a) (some (shorter_of a c o)) ≡ fewer (some (unassigned_in a c)) (map (unassigned_in a) o)
-    go none = refl
-    go (some g) = ap {B = Option ℕ} some (shorter-fewer a c g)
+    go : (o : Option (List ℤ)) → option_map (unassigned_in a) (Some (shorter_of a c o)) ≡ fewer (Some (unassigned_in a c)) (option_map (unassigned_in a) o)
+    go None = refl
+    go (Some g) = ap {B = Option ℕ} Some (shorter-fewer a c g)
 
 pub fewest-other : (row a : List ℕ) (c : List ℤ) (f : List (List ℤ)) → is_opposed row a c ≡ false → fewest row a (c ∷ f) ≡ fewest row a f
 fewest-other row a c f e = rw e
 
 module _ (row a : List ℕ) (c : List ℤ) (f : List (List ℤ)) where
   -- one more clause: opposed, or not
-  with_opposed : is_opposed row a c ≡ true → (o : Option ℕ) → IsFewest row a f o → IsFewest row a (c ∷ f) (fewer (some (unassigned_in a c)) o)
-  with_opposed e none h = record { attained = (c, Memᴰ.head refl, e, refl); below = λ g m o. at g m o }
+  with_opposed : is_opposed row a c ≡ true → (o : Option ℕ) → IsFewest row a f o → IsFewest row a (c ∷ f) (fewer (Some (unassigned_in a c)) o)
+  with_opposed e None h = record { attained = (c, Memᴰ.head refl, e, refl); below = λ g m o. at g m o }
     where
       at : (g : List ℤ) → Memᴰ g (c ∷ f) → is_opposed row a g ≡ true → unassigned_in a c ≤ unassigned_in a g
       at g (Memᴰ.head z) o = omega (arith, ap (unassigned_in a) z)
       at g (Memᴰ.tail m) o = absurd (true≢false (sym o ∙ h g m))
-  with_opposed e (some k) h = record { attained = pick (leb (unassigned_in a c) k) refl; below = λ g m o. at g m o }
+  with_opposed e (Some k) h = record { attained = pick (leb (unassigned_in a c) k) refl; below = λ g m o. at g m o }
     where
       pick : (t : Bool) → leb (unassigned_in a c) k ≡ t → (g : List ℤ) × Memᴰ g (c ∷ f) × (is_opposed row a g ≡ true) × (unassigned_in a g ≡ min (unassigned_in a c) k)
       pick true q = let z : unassigned_in a c ≡ min (unassigned_in a c) k = omega (arith, leb-true (unassigned_in a c) k q) in (c, Memᴰ.head refl, e, z)
@@ -156,12 +155,12 @@ module _ (row a : List ℕ) (c : List ℤ) (f : List (List ℤ)) where
       at g (Memᴰ.tail m) o = omega (arith, h.below g m o)
 
   with_other : is_opposed row a c ≡ false → (o : Option ℕ) → IsFewest row a f o → IsFewest row a (c ∷ f) o
-  with_other e none h = λ g m. at g m
+  with_other e None h = λ g m. at g m
     where
       at : (g : List ℤ) → Memᴰ g (c ∷ f) → is_opposed row a g ≡ false
       at g (Memᴰ.head z) = ap (is_opposed row a) z ∙ e
       at g (Memᴰ.tail m) = h g m
-  with_other e (some k) h = let r = h.attained in record { attained = (r.0, Memᴰ.tail r.1, r.2, r.3); below = λ g m o. at g m o }
+  with_other e (Some k) h = let r = h.attained in record { attained = (r.0, Memᴰ.tail r.1, r.2, r.3); below = λ g m o. at g m o }
     where
       at : (g : List ℤ) → Memᴰ g (c ∷ f) → is_opposed row a g ≡ true → k ≤ unassigned_in a g
       at g (Memᴰ.head z) o = absurd (true≢false (sym o ∙ ap (is_opposed row a) z ∙ e))
@@ -175,7 +174,7 @@ fewest_is row a (c ∷ f) = go (is_opposed row a c) refl (fewest_is row a f)
     go true e h = subst (IsFewest row a (c ∷ f)) (sym (fewest_opposed row a c f e)) (with_opposed row a c f e (fewest row a f) h)
     go false e h = subst (IsFewest row a (c ∷ f)) (sym (fewest-other row a c f e)) (with_other row a c f e (fewest row a f) h)
 
-pub fewest_member : (row a : List ℕ) (f : List (List ℤ)) {k : ℕ} → fewest row a f ≡ some k
+pub fewest_member : (row a : List ℕ) (f : List (List ℤ)) {k : ℕ} → fewest row a f ≡ Some k
     → (c : List ℤ) × Memᴰ c f × (is_opposed row a c ≡ true) × (unassigned_in a c ≡ k)
 fewest_member row a f {k} e = let r : Fewest row a f k = subst (IsFewest row a f) e (fewest_is row a f) in r.attained
 
@@ -223,14 +222,14 @@ source_exists : (row a : List ℕ) (f : List (List ℤ)) → SomeOpen a f
 source_exists row a f r = go (fewest row a f) refl
   where
     go : (o : Option ℕ) → fewest row a f ≡ o → (c : List ℤ) × Memᴰ c f × (satisfied a c ≡ false) × (is_source row a o c ≡ true)
-    go none e = (r.0, r.1, r.2, ap not r.2)
-    go (some k) e =
+    go None e = (r.0, r.1, r.2, ap not r.2)
+    go (Some k) e =
         let r = fewest_member row a f e in
         (r.0, r.1, opposed_open row a r.0 r.2, (and-eq-true_iff (is_opposed row a r.0) (eqb (unassigned_in a r.0) k)).1 (r.2, eq-eqb (unassigned_in a r.0) k r.3))
 
 -- where a clause is open and none is falsified there is a branching variable
 pub branching_open : {n : ℕ} {a : List ℕ} → State n a → (row : List ℕ) (f : List (List ℤ)) → fits n f ≡ true
-    → any (is_falsified a) f ≡ false → SomeOpen a f → (v : ℕ) × (branching_variable row a f ≡ some v)
+    → any (is_falsified a) f ≡ false → SomeOpen a f → (v : ℕ) × (branching_variable row a f ≡ Some v)
 branching_open {n} {a} h row f fit alive some-open =
     let r = source_exists row a f some-open in
     let x = find-some (is_unassigned a) r.0 (open_unassigned a f alive r.0 r.1 r.2) in
@@ -240,5 +239,5 @@ branching_open {n} {a} h row f fit alive some-open =
     (source_candidate row a f r.0 r.1 r.3 x.0 w.0 w.1)
 
 pub branching_exists : {n : ℕ} {a : List ℕ} → State n a → (row : List ℕ) (f : List (List ℤ)) → fits n f ≡ true
-    → any (is_falsified a) f ≡ false → models (complete row a) f ≡ false → (v : ℕ) × (branching_variable row a f ≡ some v)
+    → any (is_falsified a) f ≡ false → models (complete row a) f ≡ false → (v : ℕ) × (branching_variable row a f ≡ Some v)
 branching_exists {a = a} h row f fit alive incomplete = branching_open h row f fit alive (undecided_open row a f incomplete)

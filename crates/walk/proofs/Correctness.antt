@@ -1,7 +1,6 @@
 -- What follows from the definitions of specs/Correctness.antt.
-use Rattle.std.specs.Prelude.{◌≡◌, refl, true, false, List, ℕ, zero, suc, ◌-◌, ◌<◌, ℤ, get_or, replicate}
+use Rattle.std.specs.Prelude.{◌≡◌, refl, true, false, List, ℕ, zero, suc, ◌-◌, ◌<◌, ℤ, get_or, replicate, Option, None, Some}
 use Rattle.std.proofs.Common.{ap, ⊎_elim, arith}
-use Rattle.std.proofs.Math.Option.{Option, none, some}
 use Rattle.std.proofs.lemmas.List.{length-replicate}
 use Rattle.formula.specs.Formula.{models}
 use Rattle.walk.specs.State.{State, unassigned, assign, fits}
@@ -37,8 +36,8 @@ start_extends n c = record { keeps = λ i q. absurd (q (nothing_assigned n i)) }
 
 module _ (n : ℕ) (f : List (List ℤ)) (fit : fits n f ≡ true) (row : List ℕ) (d : ℕ) where
   after_settling : (a : List ℕ) (o : Option Answer) → Right n f row d (propagate f a) o → Right n f row d a o
-  after_settling a none p = λ c m e. p c m (propagate_forced f m.satisfies e)
-  after_settling a (some x) p = (p.0, extends_trans p.1 (propagate_extends f a))
+  after_settling a None p = λ c m e. p c m (propagate_forced f m.satisfies e)
+  after_settling a (Some x) p = (p.0, extends_trans p.1 (propagate_extends f a))
 
   of_completion : (a : List ℕ) → State n a → is_dead_end f row d a ≡ false → models (complete row a) f ≡ true → Right n f row d a (completed row a).answer
   of_completion a s e t = (
@@ -48,9 +47,9 @@ module _ (n : ℕ) (f : List (List ℤ)) (fit : fits n f ≡ true) (row : List �
 
   pub after-fork : (a : List ℕ) (v b : ℕ) → Branches a n v → b < 2 → (x y : Option Answer)
       → Right n f row d (assign a v b) x → Right n f row d (assign a v (1 - b)) y → Right n f row d a (first_answer x y)
-  after-fork a v b k l (some x) y p q = (p.0, extends_trans p.1 (assign_extends a v b k.unset))
-  after-fork a v b k l none (some y) p q = (q.0, extends_trans q.1 (assign_extends a v (1 - b) k.unset))
-  after-fork a v b k l none none p q = λ c m e. ⊎_elim (p c m) (q c m) (extends_branch m.choice e v b k.above k.up_to l)
+  after-fork a v b k l (Some x) y p q = (p.0, extends_trans p.1 (assign_extends a v b k.unset))
+  after-fork a v b k l None (Some y) p q = (q.0, extends_trans q.1 (assign_extends a v (1 - b) k.unset))
+  after-fork a v b k l None None p q = λ c m e. ⊎_elim (p c m) (q c m) (extends_branch m.choice e v b k.above k.up_to l)
 
   ways : Ways n f row d (λ (a : List ℕ) (r : Outcome). Right n f row d a r.answer)
   ways =

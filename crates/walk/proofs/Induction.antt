@@ -1,7 +1,7 @@
 -- What follows from the definitions of specs/Induction.antt.
-use Rattle.std.specs.Prelude.{◌≡◌, refl, Bool, true, false, List, ℕ, zero, suc, ◌-◌, ◌≤◌, ◌<◌, ℤ}
+use Rattle.std.specs.Prelude.{◌≡◌, refl, Bool, true, false, List, ℕ, zero, suc, ◌-◌, ◌≤◌, ◌<◌, ℤ, Option, None, Some}
 use Rattle.std.proofs.Common.{sym, subst, ◌∙◌, not-suc-le-zero, arith}
-use Rattle.std.proofs.Math.Option.{Option, none, some, some-ne-none}
+use Rattle.std.proofs.lemmas.Option.{none-some}
 use Rattle.formula.specs.Formula.{models}
 use Rattle.walk.specs.State.{State, unassigned, assign, fits}
 use Rattle.walk.specs.Propagation.{propagate}
@@ -15,7 +15,7 @@ use Rattle.walk.specs.Induction.{Settled, Ways}
 
 -- where steps 1 to 3 decide nothing there is a branching variable: unassigned, and one of 1 to n
 pub branching : {n : ℕ} {a : List ℕ} → State n a → (f : List (List ℤ)) → fits n f ≡ true → (row : List ℕ) (d : ℕ) → Undecided f row d a
-    → (v : ℕ) × (branching_variable row a f ≡ some v) × Branches a n v
+    → (v : ℕ) × (branching_variable row a f ≡ Some v) × Branches a n v
 branching {n} {a} h f fit row d u =
     let r = branching_exists h row f fit (dead_causes f row d a u.alive).0 u.incomplete in
     (r.0, r.1, branching_sound h row f r.1)
@@ -26,8 +26,8 @@ module _ (n : ℕ) (f : List (List ℤ)) (fit : fits n f ≡ true) (row : List �
   decided try a s ih = at (is_dead_end f row d a) refl (models (complete row a) f) refl (is_exhausted f row d a) refl
     where
       fork : (o : Option ℕ) → branching_variable row a f ≡ o → Undecided f row d a → P a (fork_on try row a (fewest row a f) o)
-      fork none e u = let r = branching s.state f fit row d u in absurd (some-ne-none r.0 (sym r.1 ∙ e))
-      fork (some v) e u =
+      fork None e u = let r = branching s.state f fit row d u in absurd (none-some r.0 (sym (sym r.1 ∙ e)))
+      fork (Some v) e u =
           let k = branching_sound s.state row f e in
           let b : ℕ = first_value row (fewest row a f) v in
           let l : b < 2 = first_bit row (fewest row a f) v in

@@ -7,6 +7,7 @@ pub mod Examples
 pub mod Extension
 pub mod Fits
 pub mod Induction
+pub mod Levels
 pub mod Loops
 pub mod PropagationLaws
 pub mod Theorems

@@ -1,9 +1,8 @@
 -- The steps of the walk one by one: what each dead end rules out, where `decide` goes, and that the depth allowed does not matter where it is enough.
-use Rattle.std.specs.Prelude.{◌≡◌, refl, Bool, true, false, cond, ◌||◌, ℕ, zero, suc, ◌-◌, ◌≤◌, ◌<◌, eqb, ltb, ℤ, length}
+use Rattle.std.specs.Prelude.{◌≡◌, refl, Bool, true, false, cond, ◌||◌, ℕ, zero, suc, ◌-◌, ◌≤◌, ◌<◌, eqb, ltb, ℤ, length, Option, None, Some}
 use Rattle.std.proofs.Common.{sym, ap, ap₂, subst, ◌∙◌, true≢false, not-suc-le-zero, arith, lit<, eqb-true, ltb-true, ltb-false, lt-ltb}
 use Rattle.std.proofs.Math.Bool.{and-eq-true_iff, or-true}
 use mathlib.Core.List.{List, Memᴰ}
-use Rattle.std.proofs.Math.Option.{Option, none, some}
 use Rattle.literal.specs.Literal.{variable, wanted, value}
 use Rattle.formula.specs.Formula.{any, satisfied, models}
 use Rattle.wish.specs.Wish.{unwished_value, cost}
@@ -100,14 +99,14 @@ module _ (f : List (List ℤ)) (row : List ℕ) (d : ℕ) (try : List ℕ → Ou
 
 -- the first value is off or on
 pub first_bit : (row : List ℕ) (o : Option ℕ) (v : ℕ) → first_value row o v < 2
-first_bit row none v = lit< tt
-first_bit row (some k) v = omega (arith, unwished_bit (value row v))
+first_bit row None v = lit< tt
+first_bit row (Some k) v = omega (arith, unwished_bit (value row v))
 
 -- "against the wish first if step 4's first kind of rule existed": the first value breaks the wish of the branching variable
 unwished_breaks : (w b : ℕ) → 0 < cost w b → 0 < cost w (unwished_value w)
 unwished_breaks w b h = subst (λ (x : ℕ). 0 < cost w x) (cost_unwished w b h) h
 
-pub first_against : (row a : List ℕ) (f : List (List ℤ)) {k v : ℕ} → fewest row a f ≡ some k → branching_variable row a f ≡ some v
+pub first_against : (row a : List ℕ) (f : List (List ℤ)) {k v : ℕ} → fewest row a f ≡ Some k → branching_variable row a f ≡ Some v
     → 0 < cost (value row v) (first_value row (fewest row a f) v)
 first_against row a f {k} {v} e b = rw e (unwished_breaks (value row v) (wanted r.literal) (subst (λ (u : ℕ). 0 < cost (value row u) (wanted r.literal)) r.named dear))
   where
@@ -131,8 +130,8 @@ branch_fewer h v b k l = omega (arith, assign-fewer h v b k.above k.up_to k.unse
 pub fork_same : {n : ℕ} {a : List ℕ} → State n a → (f : List (List ℤ)) (row : List ℕ) (s t : List ℕ → Outcome)
     → ((b : List ℕ) → State n b → unassigned b < unassigned a → s b ≡ t b)
     → (m o : Option ℕ) → branching_variable row a f ≡ o → fork_on s row a m o ≡ fork_on t row a m o
-fork_same h f row s t same m none e = refl
-fork_same {n} {a} h f row s t same m (some v) e =
+fork_same h f row s t same m None e = refl
+fork_same {n} {a} h f row s t same m (Some v) e =
     let k = branching_sound h row f e in
     let b : ℕ = first_value row m v in
     let l : b < 2 = first_bit row m v in

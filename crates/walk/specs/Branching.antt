@@ -1,6 +1,5 @@
 -- The branching variable. Document 01, step 4: "Pick: among open rules whose unsettled entries all go against wishes, take those with fewest unsettled entries [..]. Their unsettled settings are candidates. If no such rule exists, candidates are the unsettled settings of all open rules."
-use Rattle.std.specs.Prelude.{Bool, cond, not, ◌&&◌, ◌||◌, List, [], ◌∷◌, ℕ, zero, suc, ◌+◌, ◌-◌, ◌*◌, ◌^◌, min, eqb, ltb, ℤ, length}
-use Rattle.std.proofs.Math.Option.{Option, none, some, map}
+use Rattle.std.specs.Prelude.{Bool, cond, not, ◌&&◌, ◌||◌, List, [], ◌∷◌, ℕ, zero, suc, ◌+◌, ◌-◌, ◌*◌, ◌^◌, min, eqb, ltb, ℤ, length, Option, None, Some, option_map}
 use Rattle.literal.specs.Literal.{variable, value}
 use Rattle.formula.specs.Formula.{any, all, contains}
 use Rattle.wish.specs.Wish.{is_against}
@@ -18,22 +17,22 @@ abbrev pub shorter : List ℕ → List ℤ → List ℤ → List ℤ
 shorter a c e = cond (ltb (unassigned_in a e) (unassigned_in a c)) e c
 
 abbrev pub shorter_of : List ℕ → List ℤ → Option (List ℤ) → List ℤ
-shorter_of a c none = c
-shorter_of a c (some e) = shorter a c e
+shorter_of a c None = c
+shorter_of a c (Some e) = shorter a c e
 
 -- the shortest opposed clause, if there are any
 abbrev pub shortest : List ℕ → List ℕ → List (List ℤ) → Option (List ℤ)
-shortest row a [] = none
-shortest row a (c ∷ f) = cond (is_opposed row a c) (some (shorter_of a c (shortest row a f))) (shortest row a f)
+shortest row a [] = None
+shortest row a (c ∷ f) = cond (is_opposed row a c) (Some (shorter_of a c (shortest row a f))) (shortest row a f)
 
 -- the fewest unassigned literals of an opposed clause
 abbrev pub fewest : List ℕ → List ℕ → List (List ℤ) → Option ℕ
-fewest row a f = map (unassigned_in a) (shortest row a f)
+fewest row a f = option_map (unassigned_in a) (shortest row a f)
 
 -- the clauses that give the candidates
 abbrev pub is_source : List ℕ → List ℕ → Option ℕ → List ℤ → Bool
-is_source row a none c = is_open a c
-is_source row a (some size) c = is_opposed row a c && eqb (unassigned_in a c) size
+is_source row a None c = is_open a c
+is_source row a (Some size) c = is_opposed row a c && eqb (unassigned_in a c) size
 
 -- a variable occurs in a clause
 abbrev pub is_of : ℕ → ℤ → Bool
@@ -67,12 +66,12 @@ score a f v = score_of (weight_of a v 1 f) (weight_of a v 0 f)
 
 -- "Highest score wins, then lowest number": the best candidate so far, and the next variable
 abbrev pub better : (ℕ → Bool) → (ℕ → ℕ) → Option ℕ → ℕ → Option ℕ
-better candidate score none v = cond (candidate v) (some v) none
-better candidate score (some u) v = cond (candidate v && ltb (score u) (score v)) (some v) (some u)
+better candidate score None v = cond (candidate v) (Some v) None
+better candidate score (Some u) v = cond (candidate v && ltb (score u) (score v)) (Some v) (Some u)
 
 -- the best of the variables 1 to k
 abbrev pub best : (ℕ → Bool) → (ℕ → ℕ) → ℕ → Option ℕ
-best candidate score zero = none
+best candidate score zero = None
 best candidate score (suc k) = better candidate score (best candidate score k) (suc k)
 
 abbrev pub branching_variable : List ℕ → List ℕ → List (List ℤ) → Option ℕ

@@ -1,7 +1,6 @@
 -- When one assignment extends another, and what stays as it is then: what holds, what is falsified, and the wishes that are broken.
 use Rattle.std.specs.Prelude.{◌≡◌, ℕ, get_or}
 use mathlib.Core.List.{List}
-use Rattle.literal.specs.Literal.{value}
 
 -- b extends a if it has a's value wherever a has one
 pub record Extends (b a : List ℕ) : Type 0 where

@@ -1,17 +1,16 @@
 -- Unit propagation. Document 01, step 1: "Settle: while an open rule has exactly one unsettled entry, the lowest numbered such rule has that entry made to hold."
-use Rattle.std.specs.Prelude.{cond, List, [], ◌∷◌, ℕ, zero, suc, ℤ}
-use Rattle.std.proofs.Math.Option.{Option, none, some}
+use Rattle.std.specs.Prelude.{cond, List, [], ◌∷◌, ℕ, zero, suc, ℤ, Option, None, Some}
 use Rattle.walk.specs.State.{find, unassigned, satisfy, is_unassigned, is_unit}
 
 -- the one unassigned literal of the lowest numbered unit clause
 abbrev pub unit_literal : List ℕ → List (List ℤ) → Option ℤ
-unit_literal a [] = none
+unit_literal a [] = None
 unit_literal a (c ∷ f) = cond (is_unit a c) (find (is_unassigned a) c) (unit_literal a f)
 
 -- one round of unit propagation, and what comes after it
 abbrev pub propagate_round : (List ℕ → List ℕ) → List ℕ → Option ℤ → List ℕ
-propagate_round rest a none = a
-propagate_round rest a (some x) = rest (satisfy a x)
+propagate_round rest a None = a
+propagate_round rest a (Some x) = rest (satisfy a x)
 
 -- at most k rounds
 abbrev pub propagate_by : ℕ → List (List ℤ) → List ℕ → List ℕ

@@ -1,7 +1,6 @@
 -- Partial assignments, and how a clause stands in one (document 01, "The wish search").
 -- A state of the walk is an assignment of n bytes: 0 off, 1 on, 2 unassigned (document 01: not settled).
-use Rattle.std.specs.Prelude.{◌≡◌, Bool, cond, not, ◌&&◌, List, [], ◌∷◌, ℕ, zero, suc, ◌≤◌, eqb, ltb, leb, ℤ, length, get_or, set}
-use Rattle.std.proofs.Math.Option.{Option, none, some}
+use Rattle.std.specs.Prelude.{◌≡◌, Bool, cond, not, ◌&&◌, List, [], ◌∷◌, ℕ, zero, suc, ◌≤◌, eqb, ltb, leb, ℤ, length, get_or, set, Option, None, Some}
 use Rattle.literal.specs.Literal.{variable, wanted, value}
 use Rattle.formula.specs.Formula.{all, satisfied}
 
@@ -10,9 +9,9 @@ abbrev pub count {ℓ} : {A : Type ℓ} → (A → Bool) → List A → ℕ
 count p [] = 0
 count p (x ∷ l) = cond (p x) (suc (count p l)) (count p l)
 
-abbrev pub find {ℓ} : {A : Type ℓ} → (A → Bool) → List A → Option A
-find p [] = none
-find p (x ∷ l) = cond (p x) (some x) (find p l)
+abbrev pub find : {A : Type 0} → (A → Bool) → List A → Option A
+find p [] = None
+find p (x ∷ l) = cond (p x) (Some x) (find p l)
 
 -- the byte of an unassigned variable, and the number of these
 abbrev pub is_unset : ℕ → Bool

@@ -1,6 +1,5 @@
 -- The wish search of document 01, as one definition that runs.
-use Rattle.std.specs.Prelude.{Bool, cond, ◌&&◌, ◌||◌, List, [], ◌∷◌, ℕ, zero, suc, ◌+◌, ◌-◌, eqb, ltb, ℤ, replicate}
-use Rattle.std.proofs.Math.Option.{Option, none, some}
+use Rattle.std.specs.Prelude.{Bool, cond, ◌&&◌, ◌||◌, List, [], ◌∷◌, ℕ, zero, suc, ◌+◌, ◌-◌, eqb, ltb, ℤ, replicate, Option, None, Some}
 use Rattle.literal.specs.Literal.{value}
 use Rattle.formula.specs.Formula.{any, models}
 use Rattle.wish.specs.Wish.{free_byte, wished_value, unwished_value}
@@ -20,7 +19,7 @@ pub record Outcome : Type 0 where
   pub forks : ℕ
 
 abbrev pub dead_end : Outcome
-dead_end = record { answer = none; forks = 0 }
+dead_end = record { answer = None; forks = 0 }
 
 -- Step 1: "An open rule with no unsettled entry, or more than d broken wishes, is a dead end."
 abbrev pub is_dead_end : List (List ℤ) → List ℕ → ℕ → List ℕ → Bool
@@ -36,7 +35,7 @@ complete [] (b ∷ a) = complete_byte free_byte b ∷ complete [] a
 complete (w ∷ row) (b ∷ a) = complete_byte w b ∷ complete row a
 
 abbrev pub completed : List ℕ → List ℕ → Outcome
-completed row a = record { answer = some (record { choice = complete row a; broken = disagreement row (complete row a) }); forks = 0 }
+completed row a = record { answer = Some (record { choice = complete row a; broken = disagreement row (complete row a) }); forks = 0 }
 
 -- Step 3: "If d wishes are broken and every unsettled entry of some open rule goes against a wish, it is a dead end."
 abbrev pub is_exhausted : List (List ℤ) → List ℕ → ℕ → List ℕ → Bool
@@ -44,18 +43,18 @@ is_exhausted f row d a = eqb (disagreement row a) d && any (is_opposed row a) f
 
 -- Step 5: "Fork: against the wish first if step 4's first kind of rule existed, else on first; then the other value."
 abbrev pub first_value : List ℕ → Option ℕ → ℕ → ℕ
-first_value row none v = 1
-first_value row (some size) v = unwished_value (value row v)
+first_value row None v = 1
+first_value row (Some size) v = unwished_value (value row v)
 
 -- the first answer of two, if there is one
 abbrev pub first_answer : Option Answer → Option Answer → Option Answer
-first_answer (some x) later = some x
-first_answer none later = later
+first_answer (Some x) later = Some x
+first_answer None later = later
 
 -- The second state is tried only where the first gave no answer, and only then do its forks count.
 abbrev pub forks_after : Option Answer → Outcome → ℕ
-forks_after (some x) second = 0
-forks_after none second = second.forks
+forks_after (Some x) second = 0
+forks_after None second = second.forks
 
 abbrev pub either_of : Outcome → Outcome → Outcome
 either_of first second = record { answer = first_answer first.answer second.answer; forks = suc (first.forks + forks_after first.answer second) }
@@ -66,8 +65,8 @@ fork try a v b = either_of (try (assign a v b)) (try (assign a v (1 - b)))
 
 -- the fork on a branching variable, which exists (`branching_variable_lem` of Theorems) wherever it is asked for
 abbrev pub fork_on : (List ℕ → Outcome) → List ℕ → List ℕ → Option ℕ → Option ℕ → Outcome
-fork_on try row a size none = dead_end
-fork_on try row a size (some v) = fork try a v (first_value row size v)
+fork_on try row a size None = dead_end
+fork_on try row a size (Some v) = fork try a v (first_value row size v)
 
 -- steps 1 to 5 at a state to which unit propagation adds nothing
 abbrev pub decide : List (List ℤ) → List ℕ → ℕ → (List ℕ → Outcome) → List ℕ → Outcome

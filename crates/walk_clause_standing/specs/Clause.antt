@@ -1,6 +1,8 @@
 -- A clause of a closed list, told by the index at which it begins, and how it is read from there.
 use Rattle.std.specs.Prelude.{◌≡◌, refl, Bool, true, false, ◌&&◌, List, [], ◌∷◌, ℕ, ◌+◌, ◌-◌, ◌≤◌, ◌<◌, ℤ, pos, length, get_or, take, drop}
 use Rattle.std.proofs.Common.{sym, ap, ◌∙◌, add-one, arith, drop-cons}
+use mir.Syntax.{w32}
+use mir.Val.{SFits}
 use Rattle.literal.specs.Literal.{closes, holds}
 use Rattle.formula.specs.Formula.{any, clauses, clause_length, models}
 use Rattle.formula.specs.Laws.{length-closed, length-literal, length_past, clauses_step}
@@ -32,6 +34,10 @@ module _ (l : List ℤ) (i : ℕ) where
 pub record Tested (p : ℤ → Bool) (l : List ℤ) (from end : ℕ) (r : Bool) : Type 0 where
   pub ends : end ≡ from + clause_length (drop from l)
   pub verdict : r ≡ any p (clause_at from l)
+
+-- a test of the code says what p does, of each number that the code can hold
+abbrev pub Decides : (ℤ → Bool → Type 0) → (ℤ → Bool) → Type 0
+Decides says p = (x : ℤ) → SFits w32 x → (r : Bool) → says x r → r ≡ p x
 
 -- while it is read: no literal before i does
 pub record Passing (p : ℤ → Bool) (l : List ℤ) (from i : ℕ) : Type 0 where

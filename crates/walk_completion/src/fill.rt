@@ -9,10 +9,7 @@ use literal::Variable;
 pub fn fill_completion(row: &[u8], assignment: &mut [u8])
     ensures { assignment.new ≡ complete row.now assignment.old }
 {
-    let mut i = 0;
-    while i < assignment.len() {
-        let next = i + 1;
-        assignment[i] = complete_byte(literal::value_of(Variable(next), row), assignment[i]);
-        i = next;
+    for i in 0..assignment.len() {
+        assignment[i] = complete_byte(literal::value_of(Variable(i + 1), row), assignment[i]);
     }
 }

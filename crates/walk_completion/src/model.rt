@@ -6,6 +6,7 @@ ghost use Rattle.walk.specs.Walk.{complete};
 ghost use Rattle.walk_clause_standing.specs.Clause.{Tested};
 
 use crate::byte::completed_value;
+use walk_clause_standing::TestedClause;
 
 // Whether a literal holds in the completion.
 pub fn holds_completed(x: i32, row: &[u8], assignment: &[u8]) -> bool
@@ -14,39 +15,11 @@ pub fn holds_completed(x: i32, row: &[u8], assignment: &[u8]) -> bool
     completed_value(literal::variable_of(x), row, assignment) == literal::wanted_by(x)
 }
 
-// A clause of a list: where it ends, and whether the completion makes some literal of it hold.
-#[derive(Clone, Copy)]
-pub struct Completed {
-    pub end: usize,
-    pub satisfied: bool,
-}
-
-// Reads the clause that begins at an index, each literal once. After one that holds it looks only for
-// the clause's end.
-pub fn read_completed(rules: &[i32], from: usize, row: &[u8], assignment: &[u8]) -> Completed
-    ensures { Tested (holds (complete row.now assignment.now)) rules.now from result.end result.satisfied }
+// Reads the clause that begins at an index for a literal that holds in the completion.
+pub fn read_completed(rules: &[i32], from: usize, row: &[u8], assignment: &[u8]) -> TestedClause
+    ensures { Tested (holds (complete row.now assignment.now)) rules.now from result.end result.passed }
 {
-    let mut i = from;
-    while i < rules.len() {
-        if literal::closes(rules[i]) {
-            return Completed {
-                end: i,
-                satisfied: false,
-            };
-        }
-        if holds_completed(rules[i], row, assignment) {
-            let end = formula::clause_end(rules, i + 1);
-            return Completed {
-                end: end,
-                satisfied: true,
-            };
-        }
-        i += 1;
-    }
-    Completed {
-        end: i,
-        satisfied: false,
-    }
+    walk_clause_standing::test_clause(rules, from, |x| holds_completed(x, row, assignment))
 }
 
 // Whether the completion satisfies every clause of a list, in one pass over it.
@@ -56,7 +29,7 @@ pub fn completes(rules: &[i32], row: &[u8], assignment: &[u8]) -> bool
     let mut from = 0;
     while from < rules.len() {
         let clause = read_completed(rules, from, row, assignment);
-        if !clause.satisfied {
+        if !clause.passed {
             return false;
         }
         from = clause.end + 1;

@@ -1,7 +1,6 @@
 -- The numbers of the clauses that pass a test: which they are, and that they rise.
 use Rattle.std.specs.Prelude.{◌≡◌, Bool, true, ℕ, ◌+◌, ◌-◌, ◌≤◌, ◌<◌, ℤ, length, get_or}
 use mathlib.Core.List.{List, []}
-use Rattle.walk_occurrences.specs.Occurrences.{numbered}
 
 -- the clause with number j, of those that are numbered from k on, passes the test
 pub record Passes (k : ℕ) (p : List ℤ → Bool) (f : List (List ℤ)) (j : ℕ) : Type 0 where

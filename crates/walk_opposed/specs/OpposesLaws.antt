@@ -7,7 +7,7 @@ use Rattle.wish.specs.Wish.{is_against}
 use Rattle.walk.specs.State.{is_unassigned}
 use Rattle.walk.specs.Branching.{assigned_or_against, is_opposed}
 use Rattle.walk_clause_standing.specs.Clause.{clause_at, Tested}
-use Rattle.walk_opposed.specs.Opposes.{opposes}
+use Rattle.walk_opposed.specs.Opposes.{opposes, spares}
 
 -- a literal that holds, one that is unassigned, and one that is assigned and does not hold
 pub opposes-held : (row a : List ℕ) (x : ℤ) → holds a x ≡ true → opposes row a x ≡ false
@@ -31,9 +31,6 @@ opposed_all row a (x ∷ c) = go (holds a x) (assigned_or_against row a x) (sati
     go false false false = refl
 
 -- or if none of them is one that does not, which is what reading it looks for
-abbrev pub spares : List ℕ → List ℕ → ℤ → Bool
-spares row a x = not (opposes row a x)
-
 pub opposed_none : (row a : List ℕ) (c : List ℤ) → is_opposed row a c ≡ not (any (spares row a) c)
 opposed_none row a c = opposed_all row a c ∙ each c
   where
@@ -46,6 +43,10 @@ opposed_none row a c = opposed_all row a c ∙ each c
     each (x ∷ c) = ap (λ (b : Bool). opposes row a x && b) (each c) ∙ go (opposes row a x) (any (spares row a) c)
 
 -- so a clause that was read is opposed where no such literal was found
+pub told_opposed : (row a : List ℕ) (l : List ℤ) (from end : ℕ) (r : Bool) → Tested (spares row a) l from end r → not r ≡ is_opposed row a (clause_at from l)
+told_opposed row a l from end r t = sym (opposed_none row a (clause_at from l) ∙ ap not (sym t.verdict))
+
+-- and it ends where it ends
 pub read_opposed : (row a : List ℕ) (l : List ℤ) (from end : ℕ) (r : Bool) → Tested (spares row a) l from end r
     → (end ≡ from + clause_length (drop from l)) × (not r ≡ is_opposed row a (clause_at from l))
-read_opposed row a l from end r t = (t.ends, sym (opposed_none row a (clause_at from l) ∙ ap not (sym t.verdict)))
+read_opposed row a l from end r t = (t.ends, told_opposed row a l from end r t)

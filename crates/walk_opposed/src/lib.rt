@@ -7,5 +7,5 @@ mod pair;
 mod shortest;
 
 pub use clause::is_opposed;
-pub use fewest::{Fewest, fewest_opposed};
+pub use fewest::fewest_opposed;
 pub use pair::{shorter, unassigned_in};

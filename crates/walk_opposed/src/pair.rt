@@ -7,15 +7,10 @@ ghost use Rattle.walk.specs.State.{unassigned_in};
 pub fn unassigned_in(clause: &[i32], assignment: &[u8]) -> usize
     ensures { result ≡ unassigned_in assignment.now clause.now }
 {
-    let mut count: usize = 0;
-    let mut i = 0;
-    while i < clause.len() {
-        if walk_clause_standing::is_unassigned(clause[i], assignment) {
-            count += 1;
-        }
-        i += 1;
-    }
-    count
+    clause
+        .iter()
+        .filter(|x| walk_clause_standing::is_unassigned(**x, assignment))
+        .count()
 }
 
 // Of two clauses the one with fewer unassigned literals, the first if equal, handed back as itself.

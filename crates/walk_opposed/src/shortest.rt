@@ -1,6 +1,5 @@
 // The shortest opposed clause of a list.
-ghost use Rattle.std.specs.Prelude.{◌≡◌, true, ◌<◌, length, drop};
-ghost use Rattle.std.proofs.Math.Option.{some};
+ghost use Rattle.std.specs.Prelude.{◌≡◌, true, ◌<◌, length, drop, Some};
 ghost use Rattle.formula.specs.Formula.{clauses};
 ghost use Rattle.walk.specs.Branching.{is_opposed, shortest};
 ghost use Rattle.walk_clause_standing.specs.Clause.{clause_at};
@@ -9,27 +8,19 @@ ghost use Rattle.walk_opposed.specs.Opposed.{KeepsShortest, NoneShort};
 use crate::clause::read_opposed;
 use crate::pair::{shorter, unassigned_in};
 
-// Where an opposed clause begins, if there is one.
-#[derive(Clone, Copy)]
-pub enum Begins {
-    At(usize),
-    Nothing,
-}
-
-// Goes through the list until a clause is opposed.
-pub fn find_opposed(rules: &[i32], row: &[u8], assignment: &[u8]) -> Begins
+// Where an opposed clause begins, if there is one: goes through the list until a clause is opposed.
+pub fn find_opposed(rules: &[i32], row: &[u8], assignment: &[u8]) -> Option<usize>
     ensures { KeepsShortest row.now assignment.now rules.now result }
 {
     let mut from = 0;
     while from < rules.len() {
         let reading = read_opposed(rules, from, row, assignment);
-        let end = reading.end;
-        if reading.opposed {
-            return Begins::At(from);
+        if !reading.passed {
+            return Some(from);
         }
-        from = end + 1;
+        from = reading.end + 1;
     }
-    Begins::Nothing
+    None
 }
 
 // The shortest opposed clause, handed back as itself, given where one begins that it is not before. None has
@@ -42,7 +33,7 @@ pub fn shortest_opposed<'a>(
 ) -> &'a [i32]
     requires first_in_bounds { (first < length rules.now) × (is_opposed row.now assignment.now (clause_at first rules.now) ≡ true) }
     requires none_short { NoneShort row.now assignment.now (clauses (drop first rules.now)) }
-    ensures { some result.now ≡ shortest row.now assignment.now (clauses (drop first rules.now)) }
+    ensures { Some result.now ≡ shortest row.now assignment.now (clauses (drop first rules.now)) }
 {
     let first_end = formula::clause_end(rules, first);
     let mut kept = &rules[first..first_end];
@@ -54,7 +45,7 @@ pub fn shortest_opposed<'a>(
         }
         let reading = read_opposed(rules, from, row, assignment);
         let end = reading.end;
-        if reading.opposed {
+        if !reading.passed {
             let best = shorter(kept, &rules[from..end], assignment);
             kept = best;
             size = unassigned_in(kept, assignment);

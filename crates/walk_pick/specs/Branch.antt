@@ -1,17 +1,9 @@
 -- The branching variable from the weights and the marks.
-use Rattle.std.specs.Prelude.{Bool, ◌&&◌, List, ℕ, ◌+◌, ◌*◌, ◌^◌, ◌≤◌, ◌<◌, length, get_or}
-use Rattle.std.proofs.Math.Option.{Option, none, some}
+use Rattle.std.specs.Prelude.{Bool, ◌&&◌, List, ℕ, ◌+◌, ◌*◌, ◌^◌, ◌≤◌, ◌<◌, length, get_or, Option, None, Some}
 use Rattle.literal.specs.Literal.{value}
 use Rattle.walk.specs.State.{is_unset}
 use Rattle.walk.specs.Branching.{score_of}
 use Rattle.walk_weighing.specs.Weights.{is_marked}
-use Rattle.walk_pick.specs.declared.best.Branch.{Branch}
-use Rattle.walk_pick.specs.declared.best.Branch.TheVariants.{Nothing, On}
-
--- the variable that a `Branch` holds
-abbrev pub variable_of : Branch → Option ℕ
-variable_of Nothing = none
-variable_of (On v) = some v.0
 
 -- a variable's score, and whether it is a candidate
 abbrev pub score_by : List ℕ → ℕ → ℕ
@@ -28,5 +20,5 @@ pub record Scorable (n : ℕ) (weights marks : List ℕ) : Type 0 where
 
 -- the best so far is one of the variables 1 to n
 abbrev pub UpTo : ℕ → Option ℕ → Type 0
-UpTo n none = Unit {0}
-UpTo n (some v) = v ≤ n
+UpTo n None = Unit {0}
+UpTo n (Some v) = v ≤ n

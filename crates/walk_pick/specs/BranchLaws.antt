@@ -1,10 +1,9 @@
 -- That the weights and the marks of a formula give its branching variable, and that a sound list can be weighed.
-use Rattle.std.specs.Prelude.{◌≡◌, refl, Bool, true, false, cond, not, ◌&&◌, ◌||◌, ℕ, ◌+◌, ◌*◌, ◌≤◌, ◌<◌, ltb, leb, ℤ, length}
+use Rattle.std.specs.Prelude.{◌≡◌, refl, Bool, true, false, cond, not, ◌&&◌, ◌||◌, ℕ, ◌+◌, ◌*◌, ◌≤◌, ◌<◌, ltb, leb, ℤ, length, Option, None, Some}
 use Rattle.std.proofs.Common.{sym, ap, ap₂, subst, ◌∙◌, add-one, arith, lit<, length-drop, ne_eqb, lt-ltb, le-ltb, le-leb}
 use Rattle.std.proofs.Math.Path.{fun_ext}
 use Rattle.std.proofs.Math.Bool.{and-eq-true_iff}
 use mathlib.Core.List.{List, [], ◌∷◌, Memᴰ}
-use Rattle.std.proofs.Math.Option.{Option, none, some}
 use Rattle.std.proofs.lemmas.Bool.{eqb-false, not-true}
 use Rattle.literal.specs.Literal.{variable, wanted, is_literal, value}
 use Rattle.literal.specs.Slots.{slot, is_at, wanted_bit, slot-literal}
@@ -48,16 +47,16 @@ module _ (row a : List ℕ) (size : Option ℕ) (f : List (List ℤ)) (weights :
 module _ (candidate : ℕ → Bool) (score : ℕ → ℕ) (v : ℕ) where
   -- the next variable: no candidate, the first, a better one, and one that is not better
   pub better-other : candidate v ≡ false → (o : Option ℕ) → better candidate score o v ≡ o
-  better-other e none = rw e
-  better-other e (some u) = rw e
+  better-other e None = rw e
+  better-other e (Some u) = rw e
 
-  pub better_first : candidate v ≡ true → better candidate score none v ≡ some v
+  pub better_first : candidate v ≡ true → better candidate score None v ≡ Some v
   better_first e = rw e
 
-  pub better_next : candidate v ≡ true → (u p q : ℕ) → p ≡ score u → q ≡ score v → p < q → better candidate score (some u) v ≡ some v
+  pub better_next : candidate v ≡ true → (u p q : ℕ) → p ≡ score u → q ≡ score v → p < q → better candidate score (Some u) v ≡ Some v
   better_next e u p q f g h = rw (e, lt-ltb (score u) (score v) (omega arith))
 
-  pub better_kept : candidate v ≡ true → (u p q : ℕ) → p ≡ score u → q ≡ score v → q ≤ p → better candidate score (some u) v ≡ some u
+  pub better_kept : candidate v ≡ true → (u p q : ℕ) → p ≡ score u → q ≡ score v → q ≤ p → better candidate score (Some u) v ≡ Some u
   better_kept e u p q f g h = rw (e, le-ltb (score u) (score v) (omega arith))
 
 -- the leader after the variables 1 to i
@@ -68,14 +67,14 @@ pub record Leads (candidate : ℕ → Bool) (score : ℕ → ℕ) (n i : ℕ) (o
 
 module _ (candidate : ℕ → Bool) (score : ℕ → ℕ) (n : ℕ) where
   inside_next : (v : ℕ) (o : Option ℕ) → UpTo n o → v ≤ n → UpTo n (better candidate score o v)
-  inside_next v none u h = go (candidate v)
+  inside_next v None u h = go (candidate v)
     where
-      go : (b : Bool) → UpTo n (cond b (some v) none)
+      go : (b : Bool) → UpTo n (cond b (Some v) None)
       go true = h
       go false = tt
-  inside_next v (some w) u h = go (candidate v && ltb (score w) (score v))
+  inside_next v (Some w) u h = go (candidate v && ltb (score w) (score v))
     where
-      go : (b : Bool) → UpTo n (cond b (some v) (some w))
+      go : (b : Bool) → UpTo n (cond b (Some v) (Some w))
       go true = h
       go false = u
 

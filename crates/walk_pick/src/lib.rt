@@ -11,16 +11,15 @@ ghost use Rattle.rule_list.specs.Sound.{SoundList};
 ghost use Rattle.walk_occurrences.specs.Layout.{begins_of};
 ghost use Rattle.walk_occurrences.specs.Table.{Located};
 ghost use Rattle.walk_witnesses.specs.Witnesses.{Witnesses};
-ghost use Rattle.walk_opposed.specs.Opposed.{size_of, NoneShort};
+ghost use Rattle.walk_opposed.specs.Opposed.{NoneShort};
 ghost use Rattle.walk_pick.specs.Branch.{score_by, candidate_by, Scorable};
 ghost use Rattle.walk_weighing.specs.Weights.{weights_of, marks_of};
 ghost use Rattle.walk.specs.Branching.{best};
 ghost use Rattle.walk.specs.Walk.{first_value};
 ghost use Rattle.walk_pick.specs.Pick.{branch_on, pick_spent, pick_of};
 
-use crate::best::{Branch, best_variable};
+use crate::best::best_variable;
 use literal::Variable;
-use walk_opposed::Fewest;
 
 // The branching variable with the value that it takes first.
 #[derive(Clone, Copy)]
@@ -29,14 +28,7 @@ pub struct Decision {
     pub value: u8,
 }
 
-// What is decided of a state.
-#[derive(Clone, Copy)]
-pub enum Pick {
-    DeadEnd,
-    Branch(Decision),
-}
-
-// Decides a propagated state whose completion is no model. The numbers to weigh with are lent from the root: as
+// Decides a propagated state whose completion is no model: where it branches, or nothing at a dead end. The numbers to weigh with are lent from the root: as
 // locals they would stand in the frame of every level into which this is inlined. So are the witnesses, which
 // are remembered from state to state.
 pub fn pick_branch(
@@ -48,7 +40,7 @@ pub fn pick_branch(
     a: &[u8],
     witnesses: &mut [u16],
     weights: &mut [u64],
-) -> Pick
+) -> Option<Decision>
     requires broken_value { (broken ≡ disagreement row.now a.now) × (SoundList (length a.now) rules.now) }
     requires a_in_bounds { 3 * length a.now + 2 < length weights.old }
     requires none_short { NoneShort row.now a.now (clauses rules.now) }
@@ -83,7 +75,7 @@ fn pick_at_limit(
     a: &[u8],
     witnesses: &mut [u16],
     weights: &mut [u64],
-) -> Pick
+) -> Option<Decision>
     requires sound_list { SoundList (length a.now) rules.now }
     requires a_in_bounds { 3 * length a.now + 2 < length weights.old }
     requires located { Located rules.now (begins_of arrangement.now) × Witnesses rules.now witnesses.old }
@@ -95,38 +87,36 @@ fn pick_at_limit(
         arrangement,
         row,
         a,
-        Fewest::Nothing,
+        None,
         true,
         &mut *witnesses,
         &mut *weights,
     ) {
-        return Pick::DeadEnd;
+        return None;
     }
-    best_branch(row, Fewest::Nothing, a, weights)
+    best_branch(row, None, a, weights)
 }
 
 // The best variable by the weights and the marks, with its first value.
-fn best_branch(row: &[u8], size: Fewest, a: &[u8], weights: &[u64]) -> Pick
+fn best_branch(row: &[u8], size: Option<usize>, a: &[u8], weights: &[u64]) -> Option<Decision>
     requires { (3 * length a.now + 2 < length weights.now) × Scorable (length a.now) (weights_of (length a.now) weights.now) (marks_of (length a.now) weights.now) }
-    ensures { result ≡ branch_on row.now (size_of size) (best (candidate_by a.now (marks_of (length a.now) weights.now)) (score_by (weights_of (length a.now) weights.now)) (length a.now)) }
+    ensures { result ≡ branch_on row.now size (best (candidate_by a.now (marks_of (length a.now) weights.now)) (score_by (weights_of (length a.now) weights.now)) (length a.now)) }
 {
     let literals = 2 * a.len() + 2;
-    match best_variable(a, &weights[..literals], &weights[literals..]) {
-        // some clause is open here, so this does not occur
-        Branch::Nothing => Pick::DeadEnd,
-        Branch::On(v) => Pick::Branch(Decision {
-            variable: v,
-            value: first_value(row, size, v),
-        }),
-    }
+    // some clause is open here, so there is one
+    let variable = best_variable(a, &weights[..literals], &weights[literals..])?;
+    Some(Decision {
+        variable: variable,
+        value: first_value(row, size, variable),
+    })
 }
 
 // The value to try first: against the wish where a clause asks for that, else on.
-fn first_value(row: &[u8], size: Fewest, v: Variable) -> u8
-    ensures { result ≡ first_value row.now (size_of size) v.0 }
+fn first_value(row: &[u8], size: Option<usize>, v: Variable) -> u8
+    ensures { result ≡ first_value row.now size v.0 }
 {
     match size {
-        Fewest::Nothing => 1,
-        Fewest::Literals(_) => wish::unwished_value(literal::value_of(v, row)),
+        None => 1,
+        Some(_) => wish::unwished_value(literal::value_of(v, row)),
     }
 }

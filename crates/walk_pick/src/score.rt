@@ -1,15 +1,8 @@
 // A variable's score, and whether it is a candidate.
-ghost use Rattle.std.specs.Prelude.{◌≡◌, ℕ, ◌+◌, ◌*◌, ◌^◌, min, ◌≤◌, ◌<◌, length, get_or};
+ghost use Rattle.std.specs.Prelude.{◌≡◌, ℕ, ◌+◌, ◌*◌, ◌^◌, ◌≤◌, ◌<◌, length, get_or};
 ghost use Rattle.walk_pick.specs.Branch.{score_by, candidate_by};
 
 use literal::Variable;
-
-// The smaller of two numbers.
-pub fn lesser(p: u64, q: u64) -> u64
-    ensures { result ≡ min p q }
-{
-    if p < q { p } else { q }
-}
 
 // The score of a variable: 2P + 2Q + 3 min(P, Q) with the weights P of its literal and Q of the
 // negated one.
@@ -20,7 +13,7 @@ pub fn score_of(v: Variable, weights: &[u64]) -> u64
     let at = 2 * v.0;
     let off = weights[at];
     let on = weights[at + 1];
-    2 * on + 2 * off + 3 * lesser(on, off)
+    2 * on + 2 * off + 3 * on.min(off)
 }
 
 // Whether a variable is unassigned and marked.

@@ -1,8 +1,7 @@
 -- What looking at clauses and following the queue ask for, and what each step does.
-use Rattle.std.specs.Prelude.{◌≡◌, refl, Bool, true, false, cond, ℕ, ◌-◌, ◌≤◌, ◌<◌, ltb, ℤ, length, get_or}
+use Rattle.std.specs.Prelude.{◌≡◌, refl, Bool, true, false, cond, ℕ, ◌-◌, ◌≤◌, ◌<◌, ltb, ℤ, length, get_or, Option, None, Some, Ok, Err}
 use Rattle.std.proofs.Common.{sym, ap, ap₂, subst, ◌∙◌, arith, lt-ltb, le-ltb, eqb-true}
 use mathlib.Core.List.{List, [], ◌∷◌, ◌++◌, Memᴰ}
-use Rattle.std.proofs.Math.Option.{Option, none, some}
 use Rattle.std.proofs.Math.Seq.{slice}
 use Rattle.literal.specs.Literal.{variable, wanted, value}
 use Rattle.literal.specs.Slots.{wanted_bit}
@@ -22,7 +21,6 @@ use Rattle.walk_propagation.specs.Looked.{pending, Moved, moved_none, LookedBy}
 use Rattle.walk_propagation.specs.Searching.{Searching, not_all}
 use Rattle.walk_propagation.specs.Trail.{slice-stored}
 use Rattle.walk_propagation.specs.Unit.{unit_of, asks}
-use Rattle.walk_propagation.specs.declared.propagated.Propagated.TheVariants.{Dead, Settled}
 use Rattle.walk_propagation.specs.declared.unit.Unit.{Unit}
 use Rattle.walk_propagation.specs.declared.unit.Unit.TheVariants.{Conflict, Literal, Nothing}
 
@@ -60,26 +58,26 @@ following_moved {rules} {arrangement} h m =
 
 -- what a clause asks for decides what looking at it does
 abbrev pub look_by : List ℕ → ℕ → Pending → Unit → Option Pending
-look_by row d p Conflict = none
-look_by row d p (Literal x) = make_hold row d p (some x)
-look_by row d p Nothing = some p
+look_by row d p Conflict = None
+look_by row d p (Literal x) = make_hold row d p (Some x)
+look_by row d p Nothing = Some p
 
 pub look_by_lem : (row : List ℕ) (d : ℕ) (p : Pending) (c : List ℤ) → look row d p c ≡ look_by row d p (asks p.values c)
 look_by_lem row d p c = go (is_falsified p.values c) (is_unit p.values c) (find (is_unassigned p.values) c)
   where
-    go : (s u : Bool) (o : Option ℤ) → cond s none (cond u (make_hold row d p o) (some p)) ≡ look_by row d p (cond s Conflict (cond u (unit_of o) Nothing))
+    go : (s u : Bool) (o : Option ℤ) → cond s None (cond u (make_hold row d p o) (Some p)) ≡ look_by row d p (cond s Conflict (cond u (unit_of o) Nothing))
     go true u o = refl
-    go false true none = refl
-    go false true (some x) = refl
+    go false true None = refl
+    go false true (Some x) = refl
     go false false o = refl
 
-asks_found : (a : List ℕ) (c : List ℤ) (x : ℤ) → asks a c ≡ Literal x → find (is_unassigned a) c ≡ some x
+asks_found : (a : List ℕ) (c : List ℤ) (x : ℤ) → asks a c ≡ Literal x → find (is_unassigned a) c ≡ Some x
 asks_found a c x e = go (is_falsified a c) (is_unit a c) (find (is_unassigned a) c) e
   where
-    go : (s u : Bool) (o : Option ℤ) → cond s Conflict (cond u (unit_of o) Nothing) ≡ Literal x → o ≡ some x
+    go : (s u : Bool) (o : Option ℤ) → cond s Conflict (cond u (unit_of o) Nothing) ≡ Literal x → o ≡ Some x
     go true u o q = cc
-    go false true none q = cc
-    go false true (some y) q = cc
+    go false true None q = cc
+    go false true (Some y) q = cc
     go false false o q = cc
 
 -- a clause is looked at: its number k, and what it asks for
@@ -90,10 +88,10 @@ module _ {rules : List ℤ} {arrangement row : List ℕ} {t : Tally} {a trail : 
   abbrev outcome : ℕ → Option Pending
   outcome head = look row d (pending head t a trail) c
 
-  pub look_conflict : asks a c ≡ Conflict → LookedBy (length a) row outcome t a trail a trail (Dead t)
+  pub look_conflict : asks a c ≡ Conflict → LookedBy (length a) row outcome t a trail a trail (Err (record { tally = t }))
   look_conflict e = (λ head l. look_by_lem row d (pending head t a trail) c ∙ ap (look_by row d (pending head t a trail)) e, moved_none h.searching)
 
-  pub look-nothing : asks a c ≡ Nothing → LookedBy (length a) row outcome t a trail a trail (Settled t)
+  pub look-nothing : asks a c ≡ Nothing → LookedBy (length a) row outcome t a trail a trail (Ok t)
   look-nothing e = (λ head l. look_by_lem row d (pending head t a trail) c ∙ ap (look_by row d (pending head t a trail)) e, moved_none h.searching)
 
   module _ (x : ℤ) (e : asks a c ≡ Literal x) where
@@ -117,19 +115,19 @@ module _ {rules : List ℤ} {arrangement row : List ℕ} {t : Tally} {a trail : 
             searching = assigned_searching told h.searching inside.0 inside.1 free (wanted_bit x);
           }
 
-      next : (head : ℕ) → head ≤ t.settled → (b : Bool) → ltb d t'.broken ≡ b → outcome head ≡ cond b none (some (pending head t' a' trail'))
+      next : (head : ℕ) → head ≤ t.settled → (b : Bool) → ltb d t'.broken ≡ b → outcome head ≡ cond b None (Some (pending head t' a' trail'))
       next head l b q =
           look_by_lem row d (pending head t a trail) c
           ∙ ap (look_by row d (pending head t a trail)) e
-          ∙ ap₂ (λ (u : Bool) (p : Pending). cond u none (some p)) (ap (λ (v : List ℕ). ltb d (disagreement row v)) (sym told.values) ∙ ap (ltb d) (sym moved.searching.breaks) ∙ q) queued
+          ∙ ap₂ (λ (u : Bool) (p : Pending). cond u None (Some p)) (ap (λ (v : List ℕ). ltb d (disagreement row v)) (sym told.values) ∙ ap (ltb d) (sym moved.searching.breaks) ∙ q) queued
         where
           queued : record { values = satisfy a x; queue = slice head t.settled trail ++ (variable x ∷ []) } ≡ pending head t' a' trail'
           queued =
               ap₂ (λ (v q : List ℕ). record { values = v; queue = q }) (sym told.values)
               (sym (ap₂ (λ (m : ℕ) (l : List ℕ). slice head m l) told.settled told.order ∙ slice-stored trail head t.settled (variable x) l (omega (arith, room, h.searching.long))))
 
-      pub look_over : d < t'.broken → LookedBy (length a) row outcome t a trail a' trail' (Dead t')
+      pub look_over : d < t'.broken → LookedBy (length a) row outcome t a trail a' trail' (Err (record { tally = t' }))
       look_over l = (λ head q. next head q true (lt-ltb d t'.broken l), moved)
 
-      pub look-held : t'.broken ≤ d → LookedBy (length a) row outcome t a trail a' trail' (Settled t')
+      pub look-held : t'.broken ≤ d → LookedBy (length a) row outcome t a trail a' trail' (Ok t')
       look-held l = (λ head q. next head q false (le-ltb d t'.broken l), moved)

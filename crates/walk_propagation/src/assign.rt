@@ -25,5 +25,7 @@ pub fn assign_to(
     let place = tally.settled;
     let cost = wish::cost_of(literal::value_of(v, row), bit);
     trail[place] = number as u16;
-    walk_tally::assigned(tally, at, bit, cost, a)
+    let mut counted = tally;
+    walk_tally::assign(&mut counted, at, bit, cost, a);
+    counted
 }

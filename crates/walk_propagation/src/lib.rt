@@ -11,5 +11,5 @@ mod unit;
 
 pub use assign::assign_to;
 pub use propagate::{propagate_all, propagate_units};
-pub use propagated::Propagated;
+pub use propagated::DeadEnd;
 pub use trail::undo;

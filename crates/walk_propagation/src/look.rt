@@ -6,7 +6,7 @@ ghost use Rattle.walk_propagation.specs.Looked.{LookedBy, pending};
 ghost use Rattle.walk_propagation.specs.Looking.{Looking, Numbers};
 
 use crate::assign::assign_to;
-use crate::propagated::Propagated;
+use crate::propagated::DeadEnd;
 use crate::unit::{Unit, unit_at};
 use literal::Clause;
 use walk_tally::Tally;
@@ -22,23 +22,23 @@ pub fn look_at(
     tally: Tally,
     a: &mut [u8],
     trail: &mut [u16],
-) -> Propagated
+) -> Result<Tally, DeadEnd>
     requires looking { Looking rules.now arrangement.now row.now tally a.old trail.old }
     requires number_nonzero { (0 < number.0) × (number.0 ≤ length (clauses rules.now)) }
     ensures { LookedBy (length a.old) row.now (λ (head : ℕ). look row.now d (pending head tally a.old trail.old) (get_or (clauses rules.now) (number.0 - 1) [])) tally a.old trail.old a.new trail.new result }
 {
     let from = walk_occurrences::begin_of(arrangement, number);
     match unit_at(rules, from, a) {
-        Unit::Conflict => Propagated::Dead(tally),
-        Unit::Nothing => Propagated::Settled(tally),
+        Unit::Conflict => Err(DeadEnd { tally: tally }),
+        Unit::Nothing => Ok(tally),
         Unit::Literal(x) => {
             let v = literal::variable_of(x);
             let bit = literal::wanted_by(x);
             let with = assign_to(tally, row, v, bit, a, trail);
             if d < with.broken {
-                return Propagated::Dead(with);
+                return Err(DeadEnd { tally: with });
             }
-            Propagated::Settled(with)
+            Ok(with)
         }
     }
 }
@@ -53,20 +53,15 @@ pub fn look_at_all(
     tally: Tally,
     a: &mut [u8],
     trail: &mut [u16],
-) -> Propagated
+) -> Result<Tally, DeadEnd>
     requires looking { Looking rules.now arrangement.now row.now tally a.old trail.old }
     requires numbers { Numbers rules.now numbers.now }
     ensures { LookedBy (length a.old) row.now (λ (head : ℕ). look_at (clauses rules.now) row.now d (pending head tally a.old trail.old) numbers.now) tally a.old trail.old a.new trail.new result }
 {
     let mut present = tally;
-    let mut i = 0;
-    while i < numbers.len() {
-        let number = Clause(numbers[i] as usize);
-        match look_at(rules, arrangement, number, row, d, present, a, trail) {
-            Propagated::Dead(t) => return Propagated::Dead(t),
-            Propagated::Settled(t) => present = t,
-        }
-        i += 1;
+    for number in numbers {
+        let clause = Clause(*number as usize);
+        present = look_at(rules, arrangement, clause, row, d, present, a, trail)?;
     }
-    Propagated::Settled(present)
+    Ok(present)
 }

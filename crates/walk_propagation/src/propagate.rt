@@ -6,7 +6,7 @@ ghost use Rattle.walk_propagation.specs.Looked.{ComesTo, pending};
 ghost use Rattle.walk_propagation.specs.Looking.{Following};
 
 use crate::look::look_at_all;
-use crate::propagated::Propagated;
+use crate::propagated::DeadEnd;
 use crate::queue::follow_queue;
 use walk_tally::Tally;
 
@@ -21,12 +21,12 @@ pub fn propagate_units(
     tally: Tally,
     a: &mut [u8],
     trail: &mut [u16],
-) -> Propagated
+) -> Result<Tally, DeadEnd>
     requires { Following rules.now arrangement.now row.now tally a.old trail.old × (from ≤ tally.settled) }
     ensures { ComesTo (length a.old) row.now (follow (clauses rules.now) row.now d (pending from tally a.old trail.old)) tally a.old trail.old a.new trail.new result }
 {
     if d < tally.broken {
-        return Propagated::Dead(tally);
+        return Err(DeadEnd { tally: tally });
     }
     follow_queue(rules, arrangement, row, d, from, tally, a, trail)
 }
@@ -40,25 +40,14 @@ pub fn propagate_all(
     tally: Tally,
     a: &mut [u8],
     trail: &mut [u16],
-) -> Propagated
+) -> Result<Tally, DeadEnd>
     requires { Following rules.now arrangement.now row.now tally a.old trail.old }
     ensures { ComesTo (length a.old) row.now (settle (clauses rules.now) row.now d a.old) tally a.old trail.old a.new trail.new result }
 {
     if d < tally.broken {
-        return Propagated::Dead(tally);
+        return Err(DeadEnd { tally: tally });
     }
     let numbers = walk_occurrences::every_clause(arrangement);
-    match look_at_all(rules, arrangement, numbers, row, d, tally, a, trail) {
-        Propagated::Dead(t) => Propagated::Dead(t),
-        Propagated::Settled(t) => follow_queue(
-            rules,
-            arrangement,
-            row,
-            d,
-            tally.settled,
-            t,
-            a,
-            trail,
-        ),
-    }
+    let looked = look_at_all(rules, arrangement, numbers, row, d, tally, a, trail)?;
+    follow_queue(rules, arrangement, row, d, tally.settled, looked, a, trail)
 }

@@ -1,9 +1,8 @@
-// What propagation comes to.
+// What propagation comes to where it is not the propagated state.
 use walk_tally::Tally;
 
-// A dead end or the propagated state, with the tally of what is assigned then.
+// A dead end, with the tally of what is assigned then, for whoever undoes it.
 #[derive(Clone, Copy)]
-pub enum Propagated {
-    Dead(Tally),
-    Settled(Tally),
+pub struct DeadEnd {
+    pub tally: Tally,
 }

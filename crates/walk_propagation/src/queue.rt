@@ -9,7 +9,7 @@ ghost use Rattle.walk_occurrences.specs.Layout.{HasPart, part_at};
 ghost use Rattle.walk_propagation.specs.Looking.{Following};
 
 use crate::look::look_at_all;
-use crate::propagated::Propagated;
+use crate::propagated::DeadEnd;
 use literal::Variable;
 use walk_tally::Tally;
 
@@ -43,7 +43,7 @@ pub fn follow_queue(
     tally: Tally,
     a: &mut [u8],
     trail: &mut [u16],
-) -> Propagated
+) -> Result<Tally, DeadEnd>
     requires { Following rules.now arrangement.now row.now tally a.old trail.old × (from ≤ tally.settled) }
     ensures { ComesTo (length a.old) row.now (drain (clauses rules.now) row.now d (pending from tally a.old trail.old)) tally a.old trail.old a.new trail.new result }
 {
@@ -52,11 +52,8 @@ pub fn follow_queue(
     while head < present.settled {
         let v = Variable(trail[head] as usize);
         let part = false_part(v, a, arrangement);
-        match look_at_all(rules, arrangement, part, row, d, present, a, trail) {
-            Propagated::Dead(t) => return Propagated::Dead(t),
-            Propagated::Settled(t) => present = t,
-        }
+        present = look_at_all(rules, arrangement, part, row, d, present, a, trail)?;
         head += 1;
     }
-    Propagated::Settled(present)
+    Ok(present)
 }

@@ -8,10 +8,7 @@ pub fn undo(from: usize, to: usize, trail: &[u16], a: &mut [u8])
     requires { (to ≤ length trail.now) × ((j : ℕ) → j < to → (0 < get_or trail.now j 0) × (get_or trail.now j 0 ≤ length a.old)) }
     ensures { a.new ≡ undone (slice from to trail.now) a.old }
 {
-    let mut k = to;
-    while from < k {
-        k -= 1;
-        let number = trail[k] as usize;
-        a[number - 1] = 2;
+    for k in (from..to).rev() {
+        a[trail[k] as usize - 1] = 2;
     }
 }

@@ -1,7 +1,7 @@
 // What a clause asks for.
-ghost use Rattle.std.specs.Prelude.{◌≡◌, cond, eqb};
+ghost use Rattle.std.specs.Prelude.{◌≡◌};
 ghost use Rattle.walk_clause_standing.specs.Clause.{clause_at};
-ghost use Rattle.walk_propagation.specs.Unit.{asks};
+ghost use Rattle.walk_propagation.specs.Unit.{asks, unit_by};
 
 // A falsified clause, the one unassigned literal of a unit clause, or neither.
 #[derive(Clone, Copy)]
@@ -16,36 +16,31 @@ pub enum Unit {
 pub fn unit_at(rules: &[i32], from: usize, a: &[u8]) -> Unit
     ensures { result ≡ asks a.now (clause_at from rules.now) }
 {
-    let mut count: usize = 0;
-    let mut found: i32 = 0;
-    let mut i = from;
-    while i < rules.len() {
+    let mut found: Option<i32> = None;
+    for i in from..rules.len() {
         let x = rules[i];
         if literal::closes(x) {
-            return unit_by(count, found);
+            return unit_by(found);
         }
         if literal::holds_in(x, a) {
             return Unit::Nothing;
         }
         if walk_clause_standing::is_unassigned(x, a) {
-            if count != 0 {
+            if found.is_some() {
                 return Unit::Nothing;
             }
-            count = 1;
-            found = x;
+            found = Some(x);
         }
-        i += 1;
     }
-    unit_by(count, found)
+    unit_by(found)
 }
 
-// At the end of an open clause with so many unassigned literals, none or one.
-fn unit_by(count: usize, found: i32) -> Unit
-    ensures { result ≡ cond (eqb count 0) Unit.Conflict (Unit.Literal found) }
+// At the end of an open clause with one unassigned literal, or with none.
+fn unit_by(found: Option<i32>) -> Unit
+    ensures { result ≡ unit_by found }
 {
-    if count == 0 {
-        Unit::Conflict
-    } else {
-        Unit::Literal(found)
+    match found {
+        None => Unit::Conflict,
+        Some(x) => Unit::Literal(x),
     }
 }

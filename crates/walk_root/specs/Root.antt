@@ -1,5 +1,5 @@
 -- The walk from its root, where every variable is unassigned.
-use Rattle.std.specs.Prelude.{◌≡◌, true, List, [], ℕ, ◌+◌, ◌<◌, ℤ, length, get_or, take, replicate}
+use Rattle.std.specs.Prelude.{◌≡◌, true, List, [], ℕ, ◌+◌, ◌<◌, ℤ, length, get_or, take, replicate, None, Ok, Err}
 use Rattle.std.proofs.Common.{sym, ap, subst, ◌∙◌, arith, get_or-take, get_or-drop}
 use Rattle.std.proofs.Math.Seq.{slice, length-slice}
 use Rattle.literal.specs.Literal.{value}
@@ -17,9 +17,8 @@ use Rattle.walk_tally.specs.declared.Tally.{Tally}
 use Rattle.walk_propagation.specs.Looked.{pending}
 use Rattle.walk_propagation.specs.Searching.{Searching, settled_most}
 use Rattle.walk_unit_queue.specs.Theorems.{Covers}
-use Rattle.walk_propagation.specs.declared.propagated.Propagated.TheVariants.{Dead, Settled}
+use Rattle.walk_propagation.specs.declared.propagated.DeadEnd.{DeadEnd}
 use Rattle.search_state.specs.declared.result.Tried.{Tried}
-use Rattle.search_state.specs.declared.result.Tried.TheVariants.{Nothing}
 use Rattle.search_state.specs.Result.{clip}
 use Rattle.search_state.specs.Newest.{newest}
 use Rattle.walk_unit_queue.specs.Due.{NoneDue}
@@ -39,13 +38,13 @@ module _ (n : ℕ) (rules : List ℤ) (sound : SoundList n rules) (row : List �
   stepped = walk_step n f fit row d (replicate n 2) (start_state n)
 
   -- a dead end of propagation is one of the walk
-  pub walk_dead : {trail a trail' : List ℕ} {t : Tally} → SettledRoot n f row d trail a trail' (Dead t) → (a' : List ℕ) → RootSays (walk n f row d) a' (Nothing 0)
+  pub walk_dead : {trail a trail' : List ℕ} {e : DeadEnd} → SettledRoot n f row d trail a trail' (Err e) → (a' : List ℕ) → RootSays (walk n f row d) a' (record { found = None; forks = 0 })
   walk_dead told a' =
       let o : walk n f row d ≡ dead_end = stepped ∙ decide_dead f row d (walk_from f row d) (propagate f (replicate n 2)) told.0 in
       (ap (λ (o : Outcome). o.answer) o, sym (ap (λ (o : Outcome). clip o.forks) o))
 
   -- else the walk from the settled root is the walk
-  pub walk_settled : {trail a trail' : List ℕ} {t : Tally} → SettledRoot n f row d trail a trail' (Settled t) → (k : ℕ) (back trail'' trail''' a' : List ℕ) (r : Tried) → TriedBy (walk_from f row d a) k back trail'' trail''' a' r
+  pub walk_settled : {trail a trail' : List ℕ} {t : Tally} → SettledRoot n f row d trail a trail' (Ok t) → (k : ℕ) (back trail'' trail''' a' : List ℕ) (r : Tried) → TriedBy (walk_from f row d a) k back trail'' trail''' a' r
       → RootSays (walk n f row d) a' r
   walk_settled {a = a} told k back trail'' trail''' a' r w =
       let again = walk_step n f fit row d (propagate f (replicate n 2)) (propagate_state f (start_state n)) in

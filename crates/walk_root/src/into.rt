@@ -14,15 +14,15 @@ pub fn walk_into(n: usize, rules: &[i32], row: &[u8], d: usize, choice: &mut [u8
     requires { Startable n rules.now (length choice.old) }
     ensures { Reaches (walk n (clauses rules.now) row.now d) n choice.old choice.new result }
 {
-    let mut arrangement = search_state::no_arrangement();
-    let mut witnesses = search_state::no_witnesses();
-    let mut a = search_state::no_values();
-    let mut trail = search_state::no_trail();
-    let mut weights = search_state::no_weights();
+    let mut arrangement = [0u16; 50282];
+    let mut witnesses = [0u16; 9000];
+    let mut a = [0u8; 640];
+    let mut trail = [0u16; 640];
+    let mut weights = [0u64; 1923];
     let many = search_state::prepare(n, rules, &mut arrangement, &mut witnesses);
     // what n variables need of the table: the weighing clears what it is lent
     let places = 3 * n + 3;
-    match walk_from_root(
+    let tried = walk_from_root(
         rules,
         &arrangement,
         row,
@@ -31,11 +31,9 @@ pub fn walk_into(n: usize, rules: &[i32], row: &[u8], d: usize, choice: &mut [u8
         &mut trail[..n],
         &mut witnesses[..many],
         &mut weights[..places],
-    ) {
-        Tried::Found(broken, forks) => {
-            search_state::copy_to(&a[..n], choice);
-            Tried::Found(broken, forks)
-        }
-        Tried::Nothing(forks) => Tried::Nothing(forks),
+    );
+    if tried.found.is_some() {
+        search_state::copy_to(&a[..n], choice);
     }
+    tried
 }

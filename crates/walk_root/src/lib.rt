@@ -12,7 +12,6 @@ ghost use Rattle.search_state.specs.Tried.{RootSays};
 
 pub use into::walk_into;
 use search_state::Tried;
-use walk_propagation::Propagated;
 
 // Walks from the root in lent space, whatever that holds but for the witnesses.
 pub fn walk_from_root(
@@ -29,18 +28,21 @@ pub fn walk_from_root(
     ensures root { RootSays (walk (length a.old) (clauses rules.now) row.now d) a.new result }
     ensures witness { Witnesses rules.now witnesses.new }
 {
-    match search_state::settle_root(rules, arrangement, row, d, a, trail) {
-        Propagated::Dead(_) => Tried::Nothing(0),
-        Propagated::Settled(t) => walk_try_and_fork::attempt(
-            rules,
-            arrangement,
-            row,
-            d,
-            t,
-            a,
-            trail,
-            witnesses,
-            weights,
-        ),
-    }
+    let Ok(settled) = search_state::settle_root(rules, arrangement, row, d, a, trail) else {
+        return Tried {
+            found: None,
+            forks: 0,
+        };
+    };
+    walk_try_and_fork::attempt(
+        rules,
+        arrangement,
+        row,
+        d,
+        settled,
+        a,
+        trail,
+        witnesses,
+        weights,
+    )
 }

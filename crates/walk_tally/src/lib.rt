@@ -21,13 +21,3 @@ pub fn assign(tally: &mut Tally, at: usize, bit: u8, cost: usize, a: &mut [u8])
     tally.settled += 1;
     tally.broken += cost;
 }
-
-// The same with the tally by value, for callers that hold one.
-pub fn assigned(tally: Tally, at: usize, bit: u8, cost: usize, a: &mut [u8]) -> Tally
-    requires { MayAssign at cost a.old tally }
-    ensures { HasAssigned at bit cost a.old tally a.new result }
-{
-    let mut running = tally;
-    assign(&mut running, at, bit, cost, a);
-    running
-}

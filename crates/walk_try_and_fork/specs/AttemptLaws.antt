@@ -1,7 +1,8 @@
 -- Trying a state: propagation, completion, and what is left to a fork (document 01, steps 1 to 4).
-use Rattle.std.specs.Prelude.{◌≡◌, true, false, List, ℕ, ◌≤◌, ◌<◌, ℤ, length}
+use Rattle.std.specs.Prelude.{◌≡◌, true, false, List, ℕ, ◌≤◌, ◌<◌, ℤ, length, None, Some, Ok, Err}
 use Rattle.std.proofs.Common.{sym, ap, ◌∙◌, arith}
 use Rattle.std.proofs.Math.Seq.{slice}
+use Rattle.std.proofs.lemmas.Option.{none-some}
 use Rattle.formula.specs.Formula.{models}
 use Rattle.walk_opposed.specs.Opposed.{NoneShort}
 use Rattle.walk.proofs.BranchingLaws.{opposed_open}
@@ -13,17 +14,15 @@ use Rattle.walk.specs.State.{fits, unassigned, unassigned_in}
 use Rattle.walk.specs.Walk.{Outcome, dead_end, complete, completed, decide, fork, walk_from, is_dead_end}
 use Rattle.walk.proofs.WalkLaws.{walk_step, decide_dead, decide-complete}
 use Rattle.walk_pick.specs.declared.Decision.{Decision}
-use Rattle.walk_pick.specs.declared.Pick.TheVariants.{DeadEnd, Branch}
 use Rattle.walk_pick.specs.Pick.{pick_of, pick_none, pick_fork}
 use Rattle.walk_tally.specs.declared.Tally.{Tally}
-use Rattle.walk_propagation.specs.declared.propagated.Propagated.TheVariants.{Dead, Settled}
+use Rattle.walk_propagation.specs.declared.propagated.DeadEnd.{DeadEnd}
 use Rattle.walk_propagation.specs.Looked.{Moved}
 use Rattle.walk_propagation.specs.Propagated.{PropagatedBy}
 use Rattle.walk_propagation.specs.Searching.{Searching}
 use Rattle.walk_propagation.specs.Trail.{undone}
 use Rattle.walk_unit_queue.proofs.Theorems.{settled_none_due}
 use Rattle.search_state.specs.declared.result.Tried.{Tried}
-use Rattle.search_state.specs.declared.result.Tried.TheVariants.{Found, Nothing}
 use Rattle.search_state.specs.Result.{clip}
 use Rattle.walk_unit_queue.specs.Due.{NoneDue}
 use Rattle.search_state.specs.Newest.{newest, before}
@@ -37,19 +36,19 @@ module _ {n : ℕ} {row : List ℕ} {t : Tally} {a trail : List ℕ} (given : Se
 
   -- a dead end in a later state, which is undone
   ended : {t' : Tally} {a' trail' : List ℕ} → Moved n row t a trail t' a' trail' → walk_from f row d a ≡ dead_end → (a'' : List ℕ) → a'' ≡ undone (slice (newest t) t'.settled trail') a'
-      → TriedBy (walk_from f row d a) (newest t) (before t a trail) trail trail' a'' (Nothing 0)
+      → TriedBy (walk_from f row d a) (newest t) (before t a trail) trail trail' a'' (record { found = None; forks = 0 })
   ended m e a'' q = dead_undone m (newest t) (omega arith) (walk_from f row d a) e a'' q
 
   -- step 1: a dead end
-  pub by_propagation : {t' : Tally} {a' trail' : List ℕ} → PropagatedBy n f row d t a trail a' trail' (Dead t') → (a'' : List ℕ) → a'' ≡ undone (slice (newest t) t'.settled trail') a'
-      → TriedBy (walk_from f row d a) (newest t) (before t a trail) trail trail' a'' (Nothing 0)
+  pub by_propagation : {e : DeadEnd} {a' trail' : List ℕ} → PropagatedBy n f row d t a trail a' trail' (Err e) → (a'' : List ℕ) → a'' ≡ undone (slice (newest t) e.tally.settled trail') a'
+      → TriedBy (walk_from f row d a) (newest t) (before t a trail) trail trail' a'' (record { found = None; forks = 0 })
   by_propagation told a'' q = ended told.1 (step ∙ decide_dead f row d (walk_from f row d) (propagate f a) told.0) a'' q
 
 -- from the state a with its tally t to the propagated state a' with its tally t', which is no dead end
 pub record Alive (n : ℕ) (f : List (List ℤ)) (row : List ℕ) (d : ℕ) (t : Tally) (a trail : List ℕ) (t' : Tally) (a' trail' : List ℕ) : Type 0 where
   pub given : Searching n row a trail t.settled t.broken
   pub fit : fits n f ≡ true
-  pub told : PropagatedBy n f row d t a trail a' trail' (Settled t')
+  pub told : PropagatedBy n f row d t a trail a' trail' (Ok t')
 
 module _ {n : ℕ} {f : List (List ℤ)} {row : List ℕ} {d : ℕ} {t : Tally} {a trail : List ℕ} {t' : Tally} {a' trail' : List ℕ} (p : Alive n f row d t a trail t' a' trail') where
   abbrev try : List ℕ → Outcome
@@ -74,18 +73,18 @@ module _ {n : ℕ} {f : List (List ℤ)} {row : List ℕ} {d : ℕ} {t : Tally} 
       omega (arith, long)
 
   -- step 2: the completion is the answer
-  pub by_completion : (a'' : List ℕ) → a'' ≡ complete row a' → models (complete row a') f ≡ true → TriedBy (try a) (newest t) (before t a trail) trail trail' a'' (Found t'.broken 0)
+  pub by_completion : (a'' : List ℕ) → a'' ≡ complete row a' → models (complete row a') f ≡ true → TriedBy (try a) (newest t) (before t a trail) trail trail' a'' (record { found = Some t'.broken; forks = 0 })
   by_completion a'' q m =
       let o : try a ≡ completed row a' = decided ∙ decide-complete f row d try a' p.told.1 m in
-      (ap (λ (o : Outcome). o.answer) o ∙ rw (q, propagated.breaks, complete-cost row a'), sym (ap (λ (o : Outcome). clip o.forks) o))
+      (ap (λ (o : Outcome). o.answer) o ∙ rw (q, propagated.breaks, complete-cost row a'), sym (ap (λ (o : Outcome). clip o.forks) o), λ z. absurd (none-some t'.broken (sym z)))
 
   module _ (incomplete : models (complete row a') f ≡ false) where
     -- steps 3 and 4: a dead end
-    pub by_exhaustion : pick_of f row d a' ≡ DeadEnd → (a'' : List ℕ) → a'' ≡ undone (slice (newest t) t'.settled trail') a' → TriedBy (try a) (newest t) (before t a trail) trail trail' a'' (Nothing 0)
+    pub by_exhaustion : pick_of f row d a' ≡ None → (a'' : List ℕ) → a'' ≡ undone (slice (newest t) t'.settled trail') a' → TriedBy (try a) (newest t) (before t a trail) trail trail' a'' (record { found = None; forks = 0 })
     by_exhaustion e a'' q = ended p.given f p.fit d p.told.2 (decided ∙ pick_none f row d try a' p.told.1 incomplete e) a'' q
 
     -- or a variable to branch on, with the value that it takes first
-    module _ (x : Decision) (e : pick_of f row d a' ≡ Branch x) where
+    module _ (x : Decision) (e : pick_of f row d a' ≡ Some x) where
       branched : (decide f row d try a' ≡ fork try a' x.variable.0 x.value) × Branches a' n x.variable.0 × (x.value < 2)
       branched = pick_fork f row d try a' p.told.1 incomplete propagated.state x e
 
@@ -94,5 +93,5 @@ module _ {n : ℕ} {f : List (List ℤ)} {row : List ℕ} {d : ℕ} {t : Tally} 
 
       -- step 5: what the fork says, undone where it found nothing
       pub by_fork : (trail'' a'' a''' : List ℕ) (r : Tried) → TriedBy (fork try a' x.variable.0 x.value) t'.settled a' trail' trail'' a'' r → length trail'' ≡ length trail'
-          → a''' ≡ unwound r (slice (newest t) t'.settled trail'') a'' → TriedBy (try a) (newest t) (before t a trail) trail trail'' a''' r
+          → a''' ≡ unwound r.found (slice (newest t) t'.settled trail'') a'' → TriedBy (try a) (newest t) (before t a trail) trail trail'' a''' r
       by_fork trail'' a'' a''' r w l q = fork-undone p.told.2 (newest t) (omega arith) (try a) (fork try a' x.variable.0 x.value) (decided ∙ branched.0) trail'' a'' a''' r w q

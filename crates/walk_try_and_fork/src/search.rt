@@ -13,8 +13,7 @@ ghost use Rattle.search_state.specs.Ready.{Ready};
 ghost use Rattle.search_state.specs.Tried.{TriedBy};
 
 use search_state::{Tried, newest_of, unwind};
-use walk_pick::{Decision, Pick};
-use walk_propagation::Propagated;
+use walk_pick::Decision;
 use walk_tally::Tally;
 
 // The walk from a state in which only clauses of the newest variable can ask for anything. Where it finds
@@ -38,12 +37,19 @@ pub fn attempt(
     ensures witness { Witnesses rules.now witnesses.new }
 {
     let from = newest_of(tally.settled);
+    let nothing = Tried {
+        found: None,
+        forks: 0,
+    };
     match walk_propagation::propagate_units(rules, arrangement, row, d, from, tally, a, trail) {
-        Propagated::Dead(t) => unwind(Tried::Nothing(0), from, t.settled, trail, a),
-        Propagated::Settled(t) => {
+        Err(dead) => unwind(nothing, from, dead.tally.settled, trail, a),
+        Ok(t) => {
             if walk_completion::completes(rules, row, a) {
                 walk_completion::fill_completion(row, a);
-                return Tried::Found(t.broken, 0);
+                return Tried {
+                    found: Some(t.broken),
+                    forks: 0,
+                };
             }
             match walk_pick::pick_branch(
                 rules,
@@ -55,8 +61,8 @@ pub fn attempt(
                 witnesses,
                 weights,
             ) {
-                Pick::DeadEnd => unwind(Tried::Nothing(0), from, t.settled, trail, a),
-                Pick::Branch(decision) => {
+                None => unwind(nothing, from, t.settled, trail, a),
+                Some(decision) => {
                     let tried = fork(
                         rules,
                         arrangement,
@@ -100,7 +106,7 @@ fn fork(
     let v = decision.variable;
     let value = decision.value;
     let first = walk_propagation::assign_to(tally, row, v, value, a, trail);
-    match attempt(
+    let tried = attempt(
         rules,
         arrangement,
         row,
@@ -110,24 +116,23 @@ fn fork(
         trail,
         witnesses,
         weights,
-    ) {
-        Tried::Found(broken, forks) => Tried::Found(broken, search_state::add_forks(forks, 0)),
-        Tried::Nothing(before) => {
-            let second = walk_propagation::assign_to(tally, row, v, 1 - value, a, trail);
-            search_state::with_forks(
-                before,
-                attempt(
-                    rules,
-                    arrangement,
-                    row,
-                    d,
-                    second,
-                    a,
-                    trail,
-                    witnesses,
-                    weights,
-                ),
-            )
-        }
+    );
+    if tried.found.is_some() {
+        return search_state::with_forks(0, tried);
     }
+    let second = walk_propagation::assign_to(tally, row, v, 1 - value, a, trail);
+    search_state::with_forks(
+        tried.forks,
+        attempt(
+            rules,
+            arrangement,
+            row,
+            d,
+            second,
+            a,
+            trail,
+            witnesses,
+            weights,
+        ),
+    )
 }

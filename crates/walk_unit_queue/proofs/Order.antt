@@ -1,7 +1,7 @@
 -- The order in which unit clauses are taken does not matter. No arrangement is named here: that settling by it ends as settling by the list does, which document 02 (L10) asks, is `sound_alike` in Theorems.antt.
 use Rattle.std.specs.Prelude.{◌≡◌, refl, ◌⊎◌, Bool, true, false, cond, not, ◌&&◌, List, [], ◌∷◌, ℕ, suc, ◌≤◌, eqb, ℤ, get_or}
 use Rattle.std.proofs.Common.{sym, ap, ap₂, ◌∙◌, inl, inr, true≢false, arith, ext_get_or}
-use Rattle.std.proofs.Math.Option.{some-injective}
+use Rattle.std.proofs.lemmas.Option.{same_Some}
 use Rattle.std.proofs.Math.Decide.{ℕ_discrete}
 use Rattle.literal.specs.Literal.{holds}
 use Rattle.formula.specs.Formula.{any, satisfied}
@@ -47,7 +47,7 @@ unit_holds {f} {c} {a} h quiet alive {x} u = go (satisfied c u.clause) refl
     go : (t : Bool) → satisfied c u.clause ≡ t → holds c x ≡ true
     go true e =
         let y = satisfied_by_unassigned h u.clause was.0 e in
-        let same = some-injective y.0 x (sym (find_only (is_unassigned a) was.1 y.1 y.3) ∙ u.literal) in
+        let same = same_Some y.0 x (sym (find_only (is_unassigned a) was.1 y.1 y.3) ∙ u.literal) in
         ap (holds c) (sym same) ∙ y.2
     go false e =
         absurd (omega (arith, two_left c u.clause e (quiet u.clause u.stands) (any_false (is_falsified c) alive u.stands), fewer-unassigned h u.clause, was.1))

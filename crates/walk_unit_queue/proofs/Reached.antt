@@ -1,9 +1,9 @@
 -- What follows from the definitions of specs/Reached.antt.
-use Rattle.std.specs.Prelude.{◌≡◌, refl, ◌⊎◌, Bool, true, false, cond, ◌||◌, ℕ, ◌+◌, ◌-◌, ◌≤◌, ◌<◌, ltb, ℤ, length, get_or}
+use Rattle.std.specs.Prelude.{◌≡◌, refl, ◌⊎◌, Bool, true, false, cond, ◌||◌, ℕ, ◌+◌, ◌-◌, ◌≤◌, ◌<◌, ltb, ℤ, length, get_or, Option, None, Some}
 use Rattle.std.proofs.Common.{sym, ap, subst, ◌∙◌, inl, inr, true≢false, arith, length-append, eqb-true, eq-eqb, ltb-false}
 use mathlib.Core.List.Memᴰ
 use mathlib.Core.List.{List, [], ◌∷◌, ◌++◌, Memᴰ}
-use Rattle.std.proofs.Math.Option.{Option, none, some, some-ne-none}
+use Rattle.std.proofs.lemmas.Option.{none-some}
 use Rattle.literal.specs.Literal.{variable, wanted, value, holds}
 use Rattle.literal.specs.Slots.{wanted_bit}
 use Rattle.formula.specs.Formula.{any, contains, satisfied}
@@ -55,7 +55,7 @@ module _ (n : ℕ) (f : List (List ℤ)) (fit : fits n f ≡ true) (row : List �
             go (inr w) = inr w
 
     -- it is unit, and its literal x is made to hold
-    module _ (u : is_unit p.values c ≡ true) (x : ℤ) (found : find (is_unassigned p.values) c ≡ some x) where
+    module _ (u : is_unit p.values c ≡ true) (x : ℤ) (found : find (is_unassigned p.values) c ≡ Some x) where
       unit : UnitOf f p.values x
       unit = record { clause = c; stands = member; unit = u; literal = found }
 
@@ -122,17 +122,17 @@ module _ (n : ℕ) (f : List (List ℤ)) (fit : fits n f ≡ true) (row : List �
     looked = go (is_falsified p.values c) refl (is_unit p.values c) refl
       where
         literal : is_unit p.values c ≡ true → (o : Option ℤ) → find (is_unassigned p.values) c ≡ o → Looked n f row d a m rest (make_hold row d p o)
-        literal u none e =
+        literal u None e =
             let s = find-some (is_unassigned p.values) c (omega (arith, (unit_one p.values c u).1)) in
-            absurd (some-ne-none s.0 (sym s.1 ∙ e))
-        literal u (some x) e = limit (ltb d (disagreement row (satisfy p.values x))) refl
+            absurd (none-some s.0 (sym (sym s.1 ∙ e)))
+        literal u (Some x) e = limit (ltb d (disagreement row (satisfy p.values x))) refl
           where
-            limit : (t : Bool) → ltb d (disagreement row (satisfy p.values x)) ≡ t → Looked n f row d a m rest (cond t none (some (record { values = satisfy p.values x; queue = p.queue ++ (variable x ∷ []) })))
+            limit : (t : Bool) → ltb d (disagreement row (satisfy p.values x)) ≡ t → Looked n f row d a m rest (cond t None (Some (record { values = satisfy p.values x; queue = p.queue ++ (variable x ∷ []) })))
             limit true q = over u x e q
             limit false q = held u x e q
 
         go : (s : Bool) → is_falsified p.values c ≡ s → (t : Bool) → is_unit p.values c ≡ t
-            → Looked n f row d a m rest (cond s none (cond t (make_hold row d p (find (is_unassigned p.values) c)) (some p)))
+            → Looked n f row d a m rest (cond s None (cond t (make_hold row d p (find (is_unassigned p.values) c)) (Some p)))
         go true e t u = falsified e
         go false e true u = literal u (find (is_unassigned p.values) c) refl
         go false e false u = passed e u
@@ -146,5 +146,5 @@ module _ (n : ℕ) (f : List (List ℤ)) (fit : fits n f ≡ true) (row : List �
     where
       go : (o : Option Pending) → Looked n f row d a m ks o → ((q : Pending) → Reached n f row d a m q ks → Looked n f row d a m [] (look_at f row d q ks))
           → Looked n f row d a m [] (and_then o (λ (q : Pending). look_at f row d q ks))
-      go none w ih = w
-      go (some q) w ih = ih q w
+      go None w ih = w
+      go (Some q) w ih = ih q w

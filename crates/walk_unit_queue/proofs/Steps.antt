@@ -1,8 +1,7 @@
 -- What follows from the definitions of specs/Steps.antt.
-use Rattle.std.specs.Prelude.{◌≡◌, refl, true, ℕ, zero, suc, ◌≤◌, ◌<◌, ℤ}
+use Rattle.std.specs.Prelude.{◌≡◌, refl, true, ℕ, zero, suc, ◌≤◌, ◌<◌, ℤ, Option, None, Some}
 use Rattle.std.proofs.Common.{sym, ap, subst}
 use mathlib.Core.List.{List, [], ◌∷◌, ◌++◌}
-use Rattle.std.proofs.Math.Option.{Option, none, some}
 use Rattle.literal.specs.Literal.{variable}
 use Rattle.walk.specs.State.{State, unassigned, satisfy, is_unassigned, fits}
 use Rattle.walk.specs.Propagation.{unit_literal, propagate_round, propagate_by, propagate}
@@ -36,7 +35,7 @@ steps_more {f} a [] {b} {x} e u = (subst (λ (c : List ℕ). UnitOf f c x) (sym 
 steps_more a (y ∷ xs) s u = (s.0, steps_more (satisfy a y) xs s.1 u)
 
 -- Unit propagation in document 01's order is one such way, and leaves no unit clause.
-lowest : (f : List (List ℤ)) (a : List ℕ) {x : ℤ} → unit_literal a f ≡ some x → UnitOf f a x
+lowest : (f : List (List ℤ)) (a : List ℕ) {x : ℤ} → unit_literal a f ≡ Some x → UnitOf f a x
 lowest f a e = let r = unit_clause a f e in record { clause = r.0; stands = r.1; unit = r.2; literal = r.3 }
 
 rounds : (f : List (List ℤ)) (k : ℕ) (a : List ℕ) → (xs : List ℤ) × Steps f a xs (propagate_by k f a)
@@ -44,8 +43,8 @@ rounds f zero a = ([], refl)
 rounds f (suc k) a = go (unit_literal a f) refl (λ b. rounds f k b)
   where
     go : (o : Option ℤ) → unit_literal a f ≡ o → ((b : List ℕ) → (xs : List ℤ) × Steps f b xs (propagate_by k f b)) → (xs : List ℤ) × Steps f a xs (propagate_round (propagate_by k f) a o)
-    go none e ih = ([], refl)
-    go (some x) e ih = let r = ih (satisfy a x) in (x ∷ r.0, (lowest f a e, r.1))
+    go None e ih = ([], refl)
+    go (Some x) e ih = let r = ih (satisfy a x) in (x ∷ r.0, (lowest f a e, r.1))
 
 pub propagate_steps : (f : List (List ℤ)) (a : List ℕ) → (xs : List ℤ) × Steps f a xs (propagate f a)
 propagate_steps f a = rounds f (unassigned a) a

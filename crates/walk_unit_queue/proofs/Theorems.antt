@@ -1,9 +1,8 @@
 -- What follows from the definitions of specs/Theorems.antt.
-use Rattle.std.specs.Prelude.{◌≡◌, refl, ◌⊎◌, Bool, true, false, cond, ◌||◌, ℕ, zero, suc, ◌+◌, ◌-◌, ◌≤◌, ◌<◌, ltb, ℤ, length, get_or}
+use Rattle.std.specs.Prelude.{◌≡◌, refl, ◌⊎◌, Bool, true, false, cond, ◌||◌, ℕ, zero, suc, ◌+◌, ◌-◌, ◌≤◌, ◌<◌, ltb, ℤ, length, get_or, Option, None, Some}
 use Rattle.std.proofs.Common.{sym, ap, subst, ◌∙◌, inl, inr, true≢false, arith, ltb-false, le-ltb}
 use mathlib.Core.List.Memᴰ
 use mathlib.Core.List.{List, [], ◌∷◌, ◌++◌, Memᴰ}
-use Rattle.std.proofs.Math.Option.{Option, none, some}
 use Rattle.literal.specs.Literal.{value}
 use Rattle.formula.specs.Formula.{any, contains, clauses}
 use Rattle.distance.specs.Distance.{disagreement}
@@ -41,7 +40,7 @@ module _ (n : ℕ) (f : List (List ℤ)) (fit : fits n f ≡ true) (row : List �
   dead r = reached_dead n f fit row d a s r.steps.0 r.state r.steps.1 r.dead
 
   -- with an empty queue nothing is left to do
-  ended : (m : ℕ) (b : List ℕ) → Reached n f row d a m (record { values = b; queue = [] }) [] → EndsAlike f row d (propagate f a) (some b)
+  ended : (m : ℕ) (b : List ℕ) → Reached n f row d a m (record { values = b; queue = [] }) [] → EndsAlike f row d (propagate f a) (Some b)
   ended m b r =
       let e : b ≡ propagate f a = reached_settled n f fit row d a s r.steps.0 b r.steps.1 quiet alive in
       (e, ap (is_dead_end f row d) (sym e) ∙ alive)
@@ -70,15 +69,15 @@ module _ (n : ℕ) (f : List (List ℤ)) (fit : fits n f ≡ true) (row : List �
   drained : (m : ℕ) (p : Pending) → Reached n f row d a m p [] → EndsAlike f row d (propagate f a) (drain_by m f row d p)
   drained zero p r = go p.queue refl
     where
-      go : (q : List ℕ) → p.queue ≡ q → EndsAlike f row d (propagate f a) (some p.values)
+      go : (q : List ℕ) → p.queue ≡ q → EndsAlike f row d (propagate f a) (Some p.values)
       go [] e = ended 0 p.values (subst (λ (l : List ℕ). Reached n f row d a 0 (record { values = p.values; queue = l }) []) e r)
       go (v ∷ vs) e = absurd (omega (arith, r.left, ap length e))
   drained (suc m) p r = go p.queue refl (λ q w. drained m q w)
     where
       after : (o : Option Pending) → Looked n f row d a m [] o → ((q : Pending) → Reached n f row d a m q [] → EndsAlike f row d (propagate f a) (drain_by m f row d q))
           → EndsAlike f row d (propagate f a) (and_then o (drain_by m f row d))
-      after none w ih = dead w
-      after (some q) w ih = ih q w
+      after None w ih = dead w
+      after (Some q) w ih = ih q w
 
       go : (q : List ℕ) → p.queue ≡ q → ((q : Pending) → Reached n f row d a m q [] → EndsAlike f row d (propagate f a) (drain_by m f row d q)) → EndsAlike f row d (propagate f a) (take_first (drain_by m f row d) f row d p.values q)
       go [] e ih = ended (suc m) p.values (subst (λ (l : List ℕ). Reached n f row d a (suc m) (record { values = p.values; queue = l }) []) e r)
@@ -125,11 +124,11 @@ module _ (n : ℕ) (f : List (List ℤ)) (fit : fits n f ≡ true) (row : List �
           }
 
       after : (o : Option Pending) → Looked n f row d a (unassigned a) [] o → EndsAlike f row d (propagate f a) (and_then o (drain f row d))
-      after none w = dead w
-      after (some q) w = subst (λ (k : ℕ). EndsAlike f row d (propagate f a) (drain_by k f row d q)) (sym w.left) (drained (unassigned a) q w)
+      after None w = dead w
+      after (Some q) w = subst (λ (k : ℕ). EndsAlike f row d (propagate f a) (drain_by k f row d q)) (sym w.left) (drained (unassigned a) q w)
 
       go : (t : Bool) → ltb d (disagreement row a) ≡ t
-          → EndsAlike f row d (propagate f a) (cond t none (and_then (look_at f row d (record { values = a; queue = [] }) (filled_clauses f ++ empty_clauses f)) (drain f row d)))
+          → EndsAlike f row d (propagate f a) (cond t None (and_then (look_at f row d (record { values = a; queue = [] }) (filled_clauses f ++ empty_clauses f)) (drain f row d)))
       go true e = dead_early f row d a (over_dead f row d a e)
       go false e =
           after (look_at f row d (record { values = a; queue = [] }) (filled_clauses f ++ empty_clauses f))
@@ -139,7 +138,7 @@ module _ (n : ℕ) (f : List (List ℤ)) (fit : fits n f ≡ true) (row : List �
   pub follow_alike : (q : List ℕ) → Covers f (record { values = a; queue = q }) → EndsAlike f row d (propagate f a) (follow f row d (record { values = a; queue = q }))
   follow_alike q c = go (ltb d (disagreement row a)) refl
     where
-      go : (t : Bool) → ltb d (disagreement row a) ≡ t → EndsAlike f row d (propagate f a) (cond t none (drain f row d (record { values = a; queue = q })))
+      go : (t : Bool) → ltb d (disagreement row a) ≡ t → EndsAlike f row d (propagate f a) (cond t None (drain f row d (record { values = a; queue = q })))
       go true e = dead_early f row d a (over_dead f row d a e)
       go false e =
           drained (length q + unassigned a) (record { values = a; queue = q })

@@ -1,7 +1,6 @@
 -- A state on its way, as settling by the arrangement reaches it: by steps of unit propagation, and with every clause that asks for something among those still to be looked at.
-use Rattle.std.specs.Prelude.{◌≡◌, ◌⊎◌, true, false, ℕ, ◌+◌, ◌-◌, ◌≤◌, ◌<◌, ℤ, length, get_or}
+use Rattle.std.specs.Prelude.{◌≡◌, ◌⊎◌, true, false, ℕ, ◌+◌, ◌-◌, ◌≤◌, ◌<◌, ℤ, length, get_or, Option, None, Some}
 use mathlib.Core.List.{List, [], Memᴰ}
-use Rattle.std.proofs.Math.Option.{Option, none, some}
 use Rattle.literal.specs.Literal.{variable, value, holds}
 use Rattle.formula.specs.Formula.{contains}
 use Rattle.distance.specs.Distance.{disagreement}
@@ -33,5 +32,5 @@ pub record DeadReached (f : List (List ℤ)) (row : List ℕ) (d : ℕ) (a : Lis
   pub dead : is_dead_end f row d state ≡ true
 
 abbrev pub Looked : ℕ → List (List ℤ) → List ℕ → ℕ → List ℕ → ℕ → List ℕ → Option Pending → Type 0
-Looked n f row d a m rest none = DeadReached f row d a
-Looked n f row d a m rest (some p) = Reached n f row d a m p rest
+Looked n f row d a m rest None = DeadReached f row d a
+Looked n f row d a m rest (Some p) = Reached n f row d a m p rest

@@ -1,7 +1,6 @@
 -- Unit propagation in any order: unit clauses are taken as they come, and not the lowest numbered first.
-use Rattle.std.specs.Prelude.{◌≡◌, true, false, ℕ, ℤ}
+use Rattle.std.specs.Prelude.{◌≡◌, true, false, ℕ, ℤ, Some}
 use mathlib.Core.List.{List, [], ◌∷◌, Memᴰ}
-use Rattle.std.proofs.Math.Option.{some}
 use Rattle.walk.specs.State.{find, unassigned, satisfy, is_unassigned, is_unit}
 
 -- "an open rule has exactly one unsettled entry": x is that entry, of some unit clause of f
@@ -9,7 +8,7 @@ pub record UnitOf (f : List (List ℤ)) (a : List ℕ) (x : ℤ) : Type 0 where
   pub clause : List ℤ
   pub stands : Memᴰ clause f
   pub unit : is_unit a clause ≡ true
-  pub literal : find (is_unassigned a) clause ≡ some x
+  pub literal : find (is_unassigned a) clause ≡ Some x
 
 -- the literals xs are made to hold one after the other, each the unassigned one of some unit clause; this leads from a to b
 abbrev pub Steps : List (List ℤ) → List ℕ → List ℤ → List ℕ → Type 0

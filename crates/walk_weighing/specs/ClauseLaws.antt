@@ -1,8 +1,7 @@
 -- What a clause weighs, and whether it gives candidates: a satisfied one, and an open one with so many unassigned literals.
-use Rattle.std.specs.Prelude.{◌≡◌, refl, Bool, true, false, cond, not, ◌&&◌, ◌||◌, List, [], ◌∷◌, ℕ, zero, suc, ◌+◌, ◌-◌, ◌*◌, ◌%◌, ◌^◌, min, ◌≤◌, ◌<◌, eqb, ℤ, length, get_or}
+use Rattle.std.specs.Prelude.{◌≡◌, refl, Bool, true, false, cond, not, ◌&&◌, ◌||◌, List, [], ◌∷◌, ℕ, zero, suc, ◌+◌, ◌-◌, ◌*◌, ◌%◌, ◌^◌, min, ◌≤◌, ◌<◌, eqb, ℤ, length, get_or, Option, None, Some}
 use Rattle.std.proofs.Common.{sym, ap, ap₂, ◌∙◌, pow-suc, arith, lit<, shl_exact, eq-eqb, ne_eqb}
 use Rattle.std.proofs.Math.Bool.{and-true, and-false, or-false}
-use Rattle.std.proofs.Math.Option.{Option, none, some}
 use Rattle.std.proofs.Math.Nat.{pow-le-pow_right}
 use Rattle.literal.specs.Slots.{is_at}
 use Rattle.formula.specs.Formula.{any, all, satisfied}
@@ -56,18 +55,18 @@ weight-most a i (c ∷ f) = omega (arith, weight-most a i f, most (any (is_at i)
 
 -- whether it gives candidates
 module _ (row a : List ℕ) (c : List ℤ) where
-  pub open_source : satisfied a c ≡ false → is_source row a none c ≡ true
+  pub open_source : satisfied a c ≡ false → is_source row a None c ≡ true
   open_source s = ap not s
 
-  pub size_source : (k : ℕ) → unassigned_in a c ≡ k → is_source row a (some k) c ≡ is_opposed row a c
+  pub size_source : (k : ℕ) → unassigned_in a c ≡ k → is_source row a (Some k) c ≡ is_opposed row a c
   size_source k e = ap (λ (b : Bool). is_opposed row a c && b) (eq-eqb (unassigned_in a c) k e) ∙ and-true (is_opposed row a c)
 
-  pub other_source : (k : ℕ) → (unassigned_in a c ≡ k → ⊥) → is_source row a (some k) c ≡ false
+  pub other_source : (k : ℕ) → (unassigned_in a c ≡ k → ⊥) → is_source row a (Some k) c ≡ false
   other_source k e = ap (λ (b : Bool). is_opposed row a c && b) (ne_eqb (unassigned_in a c) k e) ∙ and-false (is_opposed row a c)
 
   pub satisfied_source : satisfied a c ≡ true → (size : Option ℕ) → is_source row a size c ≡ false
-  satisfied_source s none = ap not s
-  satisfied_source s (some k) = ap (λ (b : Bool). (not b && all (assigned_or_against row a) c) && eqb (unassigned_in a c) k) s
+  satisfied_source s None = ap not s
+  satisfied_source s (Some k) = ap (λ (b : Bool). (not b && all (assigned_or_against row a) c) && eqb (unassigned_in a c) k) s
 
   -- the marks that it leaves, by r, the verdict whether it gives candidates
   pub marked_source : (size : Option ℕ) (r : Bool) → r ≡ is_source row a size c → r ≡ true → (marks marks' : List ℕ)

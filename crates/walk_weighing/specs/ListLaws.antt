@@ -1,8 +1,7 @@
 -- The laws of weighing a list, clause by clause.
-use Rattle.std.specs.Prelude.{◌≡◌, refl, Bool, true, false, ◌&&◌, ◌||◌, List, [], ◌∷◌, ℕ, zero, suc, ◌+◌, ◌*◌, ◌≤◌, ◌<◌, ltb, leb, ℤ, pos, length, get_or, take, drop}
+use Rattle.std.specs.Prelude.{◌≡◌, refl, Bool, true, false, ◌&&◌, ◌||◌, List, [], ◌∷◌, ℕ, zero, suc, ◌+◌, ◌*◌, ◌≤◌, ◌<◌, ltb, leb, ℤ, pos, length, get_or, take, drop, Option}
 use Rattle.std.proofs.Common.{sym, ap, ◌∙◌, true≢false, not-suc-le-zero, le_of_suc-le-suc, add-one, arith, drop_of_length-le, drop-cons, get_or-drop, leb-true, ne_eqb}
 use Rattle.std.proofs.Math.Bool.{and-false, or-false, or_assoc, and-eq-true_iff}
-use Rattle.std.proofs.Math.Option.{Option}
 use Rattle.literal.specs.Literal.{variable}
 use Rattle.formula.specs.Formula.{any, all, clauses}
 use Rattle.walk.specs.State.{has_variable}

@@ -1,6 +1,5 @@
 -- The weights of all literals, each at its slot, and the marks of the candidates behind them.
-use Rattle.std.specs.Prelude.{◌≡◌, Bool, true, cond, not, ◌&&◌, ◌||◌, List, [], ◌∷◌, ◌++◌, ℕ, ◌+◌, ◌-◌, ◌*◌, ◌^◌, ◌≤◌, ◌<◌, eqb, ℤ, pos, length, get_or, take, drop}
-use Rattle.std.proofs.Math.Option.{Option}
+use Rattle.std.specs.Prelude.{◌≡◌, Bool, true, cond, not, ◌&&◌, ◌||◌, List, [], ◌∷◌, ◌++◌, ℕ, ◌+◌, ◌-◌, ◌*◌, ◌^◌, ◌≤◌, ◌<◌, eqb, ℤ, pos, length, get_or, take, drop, Option}
 use Rattle.literal.specs.Literal.{variable}
 use Rattle.literal.specs.Slots.{slot, is_at}
 use Rattle.formula.specs.Formula.{any, all, clauses}

@@ -9,10 +9,7 @@ pub fn add_weight(clause: &[i32], weight: u64, weights: &mut [u64])
     requires { Addable clause.now weight weights.old }
     ensures { (i : ℕ) → get_or weights.new i 0 ≡ get_or weights.old i 0 + cond (any (is_at i) clause.now) weight 0 }
 {
-    let mut k = 0;
-    while k < clause.len() {
-        let slot = literal::slot_of(clause[k]);
-        weights[slot] = weights[slot] + weight;
-        k += 1;
+    for x in clause {
+        weights[literal::slot_of(*x)] += weight;
     }
 }

@@ -3,12 +3,10 @@ ghost use Rattle.std.specs.Prelude.{◌≡◌, false, ◌-◌, ◌^◌, min, len
 ghost use Rattle.formula.specs.Formula.{satisfied};
 ghost use Rattle.walk.specs.State.{unassigned_in};
 ghost use Rattle.walk.specs.Branching.{is_source};
-ghost use Rattle.walk_opposed.specs.Opposed.{size_of};
 ghost use Rattle.walk_weighing.specs.Weights.{Weighable, Weighed};
 
 use crate::add::add_weight;
 use crate::mark::mark_variables;
-use walk_opposed::Fewest;
 
 // The weight of an open clause with so many unassigned literals, a power of 4 by a shift.
 pub fn clause_weight(count: usize) -> u64
@@ -23,12 +21,12 @@ pub fn is_source(
     count: usize,
     row: &[u8],
     assignment: &[u8],
-    fewest: Fewest,
+    fewest: Option<usize>,
 ) -> bool
     requires { (satisfied assignment.now clause.now ≡ false) × (unassigned_in assignment.now clause.now ≡ count) }
-    ensures { result ≡ is_source row.now assignment.now (size_of fewest) clause.now }
+    ensures { result ≡ is_source row.now assignment.now fewest clause.now }
 {
-    let Fewest::Literals(size) = fewest else {
+    let Some(size) = fewest else {
         return true;
     };
     if count != size {
@@ -43,12 +41,12 @@ pub fn weigh_clause(
     count: usize,
     row: &[u8],
     assignment: &[u8],
-    fewest: Fewest,
+    fewest: Option<usize>,
     weights: &mut [u64],
 )
     requires clause_value { (satisfied assignment.now clause.now ≡ false) × (unassigned_in assignment.now clause.now ≡ count) }
     requires weighable { Weighable (length assignment.now) clause.now weights.old }
-    ensures { Weighed row.now assignment.now (size_of fewest) clause.now weights.old weights.new }
+    ensures { Weighed row.now assignment.now fewest clause.now weights.old weights.new }
 {
     let literals = 2 * assignment.len() + 2;
     add_weight(clause, clause_weight(count), &mut weights[..literals]);

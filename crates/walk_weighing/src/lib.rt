@@ -2,7 +2,6 @@
 #![tactic(auto)]
 
 mod add;
-mod cells;
 mod clause;
 mod list;
 mod mark;

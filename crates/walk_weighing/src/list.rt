@@ -5,14 +5,11 @@ ghost use Rattle.walk_occurrences.specs.Layout.{begins_of};
 ghost use Rattle.walk_occurrences.specs.Table.{Located};
 ghost use Rattle.walk.specs.Branching.{is_opposed};
 ghost use Rattle.walk_witnesses.specs.Witnesses.{Witnesses};
-ghost use Rattle.walk_opposed.specs.Opposed.{size_of};
 ghost use Rattle.walk_weighing.specs.Weights.{Weighable, Weighed, WeighableList, Totals};
 
-use crate::cells::clear;
 use crate::clause::weigh_clause;
 use literal::Clause;
 use walk_clause_standing::ReadClause;
-use walk_opposed::Fewest;
 
 // Whether an open clause makes a dead end (document 01, step 3): an opposed one does where the limit is
 // spent, that is, where as many wishes are broken as may be.
@@ -33,7 +30,7 @@ fn weigh_at(
     number: Clause,
     row: &[u8],
     assignment: &[u8],
-    fewest: Fewest,
+    fewest: Option<usize>,
     spent: bool,
     witnesses: &mut [u16],
     weights: &mut [u64],
@@ -42,7 +39,7 @@ fn weigh_at(
     requires weighable { Weighable (length assignment.now) (get_or (clauses rules.now) (number.0 - 1) []) weights.old }
     ensures witness { Witnesses rules.now witnesses.new }
     ensures dead { result ≡ spent && is_opposed row.now assignment.now (get_or (clauses rules.now) (number.0 - 1) []) }
-    ensures weighed { result ≡ false → Weighed row.now assignment.now (size_of fewest) (get_or (clauses rules.now) (number.0 - 1) []) weights.old weights.new }
+    ensures weighed { result ≡ false → Weighed row.now assignment.now fewest (get_or (clauses rules.now) (number.0 - 1) []) weights.old weights.new }
 {
     if walk_witnesses::is_witnessed(rules, witnesses, number, assignment) {
         return false;
@@ -71,7 +68,7 @@ pub fn weigh_list(
     arrangement: &[u16],
     row: &[u8],
     assignment: &[u8],
-    fewest: Fewest,
+    fewest: Option<usize>,
     spent: bool,
     witnesses: &mut [u16],
     weights: &mut [u64],
@@ -80,11 +77,10 @@ pub fn weigh_list(
     requires located { Located rules.now (begins_of arrangement.now) × Witnesses rules.now witnesses.old }
     ensures witness { Witnesses rules.now witnesses.new }
     ensures dead { result ≡ spent && any (is_opposed row.now assignment.now) (clauses rules.now) }
-    ensures weighed { result ≡ false → Totals row.now assignment.now (size_of fewest) (clauses rules.now) weights.new }
+    ensures weighed { result ≡ false → Totals row.now assignment.now fewest (clauses rules.now) weights.new }
 {
-    clear(&mut *weights);
-    let mut k = 0;
-    while k < witnesses.len() {
+    weights.fill(0);
+    for k in 0..witnesses.len() {
         if weigh_at(
             rules,
             arrangement,
@@ -98,7 +94,6 @@ pub fn weigh_list(
         ) {
             return true;
         }
-        k += 1;
     }
     false
 }

@@ -9,10 +9,7 @@ pub fn mark_variables(clause: &[i32], marks: &mut [u64])
     requires { (k : ℕ) → k < length clause.now → variable (get_or clause.now k (pos 0)) < length marks.old }
     ensures { (v : ℕ) → is_marked marks.new v ≡ is_marked marks.old v || mentions v clause.now }
 {
-    let mut k = 0;
-    while k < clause.len() {
-        let v = literal::variable_of(clause[k]).0;
-        marks[v] = 1;
-        k += 1;
+    for x in clause {
+        marks[literal::variable_of(*x).0] = 1;
     }
 }

@@ -1,7 +1,7 @@
 -- `walk_pick::pick_at_limit` meets its contract: the weighing tells whether some clause is opposed, and where none is, the best variable is the branching variable.
+use Rattle.std.specs.Prelude.{None}
 use mathlib.Core.Path.{◌≡◌, sym, ap, ◌∙◌}
 use mathlib.Core.List.{List}
-use mathlib.Core.Option.{none}
 use Prim.Native.Nat.{ℕ}
 use lib.ListN.{length}
 use Rattle.formula.specs.Formula.{clauses}
@@ -32,7 +32,7 @@ module _ (c : goal.Else-weigh_list) where
 
 pub best_branch-requires : goal.best_branch-requires
 best_branch-requires c =
-    totals_scorable c.args.row.now c.args.a.now none c.args.rules.now c.args.weights.now (weights_then-else-weigh_list c) (weighable-else-weigh_list c) (weights_kept-else-weigh_list c) (c.weigh_list.ensures.weighed c.if-weigh_list.false)
+    totals_scorable c.args.row.now c.args.a.now None c.args.rules.now c.args.weights.now (weights_then-else-weigh_list c) (weighable-else-weigh_list c) (weights_kept-else-weigh_list c) (c.weigh_list.ensures.weighed c.if-weigh_list.false)
 
 -- the weights that the weighing leaves
 module _ (c : goal.After-best_branch) where
@@ -47,7 +47,7 @@ returns c =
     let f = clauses c.args.rules.now in
     let none-opposed = sym c.weigh_list.ensures.dead ∙ c.if-weigh_list.false in record {
       pick = c.best_branch.ensures
-          ∙ ap (branch_on c.args.row.now none) (totals_branch c.args.row.now c.args.a.now none f (weights_then-after-best_branch c) (c.weigh_list.ensures.weighed c.if-weigh_list.false) (none_fewest f c.args.row.now c.args.a.now none-opposed))
+          ∙ ap (branch_on c.args.row.now None) (totals_branch c.args.row.now c.args.a.now None f (weights_then-after-best_branch c) (c.weigh_list.ensures.weighed c.if-weigh_list.false) (none_fewest f c.args.row.now c.args.a.now none-opposed))
           ∙ spent_branch f c.args.row.now c.args.a.now none-opposed;
       witness = c.weigh_list.ensures.witness;
     }

@@ -8,15 +8,11 @@ use Rattle.walk_occurrences.proofs.LayoutLaws.{begins-length}
 use Rattle.search_state.specs.ReadyLaws.{prepared}
 use Rattle.search_state.proofs.preparing.prepare.Goals as goal
 
--- what is left of `arrangement`
-abbrev arrangement : goal.After-copy_numbers-arg-1 → List ℕ
-arrangement c = c.arrange.new.arrangement
-
-pub copy_numbers-requires : goal.copy_numbers-requires
-copy_numbers-requires c =
-    let long = begins-length (arrangement c) (omega (arith, c.arrange.ensures.room)) in
+pub copy_from_slice-requires : goal.copy_from_slice-requires
+copy_from_slice-requires c =
+    let long = begins-length c.arrange.new.arrangement (omega (arith, c.arrange.ensures.room)) in
     omega (arith, c.requires, ap length c.begins_of.ensures, long)
 
 pub returns : goal.returns
 returns c =
-    prepared c.arrange.ensures (c.copy_numbers.ensures ∙ c.begins_of.ensures) c.clause_count.ensures
+    prepared c.arrange.ensures (c.copy_from_slice.ensures.after ∙ c.begins_of.ensures) c.clause_count.ensures

@@ -1,7 +1,7 @@
 use mathlib.Core.Path.{◌≡◌, sym, ap, ◌∙◌}
 use mathlib.Core.Bool.{Bool, true, false, ◌&&◌}
 use mathlib.Core.List.{List}
-use Prim.Native.Nat.{ℕ, ◌+◌, ◌-◌}
+use Prim.Native.Nat.{ℕ, ◌+◌}
 use native.Mathlib.Omega.{arith}
 use lib.ListN.{drop}
 use borrow.Author.Tests.{not-true, not-false}
@@ -9,7 +9,6 @@ use Rattle.formula.specs.Formula.{clauses, models}
 use Rattle.formula.specs.Laws.{end_inside}
 use Rattle.walk_clause_standing.specs.Clause.{tested_models}
 use Rattle.walk.specs.Walk.{complete}
-use borrow.Author.Rules.{rules}
 use Rattle.walk_completion.proofs.model.completes.Goals as goal
 use Rattle.walk_completion.proofs.model.completes.Lts as lts
 use Rattle.walk_completion.proofs.model.completes.Reads as reads
@@ -36,14 +35,14 @@ abbrev filled : At-loop → List ℕ
 filled c = complete (entry c).args.row.now (entry c).args.assignment.now
 
 -- a clause that was read: what is left of the formula is that clause, which b tells, and the rest
-step : (c : After-read_completed) (b : Bool) → c.read_completed-clause.result.satisfied ≡ b
+step : (c : After-read_completed) (b : Bool) → c.read_completed-clause.result.passed ≡ b
     → models (filled (head c)) (clauses (entry (head c)).args.rules.now) ≡ b && models (filled (head c)) (clauses (drop (c.read_completed-clause.result.end + 1) (entry (head c)).args.rules.now))
 step c b q =
     let top = head c in
     let l = (entry top).args.rules.now in
     let read = c.read_completed-clause in
     top.loop-from.invariant
-    ∙ tested_models (filled top) l top.loop-from.from read.result.end read.result.satisfied read.ensures c.loop-from-test.true
+    ∙ tested_models (filled top) l top.loop-from.from read.result.end read.result.passed read.ensures c.loop-from-test.true
     ∙ ap (λ (t : Bool). t && models (filled top) (clauses (drop (read.result.end + 1) l))) q
 
 pub returns-then-not-clause : goal.returns-then-not-clause

@@ -4,7 +4,6 @@ use Prim.Native.Nat.{◌-◌}
 use lib.ListN.{length, drop}
 use Rattle.formula.specs.Formula.{clauses, models}
 use Rattle.walk.specs.Walk.{complete}
-use borrow.Author.Rules.{rules}
 use Rattle.walk_completion.proofs.model.completes.Given as goal
 
 abbrev pub invariant-loop-from : goal.invariant-loop-from

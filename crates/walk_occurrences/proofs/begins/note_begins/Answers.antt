@@ -1,10 +1,9 @@
 use mathlib.Core.Path.{◌∙◌}
-use Prim.Native.Nat.{◌-◌, ◌<◌}
+use Prim.Native.Nat.{◌<◌}
 use native.Mathlib.Omega.{arith}
 use lib.ListN.{length, length-set}
 use Rattle.formula.specs.Laws.{end_inside}
 use Rattle.walk_occurrences.proofs.BeginsLaws.{beginning_more, beginning_next, beginning_end}
-use borrow.Author.Rules.{rules}
 use Rattle.walk_occurrences.proofs.begins.note_begins.Goals as goal
 
 -- there is a place for one more clause

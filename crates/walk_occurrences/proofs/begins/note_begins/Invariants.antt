@@ -3,7 +3,6 @@ use mathlib.Core.Path.{◌≡◌}
 use Prim.Native.Nat.{◌-◌}
 use lib.ListN.{length}
 use Rattle.walk_occurrences.specs.Begins.{Beginning}
-use borrow.Author.Rules.{rules}
 use Rattle.walk_occurrences.proofs.begins.note_begins.Given as goal
 
 abbrev pub invariant-loop-from : goal.invariant-loop-from

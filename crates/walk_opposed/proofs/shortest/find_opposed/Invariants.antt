@@ -4,7 +4,6 @@ use Prim.Native.Nat.{◌-◌}
 use lib.ListN.{length, drop}
 use Rattle.formula.specs.Formula.{clauses}
 use Rattle.walk.specs.Branching.{shortest}
-use borrow.Author.Rules.{rules}
 use Rattle.walk_opposed.proofs.shortest.find_opposed.Given as goal
 
 abbrev pub invariant-loop-from : goal.invariant-loop-from

@@ -5,7 +5,6 @@ use Prim.Native.Nat.{ℕ, ◌-◌}
 use native.Mathlib.Omega.{arith}
 use lib.IntN.{ℤ}
 use lib.ListN.{get_or}
-use borrow.Author.Rules.{rules}
 use Rattle.literal.specs.Laws.{as_read}
 use Rattle.literal.specs.Literal.{variable, wanted}
 use Rattle.formula.specs.Formula.{clauses}

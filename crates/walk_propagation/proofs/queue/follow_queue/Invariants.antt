@@ -1,7 +1,6 @@
 -- `walk_propagation::queue::follow_queue` meets its contract: each turn is one of the laws of `Draining`.
 use Prim.Native.Nat.{◌-◌}
 use lib.ListN.{length}
-use borrow.Author.Rules.{rules}
 use Rattle.formula.specs.Formula.{clauses}
 use Rattle.walk_propagation.specs.Loops.{Draining}
 use Rattle.walk_propagation.proofs.queue.follow_queue.Given as goal

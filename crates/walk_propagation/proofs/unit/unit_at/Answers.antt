@@ -1,12 +1,8 @@
 use mathlib.Core.Path.{sym}
-use Prim.Native.Nat.{◌-◌}
-use mir.Syntax.{w32}
-use mir.Val.{to_z}
-use borrow.Author.Rules.{rules}
 use Rattle.walk_clause_standing.specs.Clause.{clause_at}
 use Rattle.walk_propagation.specs.Unit.{asks_all}
 use Rattle.walk_propagation.proofs.unit.unit_at.Goals as goal
 
 pub loop-i-init : goal.loop-i-init
 loop-i-init c =
-    sym (asks_all c.args.a.now (to_z w32 0) (clause_at c.args.from c.args.rules.now))
+    sym (asks_all c.args.a.now (clause_at c.args.from c.args.rules.now))

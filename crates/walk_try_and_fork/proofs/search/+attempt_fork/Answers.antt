@@ -1,14 +1,13 @@
 -- Trying a state is propagation, completion, and what is left to a fork (`AttemptLaws`); a fork tries the state with the first value, and where that finds nothing the state with the other (`ForkLaws`).
 use Rattle.std.proofs.Common.{◌≡◌, refl, sym, ap, subst, ◌∙◌, List, ℕ, ◌<◌, true, arith, length}
-use Rattle.std.specs.Prelude.{ℤ}
+use Rattle.std.specs.Prelude.{ℤ, Option, None, Some, Result, Ok, Err}
 use Rattle.std.proofs.Math.Seq.{slice}
 use Rattle.formula.specs.Formula.{clauses}
 use Rattle.walk.specs.Promises.{Branches}
 use Rattle.walk.specs.State.{fits, unassigned}
 use Rattle.walk.specs.Walk.{Outcome, fork as fork_of, walk_from}
 use Rattle.walk_tally.specs.declared.Tally.{Tally}
-use Rattle.walk_propagation.specs.declared.propagated.Propagated.{Propagated}
-use Rattle.walk_propagation.specs.declared.propagated.Propagated.TheVariants.{Dead, Settled}
+use Rattle.walk_propagation.specs.declared.propagated.DeadEnd.{DeadEnd}
 use Rattle.walk_propagation.specs.Looked.{pending, ComesTo}
 use Rattle.walk_propagation.specs.Propagated.{PropagatedBy, propagated_by}
 use Rattle.walk_propagation.specs.Searching.{Searching, undoable, searching_kept}
@@ -19,12 +18,11 @@ use Rattle.walk_unit_queue.specs.Queue.{follow}
 use Rattle.walk_unit_queue.specs.Theorems.{Covers}
 use Rattle.walk_unit_queue.proofs.Theorems.{follow_alike}
 use Rattle.search_state.specs.declared.result.Tried.{Tried}
-use Rattle.search_state.specs.declared.result.Tried.TheVariants.{Found, Nothing}
 use Rattle.search_state.specs.ForkLaws as fork-laws
 use Rattle.search_state.specs.Newest.{newest}
 use Rattle.search_state.specs.Ready.{Ready}
 use Rattle.search_state.specs.ReadyLaws.{ready_still, ready_following, long_searching, long_branches}
-use Rattle.search_state.specs.Tried.{TriedBy, MayUnwind, unwound}
+use Rattle.search_state.specs.Tried.{TriedBy, MayUnwind, unwound, is_found, not_found}
 use Rattle.walk_try_and_fork.specs.AttemptLaws as laws
 use Rattle.walk_try_and_fork.proofs.search.+attempt_fork.Goals as goal
 
@@ -36,7 +34,7 @@ module _ {rules : List ℤ} {arrangement witnesses row a trail : List ℕ} {weig
   fit = sound_fits (length a) rules ready.sound
 
   -- what propagation comes to, it comes to from the newest variable on
-  told : (r : Propagated) → ComesTo (length a) row (follow (clauses rules) row d (pending from t a trail)) t a trail a' trail' r → PropagatedBy (length a) (clauses rules) row d t a trail a' trail' r
+  told : (r : Result Tally DeadEnd) → ComesTo (length a) row (follow (clauses rules) row d (pending from t a trail)) t a trail a' trail' r → PropagatedBy (length a) (clauses rules) row d t a trail a' trail' r
   told r w =
       propagated_by (length a) (clauses rules) row d t a trail a' trail' (follow (clauses rules) row d (pending (newest t) t a trail))
       (follow_alike (length a) (clauses rules) fit row d a given.state (slice (newest t) t.settled trail) covers)
@@ -44,14 +42,17 @@ module _ {rules : List ℤ} {arrangement witnesses row a trail : List ℕ} {weig
       (subst (λ (i : ℕ). ComesTo (length a) row (follow (clauses rules) row d (pending i t a trail)) t a trail a' trail' r) place w)
 
   -- it is no dead end
-  alive : (t' : Tally) → ComesTo (length a) row (follow (clauses rules) row d (pending from t a trail)) t a trail a' trail' (Settled t') → laws.Alive (length a) (clauses rules) row d t a trail t' a' trail'
-  alive t' w = record { given = given; fit = fit; told = told (Settled t') w }
+  alive : (t' : Tally) → ComesTo (length a) row (follow (clauses rules) row d (pending from t a trail)) t a trail a' trail' (Ok t') → laws.Alive (length a) (clauses rules) row d t a trail t' a' trail'
+  alive t' w = record { given = given; fit = fit; told = told (Ok t') w }
 
 -- where a fork found nothing, the trail is as it was as far as it is undone
 may_unwind : {n : ℕ} {row a trail : List ℕ} {t : Tally} (o : Outcome) (trail' a' : List ℕ) (r : Tried) → Searching n row a trail t.settled t.broken
-    → length trail' ≡ length trail → length a' ≡ length a → TriedBy o t.settled a trail trail' a' r → MayUnwind r t.settled trail' (length a')
-may_unwind o trail' a' (Found k g) h long size w = tt
-may_unwind o trail' a' (Nothing g) h long size w = rw (size ∙ h.state.size) (undoable (searching_kept h trail' long w.3))
+    → length trail' ≡ length trail → length a' ≡ length a → TriedBy o t.settled a trail trail' a' r → MayUnwind r.found t.settled trail' (length a')
+may_unwind {n} {t = t} o trail' a' r h long size w = go r.found refl
+  where
+    go : (z : Option ℕ) → r.found ≡ z → MayUnwind r.found t.settled trail' (length a')
+    go (Some k) z = rw z tt
+    go None z = rw (z, size ∙ h.state.size) (undoable (searching_kept h trail' long (w.2 z).1))
 
 -- the call of `fork`: of the state with the tally t, where the variable v takes the value b first
 forks : {row a trail : List ℕ} (f : List (List ℤ)) (t : Tally) (v b : ℕ) → Searching (length a) row a trail t.settled t.broken → Branches a (length a) v × (b < 2) × NoneDue f a → fork-laws.Forks (length a) f row a trail t v b
@@ -61,76 +62,76 @@ pub attempt-propagate_units-requires : goal.attempt-propagate_units-requires
 attempt-propagate_units-requires t c = (ready_following c.requires.ready c.requires.searching, omega (arith, c.newest_of-from.ensures))
 
 pub attempt-unwind-requires : goal.attempt-unwind-requires
-attempt-unwind-requires t c = let s = c.in-Dead.ensures.1.searching in rw s.state.size (undoable s)
+attempt-unwind-requires t c = let s = c.in-Err.ensures.1.searching in rw s.state.size (undoable s)
 
 -- step 1: a dead end
-pub attempt-returns-in-Dead-clause-tried : goal.attempt-returns-in-Dead-clause-tried
-attempt-returns-in-Dead-clause-tried t c =
+pub attempt-returns-in-Err-clause-tried : goal.attempt-returns-in-Err-clause-tried
+attempt-returns-in-Err-clause-tried t c =
     let h = c.requires in
     let n : ℕ = length c.args.a.now in
     let a' : List ℕ = c.propagate_units.new.a in
     let trail' : List ℕ = c.propagate_units.new.trail in
-    let dead = told c.args.tally h.searching h.ready h.covers c.args.d c.newest_of-from.ensures a' trail' (Dead c.in-Dead.t) c.in-Dead.ensures in
+    let dead = told c.args.tally h.searching h.ready h.covers c.args.d c.newest_of-from.ensures a' trail' (Err c.in-Err.dead) c.in-Err.ensures in
     rw c.unwind.ensures.same
     (laws.by_propagation h.searching (clauses c.args.rules.now) (sound_fits n c.args.rules.now h.ready.sound) c.args.d dead c.unwind.new.a
-    (c.unwind.ensures.state ∙ ap (λ (i : ℕ). undone (slice i c.in-Dead.t.settled trail') a') c.newest_of-from.ensures))
+    (c.unwind.ensures.state ∙ ap (λ (i : ℕ). undone (slice i c.in-Err.dead.tally.settled trail') a') c.newest_of-from.ensures))
 
 -- step 2: the completion is the answer
 pub attempt-returns-then-completes-clause-tried : goal.attempt-returns-then-completes-clause-tried
 attempt-returns-then-completes-clause-tried t c =
     let h = c.requires in
-    let p = alive c.args.tally h.searching h.ready h.covers c.args.d c.newest_of-from.ensures c.propagate_units.new.a c.propagate_units.new.trail c.in-Settled.t c.in-Settled.ensures in
+    let p = alive c.args.tally h.searching h.ready h.covers c.args.d c.newest_of-from.ensures c.propagate_units.new.a c.propagate_units.new.trail c.in-Ok.t c.in-Ok.ensures in
     laws.by_completion p c.fill_completion.new.assignment c.fill_completion.ensures (sym c.completes.ensures ∙ c.if-completes.true)
 
 pub attempt-pick_branch-requires-clause-broken_value : goal.attempt-pick_branch-requires-clause-broken_value
 attempt-pick_branch-requires-clause-broken_value t c =
-    let s = c.in-Settled.ensures.1.searching in (s.breaks, rw s.state.size c.requires.ready.sound)
+    let s = c.in-Ok.ensures.1.searching in (s.breaks, rw s.state.size c.requires.ready.sound)
 
 pub attempt-pick_branch-requires-clause-none_short : goal.attempt-pick_branch-requires-clause-none_short
 attempt-pick_branch-requires-clause-none_short t c =
     let h = c.requires in
-    laws.propagated_none_short (alive c.args.tally h.searching h.ready h.covers c.args.d c.newest_of-from.ensures c.propagate_units.new.a c.propagate_units.new.trail c.in-Settled.t c.in-Settled.ensures)
+    laws.propagated_none_short (alive c.args.tally h.searching h.ready h.covers c.args.d c.newest_of-from.ensures c.propagate_units.new.a c.propagate_units.new.trail c.in-Ok.t c.in-Ok.ensures)
 
-pub attempt-unwind-requires-in-DeadEnd : goal.attempt-unwind-requires-in-DeadEnd
-attempt-unwind-requires-in-DeadEnd t c = let s = c.in-Settled.ensures.1.searching in rw s.state.size (undoable s)
+pub attempt-unwind-requires-in-None : goal.attempt-unwind-requires-in-None
+attempt-unwind-requires-in-None t c = let s = c.in-Ok.ensures.1.searching in rw s.state.size (undoable s)
 
 -- steps 3 and 4: a dead end
-pub attempt-returns-in-DeadEnd-clause-tried : goal.attempt-returns-in-DeadEnd-clause-tried
-attempt-returns-in-DeadEnd-clause-tried t c =
+pub attempt-returns-in-None-clause-tried : goal.attempt-returns-in-None-clause-tried
+attempt-returns-in-None-clause-tried t c =
     let h = c.requires in
     let a' : List ℕ = c.propagate_units.new.a in
     let trail' : List ℕ = c.propagate_units.new.trail in
-    let p = alive c.args.tally h.searching h.ready h.covers c.args.d c.newest_of-from.ensures a' trail' c.in-Settled.t c.in-Settled.ensures in
-    rw c.unwind-in-DeadEnd.ensures.same
-    (laws.by_exhaustion p (sym c.completes.ensures ∙ c.if-completes.false) (sym c.in-DeadEnd.ensures.pick) c.unwind-in-DeadEnd.new.a
-    (c.unwind-in-DeadEnd.ensures.state ∙ ap (λ (i : ℕ). undone (slice i c.in-Settled.t.settled trail') a') c.newest_of-from.ensures))
+    let p = alive c.args.tally h.searching h.ready h.covers c.args.d c.newest_of-from.ensures a' trail' c.in-Ok.t c.in-Ok.ensures in
+    rw c.unwind-in-None.ensures.same
+    (laws.by_exhaustion p (sym c.completes.ensures ∙ c.if-completes.false) (sym c.in-None.ensures.pick) c.unwind-in-None.new.a
+    (c.unwind-in-None.ensures.state ∙ ap (λ (i : ℕ). undone (slice i c.in-Ok.t.settled trail') a') c.newest_of-from.ensures))
 
 pub attempt-fork-tried-requires : goal.attempt-fork-tried-requires
 attempt-fork-tried-requires t c =
     let h = c.requires in
-    let p = alive c.args.tally h.searching h.ready h.covers c.args.d c.newest_of-from.ensures c.propagate_units.new.a c.propagate_units.new.trail c.in-Settled.t c.in-Settled.ensures in
+    let p = alive c.args.tally h.searching h.ready h.covers c.args.d c.newest_of-from.ensures c.propagate_units.new.a c.propagate_units.new.trail c.in-Ok.t c.in-Ok.ensures in
     let s = laws.propagated p in
-    let b = laws.branches p (sym c.completes.ensures ∙ c.if-completes.false) c.in-Branch.decision (sym c.in-Branch.ensures.pick) in (
+    let b = laws.branches p (sym c.completes.ensures ∙ c.if-completes.false) c.in-Some.decision (sym c.in-Some.ensures.pick) in (
       omega (arith, laws.propagated_fewer p),
-      (long_searching s, (ready_still s.state.size c.in-Branch.ensures.witness c.pick_branch.auto.weights h.ready, (long_branches s b.0, b.1, laws.propagated_none_due p))),
+      (long_searching s, (ready_still s.state.size c.in-Some.ensures.witness c.pick_branch.auto.weights h.ready, (long_branches s b.0, b.1, laws.propagated_none_due p))),
     )
 
-pub attempt-unwind-requires-in-Branch : goal.attempt-unwind-requires-in-Branch
-attempt-unwind-requires-in-Branch t c =
-    let x = c.in-Branch.decision in
+pub attempt-unwind-requires-in-Some : goal.attempt-unwind-requires-in-Some
+attempt-unwind-requires-in-Some t c =
+    let x = c.in-Some.decision in
     may_unwind (fork_of (walk_from (clauses c.args.rules.now) c.args.row.now c.args.d) c.propagate_units.new.a x.variable.0 x.value) c.fork-tried.new.trail c.fork-tried.new.a c.fork-tried.result
-    c.in-Settled.ensures.1.searching c.fork-tried.auto.trail c.fork-tried.auto.a c.fork-tried.ensures.tried
+    c.in-Ok.ensures.1.searching c.fork-tried.auto.trail c.fork-tried.auto.a c.fork-tried.ensures.tried
 
 -- step 5: what the fork says
-pub attempt-returns-in-Branch-clause-tried : goal.attempt-returns-in-Branch-clause-tried
-attempt-returns-in-Branch-clause-tried t c =
+pub attempt-returns-in-Some-clause-tried : goal.attempt-returns-in-Some-clause-tried
+attempt-returns-in-Some-clause-tried t c =
     let h = c.requires in
-    let p = alive c.args.tally h.searching h.ready h.covers c.args.d c.newest_of-from.ensures c.propagate_units.new.a c.propagate_units.new.trail c.in-Settled.t c.in-Settled.ensures in
+    let p = alive c.args.tally h.searching h.ready h.covers c.args.d c.newest_of-from.ensures c.propagate_units.new.a c.propagate_units.new.trail c.in-Ok.t c.in-Ok.ensures in
     let last_a : List ℕ = c.fork-tried.new.a in
     let last_trail : List ℕ = c.fork-tried.new.trail in
-    rw c.unwind-in-Branch.ensures.same
-    (laws.by_fork p (sym c.completes.ensures ∙ c.if-completes.false) c.in-Branch.decision (sym c.in-Branch.ensures.pick) last_trail last_a c.unwind-in-Branch.new.a c.fork-tried.result c.fork-tried.ensures.tried c.fork-tried.auto.trail
-    (c.unwind-in-Branch.ensures.state ∙ ap (λ (i : ℕ). unwound c.fork-tried.result (slice i c.in-Settled.t.settled last_trail) last_a) c.newest_of-from.ensures))
+    rw c.unwind-in-Some.ensures.same
+    (laws.by_fork p (sym c.completes.ensures ∙ c.if-completes.false) c.in-Some.decision (sym c.in-Some.ensures.pick) last_trail last_a c.unwind-in-Some.new.a c.fork-tried.result c.fork-tried.ensures.tried c.fork-tried.auto.trail
+    (c.unwind-in-Some.ensures.state ∙ ap (λ (i : ℕ). unwound c.fork-tried.result.found (slice i c.in-Ok.t.settled last_trail) last_a) c.newest_of-from.ensures))
 
 pub fork-assign_to-first-requires : goal.fork-assign_to-first-requires
 fork-assign_to-first-requires t c =
@@ -142,8 +143,8 @@ fork-assign_to-first-requires t c =
       settled_in_bounds = (omega (arith, room, h.searching.long), omega (arith, room, h.ready.few), omega (arith, room, h.searching.few, h.ready.few));
     }
 
-pub fork-attempt-requires : goal.fork-attempt-requires
-fork-attempt-requires t c =
+pub fork-attempt-tried-requires : goal.fork-attempt-tried-requires
+fork-attempt-tried-requires t c =
     let h = c.requires in
     let p = forks (clauses c.args.rules.now) c.args.tally c.args.decision.variable.0 c.args.decision.value h.searching h.branches in
     let first = c.assign_to-first.ensures in
@@ -153,12 +154,22 @@ fork-attempt-requires t c =
     )
 
 -- Nothing was found, and the state before the fork is there again.
+-- the first value has the answer
+pub fork-returns-then-is_some-clause-tried : goal.fork-returns-then-is_some-clause-tried
+fork-returns-then-is_some-clause-tried t c =
+    let h = c.requires in
+    let p = forks (clauses c.args.rules.now) c.args.tally c.args.decision.variable.0 c.args.decision.value h.searching h.branches in
+    let try : List ℕ → Outcome = walk_from (clauses c.args.rules.now) c.args.row.now c.args.d in
+    let there = is_found c.attempt-tried.result.found (sym c.is_some.ensures ∙ c.if-is_some.true) in
+    rw c.with_forks.ensures
+    (fork-laws.first_found p p.bit c.assign_to-first.ensures try c.attempt-tried.new.trail c.attempt-tried.new.a refl c.attempt-tried.result there.0 there.1 c.attempt-tried.ensures.tried)
+
 pub fork-assign_to-second-requires : goal.fork-assign_to-second-requires
 fork-assign_to-second-requires t c =
     let h = c.requires in
     let p = forks (clauses c.args.rules.now) c.args.tally c.args.decision.variable.0 c.args.decision.value h.searching h.branches in
     let try : List ℕ → Outcome = walk_from (clauses c.args.rules.now) c.args.row.now c.args.d in
-    let u = fork-laws.first_undone p c.assign_to-first.ensures try c.attempt.new.trail c.attempt.new.a c.in-Nothing.before c.in-Nothing.ensures.tried (c.attempt.auto.trail ∙ c.assign_to-first.auto.trail) in
+    let u = fork-laws.first_undone p c.assign_to-first.ensures try c.attempt-tried.new.trail c.attempt-tried.new.a c.attempt-tried.result (not_found c.attempt-tried.result.found (sym c.is_some.ensures ∙ c.if-is_some.false)) c.attempt-tried.ensures.tried (c.attempt-tried.auto.trail ∙ c.assign_to-first.auto.trail) in
     let k = u.again.branch in
     let room = fork-laws.branch_room p in
     record {
@@ -166,27 +177,27 @@ fork-assign_to-second-requires t c =
       settled_in_bounds = (omega (arith, room, u.again.state.long), omega (arith, room, h.ready.few), omega (arith, room, h.searching.few, h.ready.few));
     }
 
-pub fork-attempt-requires-in-Nothing : goal.fork-attempt-requires-in-Nothing
-fork-attempt-requires-in-Nothing t c =
+pub fork-attempt-requires : goal.fork-attempt-requires
+fork-attempt-requires t c =
     let h = c.requires in
     let p = forks (clauses c.args.rules.now) c.args.tally c.args.decision.variable.0 c.args.decision.value h.searching h.branches in
     let try : List ℕ → Outcome = walk_from (clauses c.args.rules.now) c.args.row.now c.args.d in
-    let u = fork-laws.first_undone p c.assign_to-first.ensures try c.attempt.new.trail c.attempt.new.a c.in-Nothing.before c.in-Nothing.ensures.tried (c.attempt.auto.trail ∙ c.assign_to-first.auto.trail) in
+    let u = fork-laws.first_undone p c.assign_to-first.ensures try c.attempt-tried.new.trail c.attempt-tried.new.a c.attempt-tried.result (not_found c.attempt-tried.result.found (sym c.is_some.ensures ∙ c.if-is_some.false)) c.attempt-tried.ensures.tried (c.attempt-tried.auto.trail ∙ c.assign_to-first.auto.trail) in
     let second = c.assign_to-second.ensures in
     let other = fork-laws.other u second in
     let s = fork-laws.branch_searching u.again other second in (
       omega (arith, fork-laws.branch_fewer u.again other second, ap unassigned u.back),
-      (long_searching s, (ready_still s.state.size c.in-Nothing.ensures.witness c.attempt.auto.weights h.ready, fork-laws.branch_covers u.again other second)),
+      (long_searching s, (ready_still s.state.size c.attempt-tried.ensures.witness c.attempt-tried.auto.weights h.ready, fork-laws.branch_covers u.again other second)),
     )
 
 -- the other value has the answer, or neither has
-pub fork-returns-in-Nothing-clause-tried : goal.fork-returns-in-Nothing-clause-tried
-fork-returns-in-Nothing-clause-tried t c =
+pub fork-returns-clause-tried : goal.fork-returns-clause-tried
+fork-returns-clause-tried t c =
     let h = c.requires in
     let p = forks (clauses c.args.rules.now) c.args.tally c.args.decision.variable.0 c.args.decision.value h.searching h.branches in
     let try : List ℕ → Outcome = walk_from (clauses c.args.rules.now) c.args.row.now c.args.d in
-    let u = fork-laws.first_undone p c.assign_to-first.ensures try c.attempt.new.trail c.attempt.new.a c.in-Nothing.before c.in-Nothing.ensures.tried (c.attempt.auto.trail ∙ c.assign_to-first.auto.trail) in
-    let last_a : List ℕ = c.attempt-in-Nothing.new.a in
-    let last_trail : List ℕ = c.attempt-in-Nothing.new.trail in
-    subst (TriedBy (fork_of try c.args.a.now c.args.decision.variable.0 c.args.decision.value) c.args.tally.settled c.args.a.now c.args.trail.now last_trail last_a) (sym c.with_forks.ensures)
-    (fork-laws.second_said u c.assign_to-second.ensures last_trail last_a c.attempt-in-Nothing.result c.attempt-in-Nothing.ensures.tried)
+    let u = fork-laws.first_undone p c.assign_to-first.ensures try c.attempt-tried.new.trail c.attempt-tried.new.a c.attempt-tried.result (not_found c.attempt-tried.result.found (sym c.is_some.ensures ∙ c.if-is_some.false)) c.attempt-tried.ensures.tried (c.attempt-tried.auto.trail ∙ c.assign_to-first.auto.trail) in
+    let last_a : List ℕ = c.attempt.new.a in
+    let last_trail : List ℕ = c.attempt.new.trail in
+    subst (TriedBy (fork_of try c.args.a.now c.args.decision.variable.0 c.args.decision.value) c.args.tally.settled c.args.a.now c.args.trail.now last_trail last_a) (sym c.with_forks-2.ensures)
+    (fork-laws.second_said u c.assign_to-second.ensures last_trail last_a c.attempt.result c.attempt.ensures.tried)

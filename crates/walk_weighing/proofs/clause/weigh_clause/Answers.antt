@@ -8,7 +8,6 @@ use lib.IntN.{pos}
 use lib.ListN.{length, get_or}
 use Rattle.formula.specs.Formula.{any}
 use Rattle.literal.specs.Slots.{is_at}
-use Rattle.walk_opposed.specs.Opposed.{size_of}
 use Rattle.walk.specs.Branching.{mentions}
 use Rattle.walk_weighing.specs.ClauseLaws.{power_top, marked_source, weighed_open}
 use Rattle.walk_weighing.specs.PartLaws as parts
@@ -84,7 +83,7 @@ module _ (c : goal.After-slice_known-then-is_source-1) where
 
 pub returns-then-is_source : goal.returns-then-is_source
 returns-then-is_source c =
-    let size = size_of c.args.fewest in
+    let size = c.args.fewest in
     weighed_open c.args.row.now c.args.assignment.now c.args.clause.now c.args.count c.clause_weight.result c.requires.clause_value.0 c.requires.clause_value.1 c.clause_weight.ensures size c.args.weights.now (all c)
     (λ i. ap (λ (l : List ℕ). get_or l i 0) (all_sums c) ∙ sums c i)
     (marked_source c.args.row.now c.args.assignment.now c.args.clause.now size c.is_source.result c.is_source.ensures c.if-is_source.true (marks_of (n-after-slice_known-then-is_source-1 c) c.args.weights.now) (marks_of (n-after-slice_known-then-is_source-1 c) (all c)) (all_marks c))

@@ -14,12 +14,10 @@ use Rattle.walk_clause_standing.specs.declared.ReadClause.TheVariants.{Satisfied
 use Rattle.walk_clause_standing.specs.Standing.{IsRead, HoldsAt, StandsOpen}
 use Rattle.walk_occurrences.specs.Layout.{begins_of}
 use Rattle.walk_occurrences.proofs.Table.{begins_inside, begins_clause}
-use Rattle.walk_opposed.specs.Opposed.{size_of}
 use Rattle.walk.specs.Branching.{is_opposed}
 use Rattle.walk_witnesses.specs.Laws.{held_satisfies, new_witness}
 use Rattle.walk_weighing.specs.ClauseLaws.{weighed_satisfied, satisfied_unopposed}
 use Rattle.walk_weighing.specs.Weights.{Weighed}
-use borrow.Author.Rules.{rules}
 use Rattle.walk_weighing.proofs.list.weigh_at.Goals as goal
 
 -- the clause, by its number
@@ -57,8 +55,8 @@ module _ (s : goal.In-Open) where
     no_dead_end-in-Open : false ≡ s.args.spent && is_opposed row-in-Open a-in-Open clause-in-Open
     no_dead_end-in-Open = sym (ap (λ (b : Bool). s.args.spent && b) (satisfied_unopposed row-in-Open a-in-Open clause-in-Open met) ∙ and-false s.args.spent)
 
-    unchanged-in-Open : Weighed row-in-Open a-in-Open (size_of s.args.fewest) clause-in-Open s.args.weights.now s.args.weights.now
-    unchanged-in-Open = weighed_satisfied row-in-Open a-in-Open clause-in-Open met (size_of s.args.fewest) s.args.weights.now
+    unchanged-in-Open : Weighed row-in-Open a-in-Open s.args.fewest clause-in-Open s.args.weights.now s.args.weights.now
+    unchanged-in-Open = weighed_satisfied row-in-Open a-in-Open clause-in-Open met s.args.fewest s.args.weights.now
 
   -- read as open, it is the part of the list up to its end
   module _ (end count : ℕ) (h : StandsOpen a-in-Open rules-in-Open begin-in-Open end count) where
@@ -131,8 +129,8 @@ module _ (s : goal.After-struct_known-1) where
     no_dead_end-after-struct_known-1 : false ≡ s.args.spent && is_opposed row-after-struct_known-1 a-after-struct_known-1 clause-after-struct_known-1
     no_dead_end-after-struct_known-1 = sym (ap (λ (b : Bool). s.args.spent && b) (satisfied_unopposed row-after-struct_known-1 a-after-struct_known-1 clause-after-struct_known-1 met) ∙ and-false s.args.spent)
 
-    unchanged-after-struct_known-1 : Weighed row-after-struct_known-1 a-after-struct_known-1 (size_of s.args.fewest) clause-after-struct_known-1 s.args.weights.now s.args.weights.now
-    unchanged-after-struct_known-1 = weighed_satisfied row-after-struct_known-1 a-after-struct_known-1 clause-after-struct_known-1 met (size_of s.args.fewest) s.args.weights.now
+    unchanged-after-struct_known-1 : Weighed row-after-struct_known-1 a-after-struct_known-1 s.args.fewest clause-after-struct_known-1 s.args.weights.now s.args.weights.now
+    unchanged-after-struct_known-1 = weighed_satisfied row-after-struct_known-1 a-after-struct_known-1 clause-after-struct_known-1 met s.args.fewest s.args.weights.now
 
   -- read as open, it is the part of the list up to its end
   module _ (end count : ℕ) (h : StandsOpen a-after-struct_known-1 rules-after-struct_known-1 begin-after-struct_known-1 end count) where
