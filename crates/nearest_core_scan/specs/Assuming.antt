@@ -1,5 +1,5 @@
 -- A wish is assumed: its variable is assigned as wished, and unit propagation follows.
-use Rattle.std.specs.Prelude.{◌≡◌, Bool, true, false, ◌||◌, List, [], ◌∷◌, ◌++◌, ℕ, ◌*◌, ◌≤◌, ◌<◌, ℤ, length}
+use Rattle.std.specs.Prelude.{◌≡◌, Bool, true, false, ◌||◌, List, [], ◌∷◌, ◌++◌, ℕ, ◌*◌, ◌≤◌, ◌<◌, ℤ, length, Result, Ok, Err}
 use Rattle.std.proofs.Common.{sym, ap, ap₂, subst, ◌∙◌, zero-le, arith, le-ltb}
 use Rattle.std.proofs.Math.Bool.{or-false}
 use Rattle.std.proofs.Math.Seq.{slice, slice_empty}
@@ -16,22 +16,22 @@ use Rattle.walk.specs.Walk.{is_dead_end}
 use Rattle.walk_unit_queue.specs.Due.{NoneDue}
 use Rattle.walk_unit_queue.specs.Queue.{follow}
 use Rattle.walk_unit_queue.specs.Theorems.{Covers}
-use Rattle.walk_unit_queue.proofs.Theorems.{fork_covers, follow_alike, settled_none_due}
+use Rattle.walk_unit_queue.proofs.Theorems.{fork_covers, settled_none_due}
 use Rattle.walk_tally.specs.declared.Tally.{Tally}
 use Rattle.walk_propagation.specs.Assigned.{AssignedTo, assigned_searching, assigned_grown}
 use Rattle.walk_propagation.specs.Looked.{pending, Moved, moved_more, ComesTo}
-use Rattle.walk_propagation.specs.Looking.{Following}
-use Rattle.walk_propagation.specs.Propagated.{PropagatedBy, propagated_by}
+use Rattle.walk_propagation.specs.Looking.{Following, following_moved}
+use Rattle.walk_propagation.specs.Propagated.{PropagatedBy}
 use Rattle.walk_propagation.specs.Searching.{Searching, not_all}
 use Rattle.walk_propagation.specs.Trail.{slice-stored}
-use Rattle.walk_propagation.specs.declared.propagated.Propagated.{Propagated}
-use Rattle.walk_propagation.specs.declared.propagated.Propagated.TheVariants.{Dead, Settled}
+use Rattle.walk_propagation.specs.declared.propagated.DeadEnd.{DeadEnd}
 use Rattle.nearest_cores.specs.Cores.{keep_wish}
+use Rattle.nearest_core_scan.specs.Followed.{followed}
 
 -- from the state a with its trail and tally t to a' and trail', by the wish of variable v: a falsified clause, or a state to which unit propagation adds nothing
-abbrev pub AssumedBy : ℕ → List (List ℤ) → List ℕ → ℕ → Tally → List ℕ → List ℕ → List ℕ → List ℕ → Propagated → Type 0
-AssumedBy n f row v t a trail a' trail' (Dead t') = (any (is_falsified (propagate f (keep_wish row a v))) f ≡ true) × Moved n row t a trail t' a' trail'
-AssumedBy n f row v t a trail a' trail' (Settled t') =
+abbrev pub AssumedBy : ℕ → List (List ℤ) → List ℕ → ℕ → Tally → List ℕ → List ℕ → List ℕ → List ℕ → Result Tally DeadEnd → Type 0
+AssumedBy n f row v t a trail a' trail' (Err e) = (any (is_falsified (propagate f (keep_wish row a v))) f ≡ true) × Moved n row t a trail e.tally a' trail'
+AssumedBy n f row v t a trail a' trail' (Ok t') =
     (a' ≡ propagate f (keep_wish row a v)) × (any (is_falsified a') f ≡ false) × NoneDue f a' × Moved n row t a trail t' a' trail'
 
 -- no more is broken than all variables can break
@@ -75,24 +75,27 @@ module _ {rules : List ℤ} {arrangement row : List ℕ} {t : Tally} {a trail : 
         rw (queue, told.values) (fork_covers (clauses rules) searching.state quiet v (wished_value (value row v)) low high free wished)
 
     module _ (a' trail' : List ℕ) where
-      propagated : (r : Propagated) → ComesTo (length a) row (follow (clauses rules) row no_limit (pending t.settled t₁ a₁ trail₁)) t₁ a₁ trail₁ a' trail' r
+      propagated : (r : Result Tally DeadEnd) → ComesTo (length a) row (follow (clauses rules) row no_limit (pending t.settled t₁ a₁ trail₁)) t₁ a₁ trail₁ a' trail' r
           → PropagatedBy (length a) (clauses rules) row no_limit t₁ a₁ trail₁ a' trail' r
       propagated r w =
-          propagated_by (length a) (clauses rules) row no_limit t₁ a₁ trail₁ a' trail' (follow (clauses rules) row no_limit (pending t.settled t₁ a₁ trail₁))
-          (follow_alike (length a) (clauses rules) h.looking.fit row no_limit a₁ assume_moved.searching.state (slice t.settled t₁.settled trail₁) covers) r w
+          let size : length a₁ ≡ length a = assume_moved.searching.state.size in
+          subst (λ (n : ℕ). PropagatedBy n (clauses rules) row no_limit t₁ a₁ trail₁ a' trail' r) size
+          (followed (following_moved h assume_moved) no_limit t.settled covers a' trail' r
+          (subst (λ (n : ℕ). ComesTo n row (follow (clauses rules) row no_limit (pending t.settled t₁ a₁ trail₁)) t₁ a₁ trail₁ a' trail' r) (sym size) w))
 
       few : length (propagate (clauses rules) a₁) ≤ max_variables
       few = omega (arith, (propagate_state (clauses rules) assume_moved.searching.state).size, h.looking.few)
 
       -- what following it up says of the wish
-      pub assumed_by : (r : Propagated) → ComesTo (length a₁) row (follow (clauses rules) row no_limit (pending t.settled t₁ a₁ trail₁)) t₁ a₁ trail₁ a' trail' r
+      pub assumed_by : (r : Result Tally DeadEnd) → ComesTo (length a₁) row (follow (clauses rules) row no_limit (pending t.settled t₁ a₁ trail₁)) t₁ a₁ trail₁ a' trail' r
           → AssumedBy (length a) (clauses rules) row v t a trail a' trail' r
-      assumed_by r u = go r (propagated r (subst (λ (n : ℕ). ComesTo n row (follow (clauses rules) row no_limit (pending t.settled t₁ a₁ trail₁)) t₁ a₁ trail₁ a' trail' r) assume_moved.searching.state.size u))
+      assumed_by r u =
+          go r (propagated r (subst (λ (n : ℕ). ComesTo n row (follow (clauses rules) row no_limit (pending t.settled t₁ a₁ trail₁)) t₁ a₁ trail₁ a' trail' r) assume_moved.searching.state.size u))
         where
-          go : (r : Propagated) → PropagatedBy (length a) (clauses rules) row no_limit t₁ a₁ trail₁ a' trail' r → AssumedBy (length a) (clauses rules) row v t a trail a' trail' r
-          go (Dead t') w =
+          go : (r : Result Tally DeadEnd) → PropagatedBy (length a) (clauses rules) row no_limit t₁ a₁ trail₁ a' trail' r → AssumedBy (length a) (clauses rules) row v t a trail a' trail' r
+          go (Err e) w =
               (rw (← told.values) (sym (dead_falsified (clauses rules) row (propagate (clauses rules) a₁) few) ∙ w.0), moved_more assume_moved w.1)
-          go (Settled t') w =
+          go (Ok t') w =
               let alive : is_dead_end (clauses rules) row no_limit (propagate (clauses rules) a₁) ≡ false = ap (is_dead_end (clauses rules) row no_limit) (sym w.0) ∙ w.1 in (
                 w.0 ∙ ap (propagate (clauses rules)) told.values,
                 rw w.0 (sym (dead_falsified (clauses rules) row (propagate (clauses rules) a₁) few) ∙ alive),

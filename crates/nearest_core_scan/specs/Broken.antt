@@ -1,5 +1,5 @@
 -- Broken wishes that are not taken.
-use Rattle.std.specs.Prelude.{◌≡◌, refl, Bool, true, false, cond, ◌&&◌, List, [], ◌∷◌, ℕ, zero, suc, ◌+◌, ◌-◌, ◌≤◌, ◌<◌, ltb, length, get_or}
+use Rattle.std.specs.Prelude.{◌≡◌, refl, Bool, true, false, cond, ◌&&◌, List, [], ◌∷◌, ℕ, zero, suc, ◌+◌, ◌-◌, ◌≤◌, ◌<◌, ltb, length, get_or, None, Some}
 use Rattle.std.proofs.Common.{sym, ap, ap₂, ◌∙◌, zero-le, not-suc-le-zero, add-one, arith, ltb-true, ltb-false, le-ltb}
 use Rattle.std.proofs.Math.Decide.{ℕ_discrete}
 use Rattle.std.proofs.Math.ListN.{get_or-eq_default}
@@ -12,7 +12,6 @@ use Rattle.walk.specs.Extension.{Extends}
 use Rattle.walk.proofs.Extension.{disagreement_grows}
 use Rattle.nearest_cores.specs.Cores.{is_left, is_broken, broken_from, first_broken}
 use Rattle.nearest_core_scan.specs.Lowest.{lowest_of}
-use Rattle.nearest_core_scan.specs.declared.broken.Lowest.TheVariants.{Nothing, Wish}
 
 -- of what is not taken nothing is broken
 abbrev pub Unbroken : List ℕ → List ℕ → List ℕ → Type 0
@@ -111,13 +110,18 @@ unbroken_still row taken b a l h e u zero = refl
 unbroken_still row taken b a l h e u (suc i) = ap (λ (k : ℕ). is_left taken (suc i) && ltb 0 k) (cost_alike row b a l h e i) ∙ u (suc i)
 
 -- the number by the variant, and the variant by the number
-pub lowest_none : (w : ℕ) → lowest_of w ≡ Nothing → w ≡ 0
+pub lowest_none : (w : ℕ) → lowest_of w ≡ None → w ≡ 0
 lowest_none zero e = refl
 lowest_none (suc w) e = absurd (let z : ◌≡◌ {A = ℕ} 0 1 = cc in omega arith)
 
-pub lowest_some : (w : ℕ) (v : Variable) → lowest_of w ≡ Wish v → (0 < v.0) × (v.0 ≡ w)
+pub lowest_some : (w : ℕ) (v : Variable) → lowest_of w ≡ Some v → (0 < v.0) × (v.0 ≡ w)
 lowest_some zero v e = absurd (let z : ◌≡◌ {A = ℕ} 0 1 = cc in omega arith)
 lowest_some (suc w) v e = let same : suc w ≡ v.0 = cc in (omega arith, sym same)
 
-pub lowest_at : (i w : ℕ) → w ≡ i + 1 → Wish (record { 0 = i + 1 }) ≡ lowest_of w
-lowest_at i w e = ap (λ (k : ℕ). Wish (record { 0 = k })) (add-one i) ∙ ap lowest_of (sym (e ∙ add-one i))
+-- the variable that is found is one of the state's
+pub lowest_inside : (row taken a : List ℕ) (v : Variable) → Some v ≡ lowest_of (first_broken row taken a) → (0 < v.0) × (v.0 ≤ length a)
+lowest_inside row taken a v e =
+    let known = lowest_some (first_broken row taken a) v (sym e) in (known.0, omega (arith, known.1, broken_inside row taken a))
+
+pub lowest_at : (i w : ℕ) → w ≡ i + 1 → Some (record { 0 = i + 1 }) ≡ lowest_of w
+lowest_at i w e = ap (λ (k : ℕ). Some (record { 0 = k })) (add-one i) ∙ ap lowest_of (sym (e ∙ add-one i))

@@ -1,6 +1,7 @@
 pub mod Assuming
 pub mod Broken
 pub mod Closing
+pub mod Followed
 pub mod Going
 pub mod Lowest
 pub mod ScanLaws

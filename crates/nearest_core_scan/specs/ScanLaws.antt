@@ -1,5 +1,5 @@
 -- One variable of the way through the wishes: it is left out, assumed, or the last of a core.
-use Rattle.std.specs.Prelude.{◌≡◌, refl, Bool, true, false, cond, ◌&&◌, List, [], ◌∷◌, ◌++◌, ℕ, zero, suc, ◌+◌, ◌≤◌, ◌<◌, ◌^◌, ℤ, length, get_or, set, take}
+use Rattle.std.specs.Prelude.{◌≡◌, refl, Bool, true, false, cond, ◌&&◌, List, [], ◌∷◌, ◌++◌, ℕ, zero, suc, ◌+◌, ◌≤◌, ◌<◌, ◌^◌, ℤ, length, get_or, set, take, Ok, Err}
 use Rattle.std.proofs.Common.{sym, ap, subst, ◌∙◌, arith, length-set, take-take, eqb-true}
 use Rattle.std.proofs.Math.Bool.{and-eq-true_iff}
 use Rattle.std.proofs.Math.Seq.{slice, slice_empty, append_snoc}
@@ -17,7 +17,6 @@ use Rattle.walk_propagation.specs.Looked.{Moved}
 use Rattle.walk_propagation.specs.Looking.{Following, following_moved}
 use Rattle.walk_propagation.specs.Searching.{searching_kept, settled_most, undoable}
 use Rattle.walk_propagation.specs.Trail.{undone, grown_undone}
-use Rattle.walk_propagation.specs.declared.propagated.Propagated.TheVariants.{Dead, Settled}
 use Rattle.nearest_cores.specs.Cores.{Scan, is_left, is_assumable, keep_wish, first_broken, least_weight, take_each, close_core, with_broken, after_assuming, scan_wish}
 use Rattle.nearest_cores.proofs.Taken.{take-length}
 use Rattle.nearest_core_scan.specs.declared.progress.Progress.{Progress}
@@ -146,14 +145,14 @@ module _ {rules : List ℤ} {arrangement row : List ℕ} {base : Tally} {b : Lis
 
   module _ (high : v ≤ length a) (e : is_assumable row (present p a taken assumed) v ≡ true) {t : Tally} {a₁ trail₁ : List ℕ} where
     -- a clause is falsified
-    pub scan_dead : AssumedBy (length a) (clauses rules) row v p.tally a trail a₁ trail₁ (Dead t)
+    pub scan_dead : AssumedBy (length a) (clauses rules) row v p.tally a trail a₁ trail₁ (Err (record { tally = t }))
         → {r : Progress} {a' taken' : List ℕ} → Closed row base t.settled p.bound (take (p.assumed + 1) (set assumed p.assumed v)) trail₁ a₁ taken r a' taken'
         → Scanned rules arrangement row base b v (present p a taken assumed) trail r a' trail₁ taken' (set assumed p.assumed v)
     scan_dead w c =
         closed_scanned w.1 (take (p.assumed + 1) (set assumed p.assumed v)) (set assumed p.assumed v) (length-set assumed p.assumed v) c
         (scan_core (clauses rules) row b (present p a taken assumed) v e w.0 ∙ ap (close_core row b (present p a taken assumed)) (sym (assumed_with high)))
 
-    module _ (w : AssumedBy (length a) (clauses rules) row v p.tally a trail a₁ trail₁ (Settled t)) where
+    module _ (w : AssumedBy (length a) (clauses rules) row v p.tally a trail a₁ trail₁ (Ok t)) where
       -- where as much is broken as before, nothing is broken that is not taken
       pub still_none : p.tally.broken ≡ t.broken → first_broken row taken a₁ ≡ 0
       still_none q =

@@ -19,10 +19,8 @@ pub fn take_assigned(a: &[u8], taken: &mut [u8])
     requires { length taken.old ≡ length a.now }
     ensures { taken.new ≡ map taken_byte a.now }
 {
-    let mut i = 0;
-    while i < a.len() {
-        taken[i] = taken_byte(a[i]);
-        i += 1;
+    for (i, byte) in a.iter().enumerate() {
+        taken[i] = taken_byte(*byte);
     }
 }
 
@@ -30,11 +28,7 @@ pub fn take_assigned(a: &[u8], taken: &mut [u8])
 pub fn is_assumable(v: Variable, row: &[u8], a: &[u8], taken: &[u8]) -> bool
     ensures { result ≡ is_wish (value row.now v.0) && is_left taken.now v.0 && is_unset (value a.now v.0) }
 {
-    if !wish::is_wish(literal::value_of(v, row)) {
-        return false;
-    }
-    if literal::value_of(v, taken) != 0 {
-        return false;
-    }
-    literal::value_of(v, a) == 2
+    wish::is_wish(literal::value_of(v, row))
+        && literal::value_of(v, taken) == 0
+        && literal::value_of(v, a) == 2
 }

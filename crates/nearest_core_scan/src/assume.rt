@@ -7,11 +7,11 @@ ghost use Rattle.walk_unit_queue.specs.Due.{NoneDue};
 ghost use Rattle.nearest_core_scan.specs.Assuming.{AssumedBy};
 
 use literal::Variable;
-use walk_propagation::Propagated;
+use walk_propagation::DeadEnd;
 use walk_tally::Tally;
 
 // No count of broken wishes is above this, so that a dead end is a falsified clause.
-pub const NO_LIMIT: usize = 18446744073709551615;
+pub const NO_LIMIT: usize = usize::MAX;
 
 // Assigns a variable as it is wished, and propagates that.
 pub fn assume(
@@ -22,7 +22,7 @@ pub fn assume(
     v: Variable,
     a: &mut [u8],
     trail: &mut [u16],
-) -> Propagated
+) -> Result<Tally, DeadEnd>
     requires following { Following rules.now arrangement.now row.now tally a.old trail.old × NoneDue (clauses rules.now) a.old }
     requires v_nonzero { (0 < v.0) × (v.0 ≤ length a.old) × (value a.old v.0 ≡ 2) }
     ensures { AssumedBy (length a.old) (clauses rules.now) row.now v.0 tally a.old trail.old a.new trail.new result }

@@ -14,15 +14,11 @@ pub fn close_core(row: &[u8], core: &[u16], taken: &mut [u8]) -> usize
     ensures taken { taken.new ≡ take_each taken.old core.now }
 {
     let mut least = wish::MAX_WEIGHT;
-    let mut k = 0;
-    while k < core.len() {
-        let number = core[k] as usize;
+    for v in core {
+        let number = *v as usize;
         taken[number - 1] = 1;
         let weight = wish::weight_of(literal::value_of(Variable(number), row));
-        if weight < least {
-            least = weight;
-        }
-        k += 1;
+        least = least.min(weight);
     }
     least
 }

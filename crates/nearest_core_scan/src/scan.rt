@@ -10,11 +10,10 @@ ghost use Rattle.nearest_core_scan.specs.Scanning.{present, set_back, Scanning, 
 
 use crate::assumable::{is_assumable, take_assigned};
 use crate::assume::assume;
-use crate::broken::{Lowest, newly_broken};
+use crate::broken::newly_broken;
 use crate::close::close_at;
 use crate::progress::Progress;
 use literal::Variable;
-use walk_propagation::Propagated;
 use walk_tally::Tally;
 
 // The disjoint cores of a state to which unit propagation adds nothing: how much every model that extends it
@@ -43,22 +42,19 @@ pub fn find_cores(
         assumed: 0,
         bound: tally.broken,
     };
-    let mut i = 0;
-    while i < a.len() {
-        let next = i + 1;
+    for i in 0..a.len() {
         progress = scan_wish(
             rules,
             arrangement,
             row,
             tally,
-            Variable(next),
+            Variable(i + 1),
             progress,
             a,
             trail,
             taken,
             assumed,
         );
-        i = next;
     }
     walk_propagation::undo(tally.settled, progress.tally.settled, trail, a);
     progress.bound
@@ -89,17 +85,17 @@ fn scan_wish(
     assumed[at] = v.0 as u16;
     let count = at + 1;
     match assume(rules, arrangement, row, before, v, a, trail) {
-        Propagated::Dead(t) => close_at(
+        Err(dead) => close_at(
             row,
             base,
-            t.settled,
+            dead.tally.settled,
             progress.bound,
             &assumed[..count],
             trail,
             a,
             taken,
         ),
-        Propagated::Settled(t) => assume_unless_broken(
+        Ok(t) => assume_unless_broken(
             row,
             base,
             before.broken,
@@ -134,12 +130,12 @@ fn assume_unless_broken(
     ensures { BrokenThen row.now base count bound tally trail.now a.old taken.old assumed.old result a.new taken.new assumed.new (first_broken row.now taken.old a.old) }
 {
     match newly_broken(before, tally.broken, row, taken, a) {
-        Lowest::Nothing => Progress {
+        None => Progress {
             tally: tally,
             assumed: count,
             bound: bound,
         },
-        Lowest::Wish(v) => {
+        Some(v) => {
             assumed[count] = v.0 as u16;
             let end = count + 1;
             close_at(

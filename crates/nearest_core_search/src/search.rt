@@ -16,8 +16,7 @@ ghost use Rattle.walk_propagation.specs.Trail.{undone};
 ghost use Rattle.std.proofs.Math.Seq.{slice};
 
 use search_state::Tried;
-use walk_pick::{Decision, Pick};
-use walk_propagation::Propagated;
+use walk_pick::Decision;
 use walk_tally::Tally;
 
 // The search from a state in which only clauses of the variables from a place of the trail on can ask for
@@ -43,12 +42,19 @@ pub fn attempt(
     ensures tried { TriedBy (search_from (clauses rules.now) row.now guide.now d a.old) from (undone (slice from tally.settled trail.old) a.old) trail.old trail.new a.new result }
     ensures witness { Witnesses rules.now witnesses.new }
 {
+    let nothing = Tried {
+        found: None,
+        forks: 0,
+    };
     match nearest_narrowing::narrow(rules, arrangement, row, d, from, tally, a, trail) {
-        Propagated::Dead(t) => search_state::unwind(Tried::Nothing(0), from, t.settled, trail, a),
-        Propagated::Settled(t) => {
+        Err(dead) => search_state::unwind(nothing, from, dead.tally.settled, trail, a),
+        Ok(t) => {
             if walk_completion::completes(rules, guide, a) {
                 walk_completion::fill_completion(guide, a);
-                return Tried::Found(t.broken, 0);
+                return Tried {
+                    found: Some(t.broken),
+                    forks: 0,
+                };
             }
             match walk_pick::pick_branch(
                 rules,
@@ -60,8 +66,8 @@ pub fn attempt(
                 witnesses,
                 weights,
             ) {
-                Pick::DeadEnd => search_state::unwind(Tried::Nothing(0), from, t.settled, trail, a),
-                Pick::Branch(decision) => {
+                None => search_state::unwind(nothing, from, t.settled, trail, a),
+                Some(decision) => {
                     let tried = fork(
                         rules,
                         arrangement,
@@ -107,7 +113,7 @@ fn fork(
     let v = decision.variable;
     let value = decision.value;
     let first = walk_propagation::assign_to(tally, row, v, value, a, trail);
-    match attempt(
+    let tried = attempt(
         rules,
         arrangement,
         row,
@@ -119,26 +125,25 @@ fn fork(
         trail,
         witnesses,
         weights,
-    ) {
-        Tried::Found(broken, forks) => Tried::Found(broken, search_state::add_forks(forks, 0)),
-        Tried::Nothing(before) => {
-            let second = walk_propagation::assign_to(tally, row, v, 1 - value, a, trail);
-            search_state::with_forks(
-                before,
-                attempt(
-                    rules,
-                    arrangement,
-                    row,
-                    guide,
-                    d,
-                    tally.settled,
-                    second,
-                    a,
-                    trail,
-                    witnesses,
-                    weights,
-                ),
-            )
-        }
+    );
+    if tried.found.is_some() {
+        return search_state::with_forks(0, tried);
     }
+    let second = walk_propagation::assign_to(tally, row, v, 1 - value, a, trail);
+    search_state::with_forks(
+        tried.forks,
+        attempt(
+            rules,
+            arrangement,
+            row,
+            guide,
+            d,
+            tally.settled,
+            second,
+            a,
+            trail,
+            witnesses,
+            weights,
+        ),
+    )
 }

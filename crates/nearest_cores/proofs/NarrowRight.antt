@@ -1,9 +1,9 @@
 -- What follows from the definitions of specs/NarrowRight.antt.
 pub use Rattle.nearest_cores.proofs.ScanRight.{left_unassigned, left_above, left_up_to}
-use Rattle.std.specs.Prelude.{◌≡◌, refl, Bool, true, false, cond, List, [], ◌∷◌, ℕ, zero, suc, ◌+◌, ◌≤◌, ◌<◌, eqb, ltb, leb, ℤ, length, set}
+use Rattle.std.specs.Prelude.{◌≡◌, refl, Bool, true, false, cond, List, [], ◌∷◌, ℕ, zero, suc, ◌+◌, ◌≤◌, ◌<◌, eqb, ltb, leb, ℤ, length, set, Option, None, Some}
 use Rattle.std.proofs.Common.{ap, subst, ◌∙◌, zero-le, not-suc-le-zero, le_refl, arith, ltb-true, ltb-false, leb-true, leb-false, ne_eqb}
 use Rattle.std.proofs.Math.Bool.{and-eq-true_iff}
-use Rattle.std.proofs.Math.Option.{Option, none, some, some-injective, none-ne-some}
+use Rattle.std.proofs.lemmas.Option.{same_Some, none-some}
 use Rattle.std.proofs.lemmas.Bool.{eqb-false}
 use Rattle.literal.specs.Literal.{value}
 use Rattle.wish.specs.Wish.{wished_value, weight}
@@ -70,7 +70,7 @@ module _ (n : ℕ) (f : List (List ℤ)) (fit : fits n f ≡ true) (row : List �
   narrowed_same : (s t : List ℕ → Option (List ℕ)) (b : List ℕ) → State n b
       → ((a : List ℕ) → State n a → unassigned a < unassigned b → s a ≡ t a) → narrowed s f row d b ≡ narrowed t f row d b
   narrowed_same s t b h same =
-      ap (λ (r : Option (List ℕ)). cond (is_dead_end f row d b) none (cond (ltb d found.bound) none r)) (go (eqb (unassigned a) (unassigned b)) refl)
+      ap (λ (r : Option (List ℕ)). cond (is_dead_end f row d b) None (cond (ltb d found.bound) None r)) (go (eqb (unassigned a) (unassigned b)) refl)
     where
       found : Scan
       found = scan f row b
@@ -78,7 +78,7 @@ module _ (n : ℕ) (f : List (List ℤ)) (fit : fits n f ≡ true) (row : List �
       a : List ℕ
       a = keep_all row d found.taken found.bound b
 
-      go : (u : Bool) → eqb (unassigned a) (unassigned b) ≡ u → cond u (some b) (s a) ≡ cond u (some b) (t a)
+      go : (u : Bool) → eqb (unassigned a) (unassigned b) ≡ u → cond u (Some b) (s a) ≡ cond u (Some b) (t a)
       go true e = refl
       go false e =
           let l : unassigned a ≤ unassigned b = keep-fewer row d found.taken found.bound b in
@@ -103,9 +103,9 @@ module _ (n : ℕ) (f : List (List ℤ)) (fit : fits n f ≡ true) (row : List �
   -- the ways that narrowing can go, for a statement P of the state that it starts from and what it comes to
   pub record Rounds (P : List ℕ → Option (List ℕ) → Type 0) : Type 0 where
     pub propagates : (a : List ℕ) (o : Option (List ℕ)) → State n a → P (propagate f a) o → P a o
-    pub dies : (b : List ℕ) → State n b → is_dead_end f row d b ≡ true → P b none
-    pub overruns : (b : List ℕ) → State n b → d < (scan f row b).bound → P b none
-    pub rests : (e : List ℕ) → State n e → is_dead_end f row d (propagate f e) ≡ false → P (propagate f e) (some (propagate f e))
+    pub dies : (b : List ℕ) → State n b → is_dead_end f row d b ≡ true → P b None
+    pub overruns : (b : List ℕ) → State n b → d < (scan f row b).bound → P b None
+    pub rests : (e : List ℕ) → State n e → is_dead_end f row d (propagate f e) ≡ false → P (propagate f e) (Some (propagate f e))
     pub goes_on : (b : List ℕ) (o : Option (List ℕ)) → State n b → (scan f row b).bound ≤ d → P (keep_all row d (scan f row b).taken (scan f row b).bound b) o → P b o
 
   -- one round
@@ -122,18 +122,18 @@ module _ (n : ℕ) (f : List (List ℤ)) (fit : fits n f ≡ true) (row : List �
       a : List ℕ
       a = keep_all row d found.taken found.bound b
 
-      kept : is_dead_end f row d b ≡ false → found.bound ≤ d → (t : Bool) → eqb (unassigned a) (unassigned b) ≡ t → P b (cond t (some b) (rest a))
+      kept : is_dead_end f row d b ≡ false → found.bound ≤ d → (t : Bool) → eqb (unassigned a) (unassigned b) ≡ t → P b (cond t (Some b) (rest a))
       kept p l true q = ways.rests e h p
       kept p l false q =
           let fewer : unassigned a ≤ unassigned b = keep-fewer row d found.taken found.bound b in
           let other : unassigned a ≡ unassigned b → ⊥ = eqb-false (unassigned a) (unassigned b) q in
           ways.goes_on b (rest a) (propagate_state f h) l (ih a (keep_state row d found.taken found.bound (propagate_state f h)) (omega arith))
 
-      bounded : is_dead_end f row d b ≡ false → (t : Bool) → ltb d found.bound ≡ t → P b (cond t none (unless_kept rest b a))
+      bounded : is_dead_end f row d b ≡ false → (t : Bool) → ltb d found.bound ≡ t → P b (cond t None (unless_kept rest b a))
       bounded p true q = ways.overruns b (propagate_state f h) (ltb-true d found.bound q)
       bounded p false q = kept p (ltb-false d found.bound q) (eqb (unassigned a) (unassigned b)) refl
 
-      dead : (t : Bool) → is_dead_end f row d b ≡ t → P b (cond t none (by_cores rest row d b found))
+      dead : (t : Bool) → is_dead_end f row d b ≡ t → P b (cond t None (by_cores rest row d b found))
       dead true p = ways.dies b (propagate_state f h) p
       dead false p = bounded p (ltb d found.bound) refl
 
@@ -150,19 +150,19 @@ module _ (n : ℕ) (f : List (List ℤ)) (fit : fits n f ≡ true) (row : List �
 
   -- the narrowed state is a state, with no more unassigned variables
   abbrev Smaller : List ℕ → Option (List ℕ) → Type 0
-  Smaller a o = (b : List ℕ) → o ≡ some b → State n b × (unassigned b ≤ unassigned a)
+  Smaller a o = (b : List ℕ) → o ≡ Some b → State n b × (unassigned b ≤ unassigned a)
 
   smaller : Rounds Smaller
   smaller =
       record {
         propagates = λ a o h p b e. let r = p b e in (r.0, omega (arith, r.1, propagate-fewer n f fit h));
-        dies = λ b h e c q. absurd (none-ne-some c q);
-        overruns = λ b h l c q. absurd (none-ne-some c q);
-        rests = λ e h q b z. let same = some-injective (propagate f e) b z in (subst (State n) same (propagate_state f h), omega (arith, ap unassigned same));
+        dies = λ b h e c q. absurd (none-some c q);
+        overruns = λ b h l c q. absurd (none-some c q);
+        rests = λ e h q b z. let same = same_Some (propagate f e) b z in (subst (State n) same (propagate_state f h), omega (arith, ap unassigned same));
         goes_on = λ b o h l p c e. let r = p c e in (r.0, omega (arith, r.1, keep-fewer row d (scan f row b).taken (scan f row b).bound b));
       }
 
-  pub narrow_smaller : (a : List ℕ) → State n a → (b : List ℕ) → narrow f row d a ≡ some b → State n b × (unassigned b ≤ unassigned a)
+  pub narrow_smaller : (a : List ℕ) → State n a → (b : List ℕ) → narrow f row d a ≡ Some b → State n b × (unassigned b ≤ unassigned a)
   narrow_smaller a h = narrow_induction Smaller smaller a h
 
 -- a variable that the state leaves unassigned may be given any value in an extension of it
@@ -213,12 +213,12 @@ module _ (n : ℕ) (f : List (List ℤ)) (fit : fits n f ≡ true) (row : List �
   -- if every model within d that extends a extends b too, what is right of b is right of a
   carried : (a b : List ℕ) → Extends b a → unassigned b ≤ unassigned a → ((c : List ℕ) → Model n f c → Extends c a → disagreement row c ≤ d → Extends c b)
       → (o : Option (List ℕ)) → Narrowed n f row d b o → Narrowed n f row d a o
-  carried a b h l forced none p = λ c m e. go c m e (leb (disagreement row c) d) refl
+  carried a b h l forced None p = λ c m e. go c m e (leb (disagreement row c) d) refl
     where
       go : (c : List ℕ) → Model n f c → Extends c a → (t : Bool) → leb (disagreement row c) d ≡ t → d < disagreement row c
       go c m e true q = p c m (forced c m e (leb-true (disagreement row c) d q))
       go c m e false q = leb-false (disagreement row c) d q
-  carried a b h l forced (some x) p =
+  carried a b h l forced (Some x) p =
       record {
         state = p.state;
         fewer = omega (arith, p.fewer);

@@ -1,7 +1,7 @@
 -- What follows from the definitions of specs/SearchRight.antt.
-use Rattle.std.specs.Prelude.{◌≡◌, refl, Bool, true, false, cond, List, [], ◌∷◌, ℕ, zero, suc, ◌+◌, ◌-◌, ◌≤◌, ◌<◌, leb, ℤ, length, get_or}
+use Rattle.std.specs.Prelude.{◌≡◌, refl, Bool, true, false, cond, List, [], ◌∷◌, ℕ, zero, suc, ◌+◌, ◌-◌, ◌≤◌, ◌<◌, leb, ℤ, length, get_or, Option, None, Some}
 use Rattle.std.proofs.Common.{sym, ap, ap₂, ◌∙◌, not-suc-le-zero, arith, eqb-true, leb-true, leb-false}
-use Rattle.std.proofs.Math.Option.{Option, none, some, some-ne-none}
+use Rattle.std.proofs.lemmas.Option.{none-some}
 use Rattle.formula.specs.Formula.{models}
 use Rattle.wish.specs.Wish.{free_byte, is_wish, wished_value, cost}
 use Rattle.wish.specs.Laws.{cost_free, cost_wished, cost-unassigned}
@@ -52,9 +52,9 @@ guide_cost {n} {row} {guide} {a} g s = guide_costs row guide a (λ i l. g.asks (
 module _ (n : ℕ) (f : List (List ℤ)) (fit : fits n f ≡ true) (row guide : List ℕ) (d : ℕ) where
   -- two searches that agree on smaller states agree after a fork
   onward_same : (s t : List ℕ → Outcome) (a : List ℕ) → ((b : List ℕ) → State n b → unassigned b < unassigned a → s b ≡ t b)
-      → (o : Option (List ℕ)) → ((b : List ℕ) → o ≡ some b → State n b × (unassigned b ≤ unassigned a)) → onward f row guide d s o ≡ onward f row guide d t o
-  onward_same s t a same none h = refl
-  onward_same s t a same (some b) h =
+      → (o : Option (List ℕ)) → ((b : List ℕ) → o ≡ Some b → State n b × (unassigned b ≤ unassigned a)) → onward f row guide d s o ≡ onward f row guide d t o
+  onward_same s t a same None h = refl
+  onward_same s t a same (Some b) h =
       let k = h b refl in
       ap (λ (r : Outcome). cond (models (complete guide b) f) (completed_by row guide b) (cond (is_exhausted f row d b) dead_end r))
       (fork_same k.0 f row s t (λ c q l. same c q (omega (arith, k.1))) (fewest row b f) (branching_variable row b f) refl)
@@ -76,12 +76,12 @@ module _ (n : ℕ) (f : List (List ℤ)) (fit : fits n f ≡ true) (row guide : 
 module _ (n : ℕ) (f : List (List ℤ)) (fit : fits n f ≡ true) (row guide : List ℕ) (g : Guides n row guide) (d : ℕ) where
   -- what is right of the narrowed state is right of the state
   after_narrowing : (a b : List ℕ) → NarrowedTo n f row d a b → (o : Option Answer) → Right n f row d b o → Right n f row d a o
-  after_narrowing a b k none p = λ c m e. go c m e (leb (disagreement row c) d) refl
+  after_narrowing a b k None p = λ c m e. go c m e (leb (disagreement row c) d) refl
     where
       go : (c : List ℕ) → Model n f c → Extends c a → (t : Bool) → leb (disagreement row c) d ≡ t → d < disagreement row c
       go c m e true q = p c m (k.keeps c m e (leb-true (disagreement row c) d q))
       go c m e false q = leb-false (disagreement row c) d q
-  after_narrowing a b k (some x) p = (p.0, extends_trans p.1 k.extends)
+  after_narrowing a b k (Some x) p = (p.0, extends_trans p.1 k.extends)
 
   of_guide : (b : List ℕ) → State n b → is_dead_end f row d b ≡ false → models (complete guide b) f ≡ true → Right n f row d b (completed_by row guide b).answer
   of_guide b s e t = (
@@ -91,14 +91,14 @@ module _ (n : ℕ) (f : List (List ℤ)) (fit : fits n f ≡ true) (row guide : 
 
   -- steps 2 to 5 at a narrowed state, where the search goes on as `try` says
   of_narrowed : (try : List ℕ → Outcome) (b : List ℕ) → State n b → is_dead_end f row d b ≡ false
-      → ((c : List ℕ) → State n c → unassigned c < unassigned b → Right n f row d c (try c).answer) → Right n f row d b (onward f row guide d try (some b)).answer
+      → ((c : List ℕ) → State n c → unassigned c < unassigned b → Right n f row d c (try c).answer) → Right n f row d b (onward f row guide d try (Some b)).answer
   of_narrowed try b s alive ih = meets (models (complete guide b) f) refl
     where
       forks : models (complete guide b) f ≡ false → (o : Option ℕ) → branching_variable row b f ≡ o → Right n f row d b (fork_on try row b (fewest row b f) o).answer
-      forks t none e =
+      forks t None e =
           let r = branching_open s row f fit (dead_causes f row d b alive).0 (undecided_open guide b f t) in
-          absurd (some-ne-none r.0 (sym r.1 ∙ e))
-      forks t (some v) e =
+          absurd (none-some r.0 (sym (sym r.1 ∙ e)))
+      forks t (Some v) e =
           let k = branching_sound s row f e in
           let x : ℕ = first_value row (fewest row b f) v in
           let l : x < 2 = first_bit row (fewest row b f) v in
@@ -123,9 +123,9 @@ module _ (n : ℕ) (f : List (List ℤ)) (fit : fits n f ≡ true) (row guide : 
     where
       go : ((c : List ℕ) → State n c → unassigned c < k → Right n f row d c (search_by k f row guide d c).answer)
           → (o : Option (List ℕ)) → Narrowed n f row d a o → Right n f row d a (onward f row guide d (search_by k f row guide d) o).answer
-      go ih none p = p
-      go ih (some b) p =
-          after_narrowing a b p (onward f row guide d (search_by k f row guide d) (some b)).answer
+      go ih None p = p
+      go ih (Some b) p =
+          after_narrowing a b p (onward f row guide d (search_by k f row guide d) (Some b)).answer
           (of_narrowed (search_by k f row guide d) b p.state p.alive (λ c q r. ih c q (omega (arith, p.fewer))))
 
   -- The search from any state is right.

@@ -1,6 +1,5 @@
 -- Narrowing a state for a limit d: unit propagation, disjoint cores, and the wishes that every model within d keeps, until nothing more follows. It comes to a dead end (none), where no model within d extends the state, or to a state that every such model extends too.
-use Rattle.std.specs.Prelude.{Bool, cond, ◌&&◌, List, ℕ, zero, suc, ◌+◌, eqb, ltb, ℤ, length}
-use Rattle.std.proofs.Math.Option.{Option, none, some}
+use Rattle.std.specs.Prelude.{Bool, cond, ◌&&◌, List, ℕ, zero, suc, ◌+◌, eqb, ltb, ℤ, length, Option, None, Some}
 use Rattle.literal.specs.Literal.{value}
 use Rattle.wish.specs.Wish.{weight}
 use Rattle.walk.specs.State.{unassigned}
@@ -25,19 +24,19 @@ keep_all row d taken bound b = keep_from (length b) row d taken bound b 1
 
 -- where a wish had to be kept, which makes the state a of b and is told by the number of unassigned variables, it is narrowed on; else b is the narrowed state
 abbrev pub unless_kept : (List ℕ → Option (List ℕ)) → List ℕ → List ℕ → Option (List ℕ)
-unless_kept rest b a = cond (eqb (unassigned a) (unassigned b)) (some b) (rest a)
+unless_kept rest b a = cond (eqb (unassigned a) (unassigned b)) (Some b) (rest a)
 
 -- where every model that extends the state breaks more than d, it is a dead end
 abbrev pub by_cores : (List ℕ → Option (List ℕ)) → List ℕ → ℕ → List ℕ → Scan → Option (List ℕ)
-by_cores rest row d b s = cond (ltb d s.bound) none (unless_kept rest b (keep_all row d s.taken s.bound b))
+by_cores rest row d b s = cond (ltb d s.bound) None (unless_kept rest b (keep_all row d s.taken s.bound b))
 
 -- one round, of a state to which unit propagation adds nothing
 abbrev pub narrowed : (List ℕ → Option (List ℕ)) → List (List ℤ) → List ℕ → ℕ → List ℕ → Option (List ℕ)
-narrowed rest f row d b = cond (is_dead_end f row d b) none (by_cores rest row d b (scan f row b))
+narrowed rest f row d b = cond (is_dead_end f row d b) None (by_cores rest row d b (scan f row b))
 
 -- at most k rounds
 abbrev pub narrow_by : ℕ → List (List ℤ) → List ℕ → ℕ → List ℕ → Option (List ℕ)
-narrow_by zero f row d a = none
+narrow_by zero f row d a = None
 narrow_by (suc k) f row d a = narrowed (narrow_by k f row d) f row d (propagate f a)
 
 -- Each round but the last assigns a variable, so that there are no more rounds than unassigned variables and one.

@@ -1,6 +1,5 @@
 -- Narrowing: one round of it, and what it comes to.
-use Rattle.std.specs.Prelude.{◌≡◌, false, List, ℕ, ◌≤◌, ◌<◌, ℤ}
-use Rattle.std.proofs.Math.Option.{Option, none, some}
+use Rattle.std.specs.Prelude.{◌≡◌, false, List, ℕ, ◌≤◌, ◌<◌, ℤ, Option, None, Some}
 use Rattle.distance.specs.Distance.{disagreement}
 use Rattle.choices.specs.Choices.{Model}
 use Rattle.walk.specs.State.{State, unassigned}
@@ -19,5 +18,5 @@ pub record NarrowedTo (n : ℕ) (f : List (List ℤ)) (row : List ℕ) (d : ℕ)
 
 -- what is right of a narrowing: where it finds a dead end, no model within d extends the state
 abbrev pub Narrowed : ℕ → List (List ℤ) → List ℕ → ℕ → List ℕ → Option (List ℕ) → Type 0
-Narrowed n f row d a none = (c : List ℕ) → Model n f c → Extends c a → d < disagreement row c
-Narrowed n f row d a (some b) = NarrowedTo n f row d a b
+Narrowed n f row d a None = (c : List ℕ) → Model n f c → Extends c a → d < disagreement row c
+Narrowed n f row d a (Some b) = NarrowedTo n f row d a b

@@ -1,6 +1,5 @@
 -- The search by disjoint cores: document 01's steps 2 to 5 at narrowed states. A completion goes by a guide, a row that asks of every wished variable its wish (`Guides` of SearchRight) and of a free one what a choice at hand has, so that a choice close to that one is mostly found soon.
-use Rattle.std.specs.Prelude.{cond, List, ℕ, zero, suc, ℤ}
-use Rattle.std.proofs.Math.Option.{Option, none, some}
+use Rattle.std.specs.Prelude.{cond, List, ℕ, zero, suc, ℤ, Option, None, Some}
 use Rattle.formula.specs.Formula.{models}
 use Rattle.distance.specs.Distance.{disagreement}
 use Rattle.walk.specs.State.{unassigned}
@@ -10,12 +9,12 @@ use Rattle.nearest_cores.specs.Narrow.{narrow}
 
 -- the completion by a guide is the answer; it breaks what the state breaks, since a guide keeps every wish that is left
 abbrev pub completed_by : List ℕ → List ℕ → List ℕ → Outcome
-completed_by row guide b = record { answer = some (record { choice = complete guide b; broken = disagreement row b }); forks = 0 }
+completed_by row guide b = record { answer = Some (record { choice = complete guide b; broken = disagreement row b }); forks = 0 }
 
 -- steps 2 to 5 at a narrowed state, where there is one
 abbrev pub onward : List (List ℤ) → List ℕ → List ℕ → ℕ → (List ℕ → Outcome) → Option (List ℕ) → Outcome
-onward f row guide d try none = dead_end
-onward f row guide d try (some b) =
+onward f row guide d try None = dead_end
+onward f row guide d try (Some b) =
     cond (models (complete guide b) f)
     (completed_by row guide b)
     (cond (is_exhausted f row d b)

@@ -1,7 +1,6 @@
 -- From a model within a limit to the first one: the variables are fixed one after the other, from 1 upward, by any search that is right from a state (`Right` of crate walk).
-use Rattle.std.specs.Prelude.{◌≡◌, refl, ◌⊎◌, Bool, true, false, List, ℕ, zero, suc, ◌+◌, ◌≤◌, ◌<◌, ℤ, length, replicate}
+use Rattle.std.specs.Prelude.{◌≡◌, refl, ◌⊎◌, Bool, true, false, List, ℕ, zero, suc, ◌+◌, ◌≤◌, ◌<◌, ℤ, length, replicate, Option, None, Some}
 use Rattle.std.proofs.Common.{sym, ap, ◌∙◌, inl, inr, ⊎_elim, arith, ext_get_or}
-use Rattle.std.proofs.Math.Option.{Option, none, some}
 use Rattle.std.proofs.Math.Decide.{ℕ_discrete}
 use Rattle.literal.specs.Literal.{value}
 use Rattle.distance.specs.Distance.{disagreement}
@@ -31,12 +30,16 @@ pub record Refining (n : ℕ) (f : List (List ℤ)) (row : List ℕ) (d v : ℕ)
 
 -- what a search from the state with a variable off comes to: the variable's value, and the choice at hand then
 abbrev pub value_after : Option Answer → ℕ
-value_after none = 1
-value_after (some x) = 0
+value_after None = 1
+value_after (Some x) = 0
 
 abbrev pub hand_after : List ℕ → Option Answer → List ℕ
-hand_after c none = c
-hand_after c (some x) = x.choice
+hand_after c None = c
+hand_after c (Some x) = x.choice
+
+value_bit : (o : Option Answer) → value_after o < 2
+value_bit None = omega arith
+value_bit (Some x) = omega arith
 
 -- a search that is right from the state a with variable v off: its answer decides the value, and the choice at hand then
 pub record Decided (n : ℕ) (f : List (List ℤ)) (row : List ℕ) (d : ℕ) (a : List ℕ) (v : ℕ) (c c' : List ℕ) (bit : ℕ) : Type 0 where
@@ -175,7 +178,11 @@ module _ {n : ℕ} {f : List (List ℤ)} {row : List ℕ} {d v : ℕ} {a c : Lis
 
     -- a search that is right from the state with it off
     pub refining_searched : (o : Option Answer) → Right n f row d (assign a u 0) o → Refining n f row d u (assign a u (value_after o)) (hand_after c o)
-    refining_searched none p = refining_on p
-    refining_searched (some x) p =
+    refining_searched None p = refining_on p
+    refining_searched (Some x) p =
         let w : ModelWithin n f row d x = p.0 in
         refining_off x.choice w.model (omega (arith, w.own_count, w.limited)) p.1
+
+    -- so its answer decides
+    pub refining_decided : {c' : List ℕ} {bit : ℕ} → Decided n f row d a u c c' bit → (bit < 2) × Refining n f row d u (assign a u bit) c'
+    refining_decided s = rw (s.value_is, s.hand_is) (value_bit s.answer, refining_searched s.answer s.right)

@@ -37,30 +37,35 @@ pub fn value_by_search(
     ensures witness { Witnesses rules.now witnesses.new }
 {
     let n = a.len();
-    let mut guide = search_state::no_values();
-    let mut values = search_state::no_values();
-    let mut trace = search_state::no_trail();
-    nearest_guide::write_guide(row, choice, &mut guide[..n]);
-    search_state::copy_to(a, &mut values);
-    search_state::copy_numbers(trail, &mut trace[..n]);
+    let mut guide_room = [0u8; limits::MAX_VARIABLES];
+    let mut values_room = [0u8; limits::MAX_VARIABLES];
+    let mut trace_room = [0u16; limits::MAX_VARIABLES];
+    let guide = &mut guide_room[..n];
+    let values = &mut values_room[..n];
+    let trace = &mut trace_room[..n];
+    nearest_guide::write_guide(row, choice, guide);
+    values.copy_from_slice(a);
+    trace.copy_from_slice(trail);
     match search_off(
         rules,
         arrangement,
         row,
-        &guide[..n],
+        guide,
         d,
         tally,
         v,
-        &mut values[..n],
-        &mut trace[..n],
+        values,
+        trace,
         witnesses,
         weights,
-    ) {
-        Tried::Found(_, _) => {
-            search_state::copy_to(&values[..n], choice);
+    )
+    .found
+    {
+        Some(_) => {
+            choice.copy_from_slice(values);
             0
         }
-        Tried::Nothing(_) => 1,
+        None => 1,
     }
 }
 

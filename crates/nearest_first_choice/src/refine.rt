@@ -1,6 +1,5 @@
 // All variables, from 1 upward.
-ghost use Rattle.std.specs.Prelude.{◌≡◌, ◌≤◌, length, take};
-ghost use Rattle.std.proofs.Math.Option.{none};
+ghost use Rattle.std.specs.Prelude.{◌≡◌, ◌≤◌, length, take, None};
 ghost use Rattle.choices.specs.Choices.{Model};
 ghost use Rattle.choices.specs.Order.{FirstWithin};
 ghost use Rattle.distance.specs.Distance.{disagreement, first_within};
@@ -26,7 +25,7 @@ pub fn make_first(
 )
     requires trail_len { (length trail.old ≡ length a.old) × Ready rules.now arrangement.now witnesses.old (length a.old) (length weights.old) }
     requires a_in_bounds { (length a.old ≤ length choice.old) × Model (length a.old) (clauses rules.now) (take (length a.old) choice.old) × (disagreement row.now (take (length a.old) choice.old) ≤ d) }
-    ensures { choice.new ≡ choice_after none (with_broken row.now (first_within (length a.old) rules.now row.now d)) (length a.old) choice.old }
+    ensures { choice.new ≡ choice_after None (with_broken row.now (first_within (length a.old) rules.now row.now d)) (length a.old) choice.old }
 {
     let n = a.len();
     refine(
@@ -59,8 +58,7 @@ fn refine(
     ensures { FirstWithin (length a.old) (clauses rules.now) row.now d choice.new }
 {
     let mut tally = settle_first(rules, arrangement, row, d, a, trail);
-    let mut i = 0;
-    while i < a.len() {
+    for i in 0..a.len() {
         tally = fix(
             rules,
             arrangement,
@@ -74,6 +72,5 @@ fn refine(
             weights,
             choice,
         );
-        i += 1;
     }
 }

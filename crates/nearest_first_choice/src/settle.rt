@@ -12,7 +12,6 @@ ghost use Rattle.walk_unit_queue.specs.Theorems.{Covers};
 ghost use Rattle.walk.specs.Propagation.{propagate};
 ghost use Rattle.walk.specs.Walk.{is_dead_end};
 
-use walk_propagation::Propagated;
 use walk_tally::Tally;
 
 // Propagates a state that some model within the limit extends, and in which only clauses of the newest
@@ -32,8 +31,8 @@ pub fn settle(
 {
     let from = search_state::newest_of(tally.settled);
     match walk_propagation::propagate_units(rules, arrangement, row, d, from, tally, a, trail) {
-        Propagated::Dead(t) => t,
-        Propagated::Settled(t) => t,
+        Ok(t) => t,
+        Err(dead) => dead.tally,
     }
 }
 
@@ -51,7 +50,7 @@ pub fn settle_first(
     ensures { (a.new ≡ propagate (clauses rules.now) (replicate (length a.old) 2)) × Searching (length a.old) row.now a.new trail.new result.settled result.broken }
 {
     match search_state::settle_root(rules, arrangement, row, d, a, trail) {
-        Propagated::Dead(t) => t,
-        Propagated::Settled(t) => t,
+        Ok(t) => t,
+        Err(dead) => dead.tally,
     }
 }

@@ -24,10 +24,7 @@ pub fn write_guide(row: &[u8], choice: &[u8], guide: &mut [u8])
     requires { (length guide.old ≤ length choice.now) × ((i : ℕ) → i < length guide.old → get_or choice.now i 0 < 2) }
     ensures { Guides (length guide.old) row.now guide.new }
 {
-    let mut i = 0;
-    while i < guide.len() {
-        let next = i + 1;
-        guide[i] = guide_byte(literal::value_of(Variable(next), row), choice[i]);
-        i = next;
+    for i in 0..guide.len() {
+        guide[i] = guide_byte(literal::value_of(Variable(i + 1), row), choice[i]);
     }
 }

@@ -16,10 +16,7 @@ fn must_keep(row: &[u8], d: usize, taken: &[u8], bound: usize, v: Variable) -> b
     requires { bound ≤ d }
     ensures { result ≡ must_keep row.now d taken.now bound v.0 }
 {
-    if literal::value_of(v, taken) != 0 {
-        return false;
-    }
-    d - bound < wish::weight_of(literal::value_of(v, row))
+    literal::value_of(v, taken) == 0 && d - bound < wish::weight_of(literal::value_of(v, row))
 }
 
 // Assigns the wish of a variable, where it must be kept.
@@ -60,11 +57,8 @@ pub fn keep_wishes(
     ensures kept { KeptTo (length a.old) row.now tally a.old trail.old result a.new trail.new }
 {
     let mut present = tally;
-    let mut i = 0;
-    while i < a.len() {
-        let next = i + 1;
-        present = keep_wish(row, d, taken, bound, Variable(next), present, a, trail);
-        i = next;
+    for i in 0..a.len() {
+        present = keep_wish(row, d, taken, bound, Variable(i + 1), present, a, trail);
     }
     present
 }

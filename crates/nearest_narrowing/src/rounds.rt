@@ -8,14 +8,13 @@ ghost use Rattle.nearest_cores.specs.Narrow.{narrow as narrow_of};
 ghost use Rattle.nearest_narrowing.specs.Rounds.{RoundBy};
 
 use crate::keep::keep_wishes;
-use walk_propagation::Propagated;
+use walk_propagation::DeadEnd;
 use walk_tally::Tally;
 
-// What a round comes to: a dead end, the narrowed state, or one with wishes kept, which stand on the trail from a
-// place on.
+// What a round comes to that is no dead end: the narrowed state, or one with wishes kept, which stand on the trail
+// from a place on.
 #[derive(Clone, Copy)]
 enum Round {
-    Dead(Tally),
     Narrowed(Tally),
     Kept(usize, Tally),
 }
@@ -30,36 +29,32 @@ fn narrow_round(
     tally: Tally,
     a: &mut [u8],
     trail: &mut [u16],
-) -> Round
+) -> Result<Round, DeadEnd>
     requires { Following rules.now arrangement.now row.now tally a.old trail.old × (from ≤ tally.settled) × Covers (clauses rules.now) (pending from tally a.old trail.old) }
     ensures { RoundBy (length a.old) (clauses rules.now) row.now d tally a.old trail.old a.new trail.new result }
 {
-    match walk_propagation::propagate_units(rules, arrangement, row, d, from, tally, a, trail) {
-        Propagated::Dead(t) => Round::Dead(t),
-        Propagated::Settled(t) => {
-            let n = a.len();
-            let mut taken = search_state::no_values();
-            let mut assumed = search_state::no_assumed();
-            let bound = nearest_core_scan::find_cores(
-                rules,
-                arrangement,
-                row,
-                t,
-                a,
-                trail,
-                &mut taken[..n],
-                &mut assumed,
-            );
-            if d < bound {
-                return Round::Dead(t);
-            }
-            let kept = keep_wishes(row, d, &taken[..n], bound, t, a, trail);
-            if kept.settled == t.settled {
-                return Round::Narrowed(kept);
-            }
-            Round::Kept(t.settled, kept)
-        }
+    let t = walk_propagation::propagate_units(rules, arrangement, row, d, from, tally, a, trail)?;
+    let mut marks = [0u8; limits::MAX_VARIABLES];
+    let mut assumed = [0u16; limits::MAX_VARIABLES + 1];
+    let taken = &mut marks[..a.len()];
+    let bound = nearest_core_scan::find_cores(
+        rules,
+        arrangement,
+        row,
+        t,
+        a,
+        trail,
+        taken,
+        &mut assumed,
+    );
+    if d < bound {
+        return Err(DeadEnd { tally: t });
     }
+    let kept = keep_wishes(row, d, taken, bound, t, a, trail);
+    if kept.settled == t.settled {
+        return Ok(Round::Narrowed(kept));
+    }
+    Ok(Round::Kept(t.settled, kept))
 }
 
 // Narrows a state in which only clauses of the variables from a place of the trail on can ask for anything, round by
@@ -73,16 +68,15 @@ fn narrow_on(
     tally: Tally,
     a: &mut [u8],
     trail: &mut [u16],
-) -> Propagated
+) -> Result<Tally, DeadEnd>
     requires { Following rules.now arrangement.now row.now tally a.old trail.old × (from ≤ tally.settled) × Covers (clauses rules.now) (pending from tally a.old trail.old) }
     ensures { ComesTo (length a.old) row.now (narrow_of (clauses rules.now) row.now d a.old) tally a.old trail.old a.new trail.new result }
 {
     let mut present = tally;
     let mut head = from;
     loop {
-        match narrow_round(rules, arrangement, row, d, head, present, a, trail) {
-            Round::Dead(t) => return Propagated::Dead(t),
-            Round::Narrowed(t) => return Propagated::Settled(t),
+        match narrow_round(rules, arrangement, row, d, head, present, a, trail)? {
+            Round::Narrowed(t) => return Ok(t),
             Round::Kept(place, t) => {
                 head = place;
                 present = t;
@@ -102,13 +96,12 @@ pub fn narrow(
     tally: Tally,
     a: &mut [u8],
     trail: &mut [u16],
-) -> Propagated
+) -> Result<Tally, DeadEnd>
     requires { Following rules.now arrangement.now row.now tally a.old trail.old × (from ≤ tally.settled) × Covers (clauses rules.now) (pending from tally a.old trail.old) }
     ensures { ComesTo (length a.old) row.now (narrow_of (clauses rules.now) row.now d a.old) tally a.old trail.old a.new trail.new result }
 {
-    match narrow_round(rules, arrangement, row, d, from, tally, a, trail) {
-        Round::Dead(t) => Propagated::Dead(t),
-        Round::Narrowed(t) => Propagated::Settled(t),
+    match narrow_round(rules, arrangement, row, d, from, tally, a, trail)? {
+        Round::Narrowed(t) => Ok(t),
         Round::Kept(place, t) => narrow_on(rules, arrangement, row, d, place, t, a, trail),
     }
 }

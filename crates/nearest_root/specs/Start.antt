@@ -1,7 +1,6 @@
 -- What the settled root says of the root: of its models, of their cost, and of the search from there.
-use Rattle.std.specs.Prelude.{◌≡◌, true, List, ℕ, ◌≤◌, ℤ, replicate}
+use Rattle.std.specs.Prelude.{◌≡◌, true, List, ℕ, ◌≤◌, ℤ, replicate, Option, None, Some, Ok, Err}
 use Rattle.std.proofs.Common.{sym, subst}
-use Rattle.std.proofs.Math.Option.{Option, none, some}
 use Rattle.std.proofs.Math.Seq.{slice_empty}
 use Rattle.formula.specs.Formula.{clauses}
 use Rattle.choices.specs.Choices.{Model}
@@ -9,7 +8,7 @@ use Rattle.distance.specs.Distance.{disagreement}
 use Rattle.rule_list.specs.Sound.{SoundList}
 use Rattle.search_meaning.specs.Fits.{sound_fits}
 use Rattle.walk_tally.specs.declared.Tally.{Tally}
-use Rattle.walk_propagation.specs.declared.propagated.Propagated.TheVariants.{Dead, Settled}
+use Rattle.walk_propagation.specs.declared.propagated.DeadEnd.{DeadEnd}
 use Rattle.walk_propagation.specs.Looked.{pending}
 use Rattle.walk_unit_queue.specs.Due.{NoneDue}
 use Rattle.walk_unit_queue.specs.Theorems.{Covers}
@@ -23,7 +22,6 @@ use Rattle.walk.specs.State.{fits}
 use Rattle.walk.specs.Walk.{Answer}
 use Rattle.walk.proofs.WalkLaws.{dead_none}
 use Rattle.search_state.specs.declared.result.Tried.{Tried}
-use Rattle.search_state.specs.declared.result.Tried.TheVariants.{Found, Nothing}
 use Rattle.search_state.specs.Root.{SettledRoot}
 use Rattle.search_state.specs.Tried.{TriedBy}
 use Rattle.nearest_cores.specs.Cores.{scan}
@@ -51,11 +49,11 @@ module _ (n : ℕ) (rules : List ℤ) (sound : SoundList n rules) (row : List �
   forced c m = propagate_forced f m.satisfies (start_extends n c)
 
   -- a dead end
-  pub root_dead : {trail a trail' : List ℕ} {t : Tally} → SettledRoot n f row d trail a trail' (Dead t) → Right n f row d (replicate n 2) none
+  pub root_dead : {trail a trail' : List ℕ} {e : DeadEnd} → SettledRoot n f row d trail a trail' (Err e) → Right n f row d (replicate n 2) None
   root_dead told c m x = dead_none (forced c m) f row d told.0 m.satisfies
 
   -- or the settled root
-  module _ {trail a trail' : List ℕ} {t : Tally} (told : SettledRoot n f row d trail a trail' (Settled t)) where
+  module _ {trail a trail' : List ℕ} {t : Tally} (told : SettledRoot n f row d trail a trail' (Ok t)) where
     extends : (c : List ℕ) → Model n f c → Extends c a
     extends c m = subst (Extends c) (sym told.0) (forced c m)
 
@@ -65,14 +63,10 @@ module _ (n : ℕ) (rules : List ℤ) (sound : SoundList n rules) (row : List �
 
     -- what is right of the settled root is right of the root
     back : (o : Option Answer) → Right n f row d a o → Right n f row d (replicate n 2) o
-    back none p = λ c m x. p c m (extends c m)
-    back (some x) p = (p.0, start_extends n x.choice)
+    back None p = λ c m x. p c m (extends c m)
+    back (Some x) p = (p.0, start_extends n x.choice)
 
     -- the search from there
     pub root_tried : {guide : List ℕ} → Guides n row guide → (k : ℕ) (there trail'' trail''' a' : List ℕ) (s : Tried) → TriedBy (search_from f row guide d a) k there trail'' trail''' a' s → RootRight n f row d a' s
     root_tried {guide} g k there trail'' trail''' a' s u =
-        go s u (back (search_from f row guide d a).answer (search_right n f fit row guide g d a told.2.searching.state))
-      where
-        go : (s : Tried) → TriedBy (search_from f row guide d a) k there trail'' trail''' a' s → Right n f row d (replicate n 2) (search_from f row guide d a).answer → RootRight n f row d a' s
-        go (Found broken forks) u p = subst (Right n f row d (replicate n 2)) u.0 p
-        go (Nothing forks) u p = subst (Right n f row d (replicate n 2)) u.0 p
+        subst (Right n f row d (replicate n 2)) u.0 (back (search_from f row guide d a).answer (search_right n f fit row guide g d a told.2.searching.state))

@@ -7,7 +7,6 @@ ghost use Rattle.walk_witnesses.specs.Witnesses.{Witnesses};
 ghost use Rattle.nearest_root.specs.Root.{FoundWithin};
 
 use crate::root::search_from_root;
-use search_state::Tried;
 
 // A choice begins with a model, by which the search is guided. Where a model within the limit is found, it takes
 // its place.
@@ -27,24 +26,23 @@ pub fn search_within(
     ensures found { FoundWithin (length a.old) (clauses rules.now) row.now d choice.old choice.new result }
     ensures witness { Witnesses rules.now witnesses.new }
 {
-    let mut guide = search_state::no_values();
-    let n = a.len();
-    nearest_guide::write_guide(row, choice, &mut guide[..n]);
-    match search_from_root(
+    let mut bytes = [0u8; limits::MAX_VARIABLES];
+    let guide = &mut bytes[..a.len()];
+    nearest_guide::write_guide(row, choice, guide);
+    let tried = search_from_root(
         rules,
         arrangement,
         row,
-        &guide[..n],
+        guide,
         d,
         a,
         trail,
         witnesses,
         weights,
-    ) {
-        Tried::Found(_, _) => {
-            search_state::copy_to(a, choice);
-            true
-        }
-        Tried::Nothing(_) => false,
+    );
+    if tried.found.is_none() {
+        return false;
     }
+    search_state::copy_to(a, choice);
+    true
 }

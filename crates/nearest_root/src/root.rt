@@ -7,7 +7,6 @@ ghost use Rattle.walk_witnesses.specs.Witnesses.{Witnesses};
 ghost use Rattle.nearest_root.specs.Root.{RootRight};
 
 use search_state::Tried;
-use walk_propagation::Propagated;
 
 // Searches from the root, whatever the lent space holds but for the witnesses.
 pub fn search_from_root(
@@ -26,20 +25,23 @@ pub fn search_from_root(
     ensures root { RootRight (length a.old) (clauses rules.now) row.now d a.new result }
     ensures witness { Witnesses rules.now witnesses.new }
 {
-    match search_state::settle_root(rules, arrangement, row, d, a, trail) {
-        Propagated::Dead(_) => Tried::Nothing(0),
-        Propagated::Settled(t) => nearest_core_search::attempt(
-            rules,
-            arrangement,
-            row,
-            guide,
-            d,
-            t.settled,
-            t,
-            a,
-            trail,
-            witnesses,
-            weights,
-        ),
-    }
+    let Ok(t) = search_state::settle_root(rules, arrangement, row, d, a, trail) else {
+        return Tried {
+            found: None,
+            forks: 0,
+        };
+    };
+    nearest_core_search::attempt(
+        rules,
+        arrangement,
+        row,
+        guide,
+        d,
+        t.settled,
+        t,
+        a,
+        trail,
+        witnesses,
+        weights,
+    )
 }

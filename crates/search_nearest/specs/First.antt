@@ -1,7 +1,7 @@
 -- From the walk without a limit, and the least count, to the first nearest choice.
-use Rattle.std.specs.Prelude.{◌≡◌, refl, List, ◌++◌, ℕ, ◌≤◌, ℤ, length, take, drop}
+use Rattle.std.specs.Prelude.{◌≡◌, refl, List, ◌++◌, ℕ, ◌≤◌, ℤ, length, take, drop, Option, None, Some}
 use Rattle.std.proofs.Common.{sym, ap, ◌∙◌, arith, take_at, drop_at}
-use Rattle.std.proofs.Math.Option.{Option, none, some, none-ne-some}
+use Rattle.std.proofs.lemmas.Option.{none-some}
 use Rattle.formula.specs.Formula.{clauses}
 use Rattle.wish.specs.Wish.{total_weight}
 use Rattle.distance.specs.Distance.{disagreement, first_within, nearest}
@@ -18,9 +18,9 @@ use Rattle.search_meaning.specs.Meaning.{nearest_is}
 use Rattle.search_meaning.specs.Searches.{broken_by, with_broken, choice_after, nearest_answer}
 use Rattle.search_nearest.specs.Least.{Least, least-nearest}
 
-no_broken : (o : Option Answer) → none ≡ broken_by o → o ≡ none
-no_broken none e = refl
-no_broken (some x) e = absurd (none-ne-some x.broken e)
+no_broken : (o : Option Answer) → None ≡ broken_by o → o ≡ None
+no_broken None e = refl
+no_broken (Some x) e = absurd (none-some x.broken e)
 
 module _ (n : ℕ) (rules : List ℤ) (sound : SoundList n rules) (row : List ℕ) where
   -- the walk without a limit
@@ -29,20 +29,20 @@ module _ (n : ℕ) (rules : List ℤ) (sound : SoundList n rules) (row : List �
     answer = (walk n (clauses rules) row total).answer
 
     -- it found none: there is no model
-    module _ (all : total ≡ total_weight row) (e : answer ≡ none) where
-      nothing : nearest_answer n rules row ≡ none
+    module _ (all : total ≡ total_weight row) (e : answer ≡ None) where
+      nothing : nearest_answer n rules row ≡ None
       nothing =
           let never = (walk_none n (clauses rules) (sound_fits n rules sound) row total).0 e in
           no_broken (nearest_answer n rules row) (sym (nearest_is n rules row ∙ (nearest_none n rules row).1 (λ a m. omega (arith, never a m, disagreement-most row a))))
 
-      pub none_answered : none ≡ broken_by (nearest_answer n rules row)
+      pub none_answered : None ≡ broken_by (nearest_answer n rules row)
       none_answered = sym (ap broken_by nothing)
 
-      pub none_written : (bytes : List ℕ) → bytes ≡ choice_after none (nearest_answer n rules row) n bytes
-      none_written bytes = sym (ap (λ (o : Option Answer). choice_after none o n bytes) nothing)
+      pub none_written : (bytes : List ℕ) → bytes ≡ choice_after None (nearest_answer n rules row) n bytes
+      none_written bytes = sym (ap (λ (o : Option Answer). choice_after None o n bytes) nothing)
 
     -- it found the model a, which breaks k wishes, and that was copied to the front of the bytes
-    module _ (a : List ℕ) (k : ℕ) (e : answer ≡ some (record { choice = a; broken = k })) (before after : List ℕ) (copied : after ≡ a ++ drop (length a) before) where
+    module _ (a : List ℕ) (k : ℕ) (e : answer ≡ Some (record { choice = a; broken = k })) (before after : List ℕ) (copied : after ≡ a ++ drop (length a) before) where
       found : ModelWithin n (clauses rules) row total (record { choice = a; broken = k })
       found = walk_sound n (clauses rules) (sound_fits n rules sound) row total (record { choice = a; broken = k }) e
 
@@ -60,17 +60,17 @@ module _ (n : ℕ) (rules : List ℤ) (sound : SoundList n rules) (row : List �
 
   -- the least count, with a model that has it in the first n bytes
   module _ {before after : List ℕ} {k : ℕ} (h : Least n (clauses rules) row before after k) where
-    count : nearest n rules row ≡ some k
+    count : nearest n rules row ≡ Some k
     count = (nearest-some n rules row k).1 (least-nearest h)
 
-    pub first_answered : some k ≡ broken_by (nearest_answer n rules row)
+    pub first_answered : Some k ≡ broken_by (nearest_answer n rules row)
     first_answered = sym (nearest_is n rules row ∙ count)
 
     -- the first within that count is written over it
-    pub first_written : (start last : List ℕ) → drop n before ≡ drop n start → last ≡ choice_after none (with_broken row (first_within n rules row k)) n after → last ≡ choice_after none (nearest_answer n rules row) n start
+    pub first_written : (start last : List ℕ) → drop n before ≡ drop n start → last ≡ choice_after None (with_broken row (first_within n rules row k)) n after → last ≡ choice_after None (nearest_answer n rules row) n start
     first_written start last same e =
-        e ∙ ap (λ (o : Option (List ℕ)). choice_after none (with_broken row o) n after) (sym (first_at n rules row k count)) ∙ go (nearest_answer n rules row) first_answered
+        e ∙ ap (λ (o : Option (List ℕ)). choice_after None (with_broken row o) n after) (sym (first_at n rules row k count)) ∙ go (nearest_answer n rules row) first_answered
       where
-        go : (o : Option Answer) → some k ≡ broken_by o → choice_after none o n after ≡ choice_after none o n start
-        go none g = absurd (none-ne-some k (sym g))
-        go (some y) g = ap (λ (l : List ℕ). y.choice ++ l) (h.rest ∙ same)
+        go : (o : Option Answer) → Some k ≡ broken_by o → choice_after None o n after ≡ choice_after None o n start
+        go None g = absurd (none-some k (sym g))
+        go (Some y) g = ap (λ (l : List ℕ). y.choice ++ l) (h.rest ∙ same)

@@ -5,20 +5,21 @@ ghost use Rattle.std.specs.Prelude.{◌≡◌, length};
 ghost use Rattle.search_meaning.specs.Answers.{reply_of, SearchMeans};
 ghost use Rattle.search_meaning.specs.Searches.{search_reply, search_choice};
 
-use admission_steps::Admission;
-use search_meaning::Searched;
+use refusal::Refusal;
 
 // Searches from what was lent; a choice that is found goes to the first n bytes of the lent choice.
-pub fn search(n: usize, rules: &[i32], row: &[u8], d: usize, choice: &mut [u8]) -> Searched
+pub fn search(
+    n: usize,
+    rules: &[i32],
+    row: &[u8],
+    d: usize,
+    choice: &mut [u8],
+) -> Result<Option<usize>, Refusal>
     ensures reply { reply_of result ≡ search_reply n rules.now row.now d (length choice.old) }
     ensures output { choice.new ≡ search_choice n rules.now row.now d choice.old }
     ensures meaning { SearchMeans n rules.now row.now d choice.new result }
 {
     let admitted = admission::admit_wishes(n, rules, row, d);
-    match admission_steps::with_room(admitted, n, choice.len()) {
-        Admission::Refused(r) => Searched::Refused(r),
-        Admission::Admitted(_) => search_state::answer_of(walk_root::walk_into(
-            n, rules, row, d, choice,
-        )),
-    }
+    admission_steps::with_room(admitted, n, choice.len())?;
+    search_state::answer_of(walk_root::walk_into(n, rules, row, d, choice))
 }

@@ -1,7 +1,6 @@
 -- `nearest_narrowing::rounds::narrow_on` meets its contract: each turn is one of the laws of `Narrowing`.
 use Prim.Native.Nat.{◌-◌}
 use lib.ListN.{length}
-use borrow.Author.Rules.{rules}
 use Rattle.formula.specs.Formula.{clauses}
 use Rattle.nearest_narrowing.specs.Rounds.{Narrowing}
 use Rattle.nearest_narrowing.proofs.rounds.narrow_on.Given as goal
