@@ -1,7 +1,6 @@
 -- Demand 3 of document 01, proved as one claim.
-use Rattle.std.specs.Prelude.{◌≡◌, List, ℕ, ◌≤◌, ℤ, length}
+use Rattle.std.specs.Prelude.{◌≡◌, List, ℕ, ◌≤◌, ℤ, length, Option, Some}
 use Rattle.std.proofs.Common.{sym, ap, subst, ◌∙◌, arith}
-use Rattle.std.proofs.Math.Option.{Option, some}
 use Rattle.std.proofs.lemmas.List.{length-replicate}
 use Rattle.formula.specs.Formula.{clauses}
 use Rattle.distance.specs.Distance.{nearest}
@@ -25,7 +24,7 @@ use Rattle.agreement.proofs.Second.{found_answered, found_passes, second_passes,
 
 -- two replies that say of one statement whether it holds agree
 agree : (Holds : Type 0) (d : ℕ) (first second : Reply) → Decided Holds d first → Decided Holds 0 second → Agree d first second
-agree Holds d first second (yes broken h e r) (yes count l f s) = both_find broken h e (f ∙ ap (λ (k : ℕ). found (some k)) (omega arith))
+agree Holds d first second (yes broken h e r) (yes count l f s) = both_find broken h e (f ∙ ap (λ (k : ℕ). found (Some k)) (omega arith))
 agree Holds d first second (yes broken h e r) (no f s) = absurd (s r)
 agree Holds d first second (no e r) (yes count l f s) = absurd (r s)
 agree Holds d first second (no e r) (no f s) = both_none e f

@@ -1,7 +1,6 @@
 -- What follows from the definitions of specs/Causes.antt.
-use Rattle.std.specs.Prelude.{◌≡◌, refl, Bool, true, false, List, ℕ, ◌≤◌, ltb, ℤ, length}
+use Rattle.std.specs.Prelude.{◌≡◌, refl, Bool, true, false, List, ℕ, ◌≤◌, ltb, ℤ, length, Option, None, Some}
 use Rattle.std.proofs.Common.{subst}
-use Rattle.std.proofs.Math.Option.{Option, none, some}
 use Rattle.refusal.specs.declared.Refusal.{Refusal}
 use Rattle.refusal.specs.Reply.{Reply, cause, too_short, answering, unless}
 use Rattle.limits.specs.Limits.{max_limit}
@@ -24,16 +23,16 @@ short_fine needed room = go (ltb room needed)
 
 -- the reply of a call with a cause or without one
 passes_fine : (o : Option Refusal) (v x y z : ℕ) → Passes (unless o (answering v x y z)) → Fine o
-passes_fine none v x y z h = tt
-passes_fine (some r) v x y z h = h
+passes_fine None v x y z h = tt
+passes_fine (Some r) v x y z h = h
 
 pub fine_passes : (o : Option Refusal) (reply : Reply) → Fine o → Passes reply → Passes (unless o reply)
-fine_passes none reply f h = h
-fine_passes (some r) reply f h = f
+fine_passes None reply f h = h
+fine_passes (Some r) reply f h = f
 
 pub answered_past : (o : Option Refusal) (reply : Reply) → Answered (unless o reply) → (unless o reply ≡ reply) × Answered reply
-answered_past none reply h = (refl, h)
-answered_past (some r) reply h = absurd h
+answered_past None reply h = (refl, h)
+answered_past (Some r) reply h = absurd h
 
 -- What rewriting admits with one d, every call with wishes admits with every d up to 64.
 module _ (n : ℕ) (rules : List ℤ) (row : List ℕ) where
@@ -42,8 +41,8 @@ module _ (n : ℕ) (rules : List ℤ) (row : List ℕ) where
   admitted_with d room h = go (unadmitted (wished_problem n rules row d)) refl
     where
       go : (o : Option Refusal) → unadmitted (wished_problem n rules row d) ≡ o → Admitted (wished_problem n rules row d)
-      go none e = lent.admitted (wished_problem n rules row d) e
-      go (some r) e =
+      go None e = lent.admitted (wished_problem n rules row d) e
+      go (Some r) e =
           absurd ((lent-number (wished_problem n rules row d) r e).1 (subst Fine (refused-lent (wished_problem n rules row d) (length (rewritten n rules row d)) room r e) h))
 
   pub admitted : Admissible n rules row → (d : ℕ) → d ≤ max_limit → Admitted (wished_problem n rules row d)

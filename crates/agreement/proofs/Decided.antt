@@ -1,6 +1,5 @@
 -- What follows from the definitions of specs/Decided.antt.
-use Rattle.std.specs.Prelude.{◌≡◌, refl, List, ℕ, ℤ, take, replicate}
-use Rattle.std.proofs.Math.Option.{Option, none, some}
+use Rattle.std.specs.Prelude.{◌≡◌, refl, List, ℕ, ℤ, take, replicate, Option, None, Some}
 use Rattle.std.proofs.Common.{arith}
 use Rattle.formula.specs.Formula.{clauses}
 use Rattle.walk.specs.Walk.{Answer, walk, plain_walk}
@@ -21,8 +20,8 @@ module _ (n : ℕ) (rules : List ℤ) (row : List ℕ) (d : ℕ) (ok : Admitted 
   search_decides = go (walk n (clauses rules) row d).answer refl
     where
       go : (o : Option Answer) → (walk n (clauses rules) row d).answer ≡ o → Decided (Reached n rules row d) d (found (broken_by o))
-      go none e = no refl (λ r. omega (arith, (search_none n rules ok.sound_rules row d).0 e r.0 r.1, r.2))
-      go (some x) e =
+      go None e = no refl (λ r. omega (arith, (search_none n rules ok.sound_rules row d).0 e r.0 r.1, r.2))
+      go (Some x) e =
           let f = search_found n rules ok.sound_rules row d x e in
           yes x.broken f.limited refl (x.choice, f.model, omega (arith, f.own_count, f.limited))
 
@@ -37,13 +36,13 @@ module _ (n : ℕ) (rules : List ℤ) (row : List ℕ) (d : ℕ) (ok : Admitted 
       R = rewritten n rules row d
 
       go : (o : Option Answer) → (plain_walk N (clauses R)).answer ≡ o → Decided (Reached n rules row d) 0 (found (broken_by o))
-      go none e = no refl (λ r.
+      go None e = no refl (λ r.
           (plain-nothing N R (sound n rules row d ok)).0 e (completion row r.0)
           (record {
             choice = completion_choice n row r.0 r.1.choice;
             satisfies = within_found n rules row d r.0 ok.sound_rules ok.long_row r.1.choice r.1.satisfies r.2;
           }))
-      go (some x) e =
+      go (Some x) e =
           let f = search_found N R (sound n rules row d ok) (replicate N 2) 0 x e in
           let (choice, met, near) = found_within n rules row d x.choice ok.sound_rules ok.long_row f.model.choice f.model.satisfies in
           yes x.broken f.limited refl (take n x.choice, record { choice = choice; satisfies = met }, near)

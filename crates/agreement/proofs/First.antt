@@ -1,7 +1,6 @@
 -- Nearest's count is the first d at which the second route finds.
-use Rattle.std.specs.Prelude.{◌≡◌, refl, List, ℕ, ◌≤◌, ◌<◌, ℤ}
+use Rattle.std.specs.Prelude.{◌≡◌, refl, List, ℕ, ◌≤◌, ◌<◌, ℤ, Option, None, Some}
 use Rattle.std.proofs.Common.{sym, ap, subst, ◌∙◌, le_refl, lt_of_not-le, arith}
-use Rattle.std.proofs.Math.Option.{Option, none, some}
 use Rattle.formula.specs.Formula.{clauses}
 use Rattle.distance.specs.Distance.{disagreement, nearest}
 use Rattle.choices.specs.Choices.{Model, Nearest}
@@ -21,29 +20,29 @@ use Rattle.agreement_second_route.specs.Routes.{Buffers, second_route, Answered}
 use Rattle.agreement.proofs.Second.{second_outcome, enough, second_enough}
 
 -- the answers of found are apart
-found_some : (o : Option ℕ) (k : ℕ) → found o ≡ found (some k) → o ≡ some k
-found_some none k e = cc
-found_some (some j) k e = cc
+found_some : (o : Option ℕ) (k : ℕ) → found o ≡ found (Some k) → o ≡ Some k
+found_some None k e = cc
+found_some (Some j) k e = cc
 
-found_none : (o : Option ℕ) → found o ≡ found none → o ≡ none
-found_none none e = refl
-found_none (some j) e = cc
+found_none : (o : Option ℕ) → found o ≡ found None → o ≡ None
+found_none None e = refl
+found_none (Some j) e = cc
 
 -- a reply that says whether a statement holds, and breaks no wish
 module _ (Holds : Type 0) (reply : Reply) where
-  decided_yes : Decided Holds 0 reply → Holds → reply ≡ found (some 0)
-  decided_yes (yes broken h e r) holds = e ∙ ap (λ (k : ℕ). found (some k)) (omega arith)
+  decided_yes : Decided Holds 0 reply → Holds → reply ≡ found (Some 0)
+  decided_yes (yes broken h e r) holds = e ∙ ap (λ (k : ℕ). found (Some k)) (omega arith)
   decided_yes (no e r) holds = absurd (r holds)
 
-  decided_no : Decided Holds 0 reply → (Holds → ⊥) → reply ≡ found none
+  decided_no : Decided Holds 0 reply → (Holds → ⊥) → reply ≡ found None
   decided_no (yes broken h e r) fails = absurd (fails r)
   decided_no (no e r) fails = e
 
-  yes_decided : Decided Holds 0 reply → reply ≡ found (some 0) → Holds
+  yes_decided : Decided Holds 0 reply → reply ≡ found (Some 0) → Holds
   yes_decided (yes broken h e r) f = r
   yes_decided (no e r) f = let z : ◌≡◌ {A = ℕ} 0 1 = cc in absurd (omega arith)
 
-  no_decided : Decided Holds 0 reply → reply ≡ found none → Holds → ⊥
+  no_decided : Decided Holds 0 reply → reply ≡ found None → Holds → ⊥
   no_decided (yes broken h e r) f holds = let z : ◌≡◌ {A = ℕ} 0 1 = cc in absurd (omega arith)
   no_decided (no e r) f holds = r holds
 
@@ -106,7 +105,7 @@ module _ (n : ℕ) (rules : List ℤ) (row : List ℕ) (ok : (d : ℕ) → d ≤
 
   pub nearest_is_first : (reply : Reply) → reply ≡ found (nearest n rules row) → CountsUp n rules row reply
   nearest_is_first reply e =
-      let never : reply ≡ found none → (d : ℕ) → d ≤ max_limit → FindsNone n rules row d =
+      let never : reply ≡ found None → (d : ℕ) → d ≤ max_limit → FindsNone n rules row d =
       λ f. none_first ((nearest_none n rules row).0 (found_none (nearest n rules row) (sym e ∙ f))) in
       record {
         count = λ k. (

@@ -1,7 +1,6 @@
 -- What follows from the definitions of specs/Second.antt.
-use Rattle.std.specs.Prelude.{◌≡◌, refl, List, ℕ, ◌≤◌, ◌<◌, ℤ, length, take, drop, replicate}
+use Rattle.std.specs.Prelude.{◌≡◌, refl, List, ℕ, ◌≤◌, ◌<◌, ℤ, length, take, drop, replicate, Option, None, Some}
 use Rattle.std.proofs.Common.{sym, ap, subst, ◌∙◌, le_refl, arith}
-use Rattle.std.proofs.Math.Option.{Option, none, some}
 use Rattle.std.proofs.lemmas.List.{length-replicate}
 use Rattle.std.proofs.Math.Seq.{take-append_seam}
 use Rattle.formula.specs.Formula.{clauses}
@@ -27,22 +26,22 @@ use Rattle.agreement_second_route.specs.Routes.{on_answer, Buffers, from_search,
 use Rattle.agreement.specs.Second.{outcome}
 
 on-unless : (o : Option Refusal) (v x y z : ℕ) (next : ℕ → ℕ → ℕ → ℕ → Reply) → on_answer (unless o (answering v x y z)) next ≡ unless o (next v x y z)
-on-unless none v x y z next = refl
-on-unless (some r) v x y z next = refl
+on-unless None v x y z next = refl
+on-unless (Some r) v x y z next = refl
 
 -- the part that a call filled is its result
 take-filled {ℓ} : {A : Type ℓ} (o : Option Refusal) (result out : List A) (next : List A → Reply)
     → unless o (next (take (length result) (filled o result out))) ≡ unless o (next result)
-take-filled none result out next = ap next (take-append_seam result (drop (length result) out))
-take-filled (some r) result out next = refl
+take-filled None result out next = ap next (take-append_seam result (drop (length result) out))
+take-filled (Some r) result out next = refl
 
 pub found_answered : (o : Option ℕ) → Answered (found o)
-found_answered none = tt
-found_answered (some k) = tt
+found_answered None = tt
+found_answered (Some k) = tt
 
 pub found_passes : (o : Option ℕ) → Passes (found o)
-found_passes none = tt
-found_passes (some k) = tt
+found_passes None = tt
+found_passes (Some k) = tt
 
 module _ (n : ℕ) (rules : List ℤ) (row : List ℕ) (d : ℕ) (a : Admitted (wished_problem n rules row d)) where
   abbrev N : ℕ

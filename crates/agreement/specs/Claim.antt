@@ -1,6 +1,5 @@
 -- Demand 3 of document 01 ("Rewriting into plain rules"), "a single claim about the completions, both whole routes and nearest, over all admitted input and every d": `Agreement n rules row` for every n, rules and row that are admitted. Its proof is `agreement` of Agreement.antt.
-use Rattle.std.specs.Prelude.{◌≡◌, ◌↔◌, true, List, ℕ, ◌≤◌, ◌<◌, ℤ, take}
-use Rattle.std.proofs.Math.Option.{none, some}
+use Rattle.std.specs.Prelude.{◌≡◌, ◌↔◌, true, List, ℕ, ◌≤◌, ◌<◌, ℤ, take, None, Some}
 use Rattle.literal.specs.Literal.{holds}
 use Rattle.formula.specs.Formula.{clauses, models}
 use Rattle.wish.specs.Wish.{total_weight}
@@ -22,8 +21,8 @@ pub record Admissible (n : ℕ) (rules : List ℤ) (row : List ℕ) : Type 0 whe
 
 -- The two routes agree: both find, the first with at most d broken wishes (plain search has none to break), or both answer none.
 pub data Agree (d : ℕ) (first second : Reply) : Type 0 where
-  both_find : (broken : ℕ) → broken ≤ d → first ≡ found (some broken) → second ≡ found (some 0) → Agree d first second
-  both_none : first ≡ found none → second ≡ found none → Agree d first second
+  both_find : (broken : ℕ) → broken ≤ d → first ≡ found (Some broken) → second ≡ found (Some 0) → Agree d first second
+  both_none : first ≡ found None → second ≡ found None → Agree d first second
 
 module _ (n : ℕ) (rules : List ℤ) (row : List ℕ) where
   -- "A completion of a choice gives every setting of the result a value, and settings 1 to n the values of the choice"
@@ -58,10 +57,10 @@ module _ (n : ℕ) (rules : List ℤ) (row : List ℕ) where
   -- "answers are compared where none of the calls that give them is refused": the second route finds at d; it answers none there.
   -- Neither holds for want of an answer: `room` of `Unrefused` has, for each d up to 64, buffers with which the second route is answered.
   abbrev pub Finds : ℕ → Type 0
-  Finds d = (b : Buffers) → Answered (second_route n rules row d b) → second_route n rules row d b ≡ found (some 0)
+  Finds d = (b : Buffers) → Answered (second_route n rules row d b) → second_route n rules row d b ≡ found (Some 0)
 
   abbrev pub FindsNone : ℕ → Type 0
-  FindsNone d = (b : Buffers) → Answered (second_route n rules row d b) → second_route n rules row d b ≡ found none
+  FindsNone d = (b : Buffers) → Answered (second_route n rules row d b) → second_route n rules row d b ≡ found None
 
   -- d is counted up from 0 to what all wishes weigh: k is the first d at which the second route finds
   pub record First (k : ℕ) : Type 0 where
@@ -71,9 +70,9 @@ module _ (n : ℕ) (rules : List ℤ) (row : List ℕ) where
 
   -- that first d is the count that nearest returns; the second route finds at no such d exactly when nearest says "none", and then at no d up to 64
   pub record CountsUp (reply : Reply) : Type 0 where
-    pub count : (k : ℕ) → (reply ≡ found (some k)) ↔ First k
-    pub nothing : (reply ≡ found none) ↔ ((d : ℕ) → d ≤ total_weight row → FindsNone d)
-    pub never : reply ≡ found none → (d : ℕ) → d ≤ max_limit → FindsNone d
+    pub count : (k : ℕ) → (reply ≡ found (Some k)) ↔ First k
+    pub nothing : (reply ≡ found None) ↔ ((d : ℕ) → d ≤ total_weight row → FindsNone d)
+    pub never : reply ≡ found None → (d : ℕ) → d ≤ max_limit → FindsNone d
 
   -- the claim
   pub record Agreement : Type 0 where

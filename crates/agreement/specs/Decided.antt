@@ -1,6 +1,5 @@
 -- What the answers of both routes say: whether some choice meets the rules with at most d broken wishes.
-use Rattle.std.specs.Prelude.{◌≡◌, List, ℕ, ◌≤◌, ℤ}
-use Rattle.std.proofs.Math.Option.{none, some}
+use Rattle.std.specs.Prelude.{◌≡◌, List, ℕ, ◌≤◌, ℤ, None, Some}
 use Rattle.formula.specs.Formula.{clauses}
 use Rattle.distance.specs.Distance.{disagreement}
 use Rattle.choices.specs.Choices.{Model}
@@ -13,5 +12,5 @@ Reached n rules row d = (a : List ℕ) × Model n (clauses rules) a × (disagree
 
 -- a reply that says whether a statement holds, with a count of at most so many wishes where it does
 pub data Decided (Holds : Type 0) (most : ℕ) (reply : Reply) : Type 0 where
-  yes : (broken : ℕ) → broken ≤ most → reply ≡ found (some broken) → Holds → Decided Holds most reply
-  no : reply ≡ found none → (Holds → ⊥) → Decided Holds most reply
+  yes : (broken : ℕ) → broken ≤ most → reply ≡ found (Some broken) → Holds → Decided Holds most reply
+  no : reply ≡ found None → (Holds → ⊥) → Decided Holds most reply

@@ -1,6 +1,5 @@
 -- The second route, call by call: what a call that answered has filled, and where the route goes from there.
-use Rattle.std.specs.Prelude.{◌≡◌, refl, List, ℕ, ◌≤◌, ℤ, length, take, drop}
-use Rattle.std.proofs.Math.Option.{Option, none, some}
+use Rattle.std.specs.Prelude.{◌≡◌, refl, List, ℕ, ◌≤◌, ℤ, length, take, drop, Option, None, Some}
 use Rattle.std.proofs.Common.{arith, length-append}
 use Rattle.refusal.specs.declared.Refusal.{Refusal}
 use Rattle.refusal.specs.Reply.{Reply, refusing, answering, unless, too_short, filled}
@@ -16,12 +15,12 @@ use Rattle.agreement_second_route.specs.Left.{choice_from_reader, list_from_writ
 use Rattle.agreement_second_route.specs.Routes.{Buffers, in_buffers, from_reader, from_writer, second_route}
 
 -- A call that answered has filled as much of its buffer as its answer says.
-no_refusal : (o : Option Refusal) (answer : Reply) (v x y z : ℕ) → answering v x y z ≡ unless o answer → (o ≡ none) × (answering v x y z ≡ answer)
-no_refusal none answer v x y z e = (refl, e)
-no_refusal (some r) answer v x y z e = let z : ◌≡◌ {A = ℕ} 0 1 = cc in absurd (omega arith)
+no_refusal : (o : Option Refusal) (answer : Reply) (v x y z : ℕ) → answering v x y z ≡ unless o answer → (o ≡ None) × (answering v x y z ≡ answer)
+no_refusal None answer v x y z e = (refl, e)
+no_refusal (Some r) answer v x y z e = let z : ◌≡◌ {A = ℕ} 0 1 = cc in absurd (omega arith)
 
 module _ {ℓ} {A : Type ℓ} (result out : List A) where
-  whole : (o : Option Refusal) → o ≡ none → length result ≤ length (filled o result out)
+  whole : (o : Option Refusal) → o ≡ None → length result ≤ length (filled o result out)
   whole o e = rw e (omega (arith, length-append result (drop (length result) out)))
 
 pub rewritten_inside : (n : ℕ) (rules : List ℤ) (row : List ℕ) (d : ℕ) (out : List ℤ) (variables size : ℕ)

@@ -1,6 +1,5 @@
 -- No cause to refuse has the number 0 (document 01, "Refusals"), so that C can tell a refusal by its number; and none has 5 (document 02, L3): "number 5 is never returned".
-use Rattle.std.specs.Prelude.{refl, Bool, not, ◌&&◌, ℕ, eqb, ltb}
-use Rattle.std.proofs.Math.Option.{Option}
+use Rattle.std.specs.Prelude.{refl, Bool, not, ◌&&◌, ℕ, eqb, ltb, Option}
 use Rattle.refusal.specs.declared.Refusal.{Refusal}
 use Rattle.refusal.specs.Laws.{first_number}
 use Rattle.refusal.specs.Passing.{Passes, last, more, by_place, by_first}

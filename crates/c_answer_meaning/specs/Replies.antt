@@ -1,7 +1,6 @@
 -- An answer's refusal is 0 only where the call gave an answer, and never 5: for each of the calls that are lent values.
-use Rattle.std.specs.Prelude.{◌≡◌, refl, Bool, true, false, cond, List, ℕ, ℤ, length}
+use Rattle.std.specs.Prelude.{◌≡◌, refl, Bool, true, false, cond, List, ℕ, ℤ, length, Option, None, Some}
 use Rattle.std.proofs.Common.{sym, ap, ◌∙◌, true≢false, arith}
-use Rattle.std.proofs.Math.Option.{Option, none, some}
 use Rattle.formula.specs.Formula.{clauses, models}
 use Rattle.distance.specs.Distance.{disagreement, nearest}
 use Rattle.refusal.specs.declared.Refusal.{Refusal}
@@ -31,19 +30,19 @@ pub record Told (reply : Reply) : Type 0 where
   pub answered : (answer_of reply).refusal ≡ 0 → is_answer reply ≡ true
   pub never5 : (answer_of reply).refusal ≡ 5 → ⊥
 
-pub told_refusal : (r : Refusal) → Numbered (some r) → Told (refusing r)
+pub told_refusal : (r : Refusal) → Numbered (Some r) → Told (refusing r)
 told_refusal r cause = record { answered = λ e. absurd (unlike 0 refl e); never5 = unlike 5 refl }
   where
     unlike : (k : ℕ) → ordinary k ≡ false → r.number ≡ k → ⊥
     unlike k h e = true≢false (sym (cause.number r refl) ∙ ap ordinary e ∙ h)
 
 pub told_unless : (o : Option Refusal) (verdict a b c : ℕ) → Numbered o → Told (unless o (answering verdict a b c))
-told_unless none verdict a b c cause = record { answered = λ e. refl; never5 = λ e. omega arith }
-told_unless (some r) verdict a b c cause = told_refusal r cause
+told_unless None verdict a b c cause = record { answered = λ e. refl; never5 = λ e. omega arith }
+told_unless (Some r) verdict a b c cause = told_refusal r cause
 
 told_search : (s : Lent) (o : Option ℕ) → Told (unless (refusal_of s) (found o))
-told_search s none = told_unless (refusal_of s) 0 0 0 0 (lent-numbered s)
-told_search s (some broken) = told_unless (refusal_of s) 1 broken 0 0 (lent-numbered s)
+told_search s None = told_unless (refusal_of s) 0 0 0 0 (lent-numbered s)
+told_search s (Some broken) = told_unless (refusal_of s) 1 broken 0 0 (lent-numbered s)
 
 -- the calls that are lent a rule list and no row
 module _ (n : ℕ) (list : List ℤ) (room : ℕ) where

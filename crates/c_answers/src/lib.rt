@@ -1,9 +1,12 @@
 // The answer of any call as the struct that C takes.
 #![tactic(auto)]
 
+mod file_answers;
+mod search_answers;
+
 ghost use Rattle.std.specs.Prelude.{◌≡◌};
-ghost use Rattle.refusal.specs.Reply.{refusing, answering};
-ghost use Rattle.c_answers.specs.Answers.{answer_of};
+ghost use Rattle.refusal.specs.Reply.{Reply, refusing, answering};
+ghost use Rattle.c_answers.specs.Answers.{answer_of, reply_by};
 
 use refusal::Refusal;
 
@@ -18,8 +21,26 @@ pub struct Answer {
     pub value: [u64; 3],
 }
 
+// What a call gives where it is not refused: each kind of it has a verdict and values of its own.
+pub trait Values {
+    ghost reply: { Self → Reply };
+
+    fn values(self) -> Answer
+        ensures { result ≡ answer_of (reply self) };
+}
+
+// The answer of any call.
+pub fn answer_of<T: Values>(given: Result<T, Refusal>) -> Answer
+    ensures { result ≡ answer_of (reply_by T.reply given) }
+{
+    match given {
+        Ok(values) => values.values(),
+        Err(r) => refused(r),
+    }
+}
+
 // The answer of a call that is refused.
-pub fn refused(r: Refusal) -> Answer
+fn refused(r: Refusal) -> Answer
     ensures { result ≡ answer_of (refusing r) }
 {
     Answer {
@@ -31,7 +52,7 @@ pub fn refused(r: Refusal) -> Answer
 }
 
 // The answer of a call with a verdict and three values.
-pub fn answered(verdict: usize, first: usize, second: usize, third: usize) -> Answer
+fn answered(verdict: usize, first: usize, second: usize, third: usize) -> Answer
     ensures { result ≡ answer_of (answering verdict first second third) }
 {
     Answer {

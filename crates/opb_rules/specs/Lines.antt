@@ -1,11 +1,20 @@
 -- The equations by which proofs count and put the rules' lines: the terms of a clause one by one, and the clauses of a list one by one.
-use Rattle.std.specs.Prelude.{◌≡◌, refl, List, [], ◌∷◌, ◌++◌, map, ℕ, suc, ◌+◌, ◌-◌, ◌≤◌, ◌<◌, ℤ, pos, negsuc, ◌-ℤ◌, length, get_or, take, drop}
-use Rattle.std.proofs.Common.{ap, ◌∙◌, add-one, arith, length-append, drop_of_length-le, drop-cons}
+use Rattle.std.specs.Prelude.{◌≡◌, refl, cond, ◌==◌, count_by, List, [], ◌∷◌, ◌++◌, map, ℕ, suc, ◌+◌, ◌-◌, ◌≤◌, ◌<◌, ℤ, pos, negsuc, ◌-ℤ◌, length, get_or, take, drop}
+use Rattle.std.proofs.Common.{sym, ap, ◌∙◌, add-one, arith, length-append, drop_of_length-le, drop-cons}
+use Rattle.std.proofs.lemmas.List.Recursion.{is_count_by}
 use Rattle.literal.specs.Literal.{wanted}
 use Rattle.formula.specs.Formula.{clauses, clause_length}
 use Rattle.formula.specs.Laws.{clauses_step, clause_long, end_inside}
 use Rattle.opb_pseudo_boolean.specs.Export.{term, negatives, rule_constraint}
 use Rattle.opb_format.specs.Opb.{term_text, terms_text, bound_text, line_text, lines_text}
+
+-- the negative literals of a clause are those that want off
+pub negatives-count : (c : List ℤ) → count_by (λ x. wanted x == 0) c ≡ negatives c
+negatives-count c = sym (is_count_by negatives (λ x. wanted x == 0) refl step c)
+  where
+    step : (x : ℤ) (c : List ℤ) → negatives (x ∷ c) ≡ cond (wanted x == 0) (1 + negatives c) (negatives c)
+    step (pos v) c = refl
+    step (negsuc k) c = omega arith
 
 -- the negative literals of a clause from index i on: one more, or as many as behind it
 first_negative : (x : ℤ) (c : List ℤ) (w : ℕ) → w ≡ wanted x → w ≡ 0 → negatives (x ∷ c) ≡ suc (negatives c)

@@ -8,15 +8,10 @@ ghost use Rattle.opb_format.specs.Opb.{terms_text, line_text, lines_text};
 pub fn negatives_of(clause: &[i32]) -> usize
     ensures { result ≡ negatives clause.now }
 {
-    let mut count = 0;
-    let mut i = 0;
-    while i < clause.len() {
-        if literal::wanted_by(clause[i]) == 0 {
-            count += 1;
-        }
-        i += 1;
-    }
-    count
+    clause
+        .iter()
+        .filter(|x| literal::wanted_by(**x) == 0)
+        .count()
 }
 
 // How many bytes the terms of a clause take.
@@ -25,10 +20,8 @@ fn terms_length(clause: &[i32]) -> usize
     ensures { (result ≡ length (terms_text (map (term 1) clause.now))) × (result ≤ 44 * length clause.now) }
 {
     let mut total = 0;
-    let mut i = 0;
-    while i < clause.len() {
-        total += opb_parts::term_length(1, clause[i]);
-        i += 1;
+    for x in clause {
+        total += opb_parts::term_length(1, *x);
     }
     total
 }

@@ -13,10 +13,8 @@ fn put_terms(clause: &[i32], out: &mut [u8], from: usize) -> usize
     ensures { Wrote (terms_text (map (term 1) clause.now)) out.old from out.new result }
 {
     let mut at = from;
-    let mut i = 0;
-    while i < clause.len() {
-        at = opb_parts::put_term(1, clause[i], out, at);
-        i += 1;
+    for x in clause {
+        at = opb_parts::put_term(1, *x, out, at);
     }
     at
 }

@@ -12,13 +12,7 @@ pub fn wished_on(row: &[u8]) -> usize
     requires { length row.now ≤ max_variables }
     ensures { result ≡ wished_on row.now }
 {
-    let mut total = 0;
-    let mut i = 0;
-    while i < row.len() {
-        total += wish::on_weight_of(row[i]);
-        i += 1;
-    }
-    total
+    row.iter().map(|wish| wish::on_weight_of(*wish)).sum()
 }
 
 // How many bytes the terms of the wishes take.
@@ -27,10 +21,8 @@ fn terms_length(row: &[u8]) -> usize
     ensures { (result ≡ length (terms_text (wish_terms 1 row.now))) × (result ≤ 44 * length row.now) }
 {
     let mut total = 0;
-    let mut i = 0;
-    while i < row.len() {
-        total += wish_length(Variable(i + 1), row[i]);
-        i += 1;
+    for (i, wish) in row.iter().enumerate() {
+        total += wish_length(Variable(i + 1), *wish);
     }
     total
 }

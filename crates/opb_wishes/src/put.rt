@@ -27,10 +27,8 @@ fn put_terms(row: &[u8], out: &mut [u8], from: usize) -> usize
     ensures { Wrote (terms_text (wish_terms 1 row.now)) out.old from out.new result }
 {
     let mut at = from;
-    let mut i = 0;
-    while i < row.len() {
-        at = put_wish(Variable(i + 1), row[i], out, at);
-        i += 1;
+    for (i, wish) in row.iter().enumerate() {
+        at = put_wish(Variable(i + 1), *wish, out, at);
     }
     at
 }

@@ -17,5 +17,5 @@ pub extern "C" fn powhanire_write_opb(
     ensures answer { result ≡ answer_of (write_reply n rules.now row.now d (length file.old)) }
     ensures output { file.new ≡ write_output n rules.now row.now d file.old }
 {
-    c_file_answers::of_written(opb_writer::write_opb(n, rules, row, d, file))
+    c_answers::answer_of(opb_writer::write_opb(n, rules, row, d, file))
 }

@@ -14,7 +14,7 @@ pub extern "C" fn powhanire_read_rules(file: &[u8], rules: &mut [i32]) -> Answer
     ensures answer { result ≡ answer_of (rules_read.read_reply file.now (length rules.old)) }
     ensures output { rules.new ≡ rules_read.read_output file.now rules.old }
 {
-    c_file_answers::of_read_rules(rule_file_reader::read_rules(file, rules))
+    c_answers::answer_of(rule_file_reader::read_rules(file, rules))
 }
 
 // The value is the length of the file.
@@ -23,7 +23,7 @@ pub extern "C" fn powhanire_write_rules(n: usize, rules: &[i32], file: &mut [u8]
     ensures answer { result ≡ answer_of (rules_written.write_reply n rules.now (length file.old)) }
     ensures output { file.new ≡ rules_written.write_output n rules.now file.old }
 {
-    c_file_answers::of_written(rule_file_writer::write_rules(n, rules, file))
+    c_answers::answer_of(rule_file_writer::write_rules(n, rules, file))
 }
 
 // The values are n, the number of wishes and the limit.
@@ -32,7 +32,7 @@ pub extern "C" fn powhanire_read_wishes(file: &[u8], row: &mut [u8]) -> Answer
     ensures answer { result ≡ answer_of (wishes_read.read_reply file.now (length row.old)) }
     ensures output { row.new ≡ wishes_read.read_output file.now row.old }
 {
-    c_file_answers::of_read_wishes(wish_file_reader::read_wishes(file, row))
+    c_answers::answer_of(wish_file_reader::read_wishes(file, row))
 }
 
 // The value is the length of the file.
@@ -41,5 +41,5 @@ pub extern "C" fn powhanire_write_wishes(n: usize, row: &[u8], d: usize, file: &
     ensures answer { result ≡ answer_of (wishes_written.write_reply n row.now d (length file.old)) }
     ensures output { file.new ≡ wishes_written.write_output n row.now d file.old }
 {
-    c_file_answers::of_written(wish_file_writer::write_wishes(n, row, d, file))
+    c_answers::answer_of(wish_file_writer::write_wishes(n, row, d, file))
 }

@@ -10,5 +10,5 @@ use c_answers::Answer;
 pub extern "C" fn powhanire_check(n: usize, rules: &[i32], row: &[u8], choice: &[u8]) -> Answer
     ensures { result ≡ answer_of (check_reply n rules.now row.now choice.now) }
 {
-    c_search_answers::of_checked(checking::check(n, rules, row, choice))
+    c_answers::answer_of(checking::check(n, rules, row, choice))
 }

@@ -17,5 +17,5 @@ pub extern "C" fn powhanire_rewrite(
     ensures answer { result ≡ answer_of (rewrite_reply n rules.now row.now d (length rewritten.old)) }
     ensures output { rewritten.new ≡ rewrite_output n rules.now row.now d rewritten.old }
 {
-    c_search_answers::of_rewritten(totalizer_encoding::rewrite(n, rules, row, d, rewritten))
+    c_answers::answer_of(totalizer_encoding::rewrite(n, rules, row, d, rewritten))
 }

@@ -20,7 +20,7 @@ pub extern "C" fn powhanire_search(
     ensures output { choice.new ≡ search_choice n rules.now row.now d choice.old }
     ensures meaning { NumbersMean (SearchMeans n rules.now row.now d choice.new) result }
 {
-    c_search_answers::of_searched(search_wish::search(n, rules, row, d, choice))
+    c_answers::answer_of(search_wish::search(n, rules, row, d, choice))
 }
 
 // A choice that meets all rules.
@@ -30,7 +30,7 @@ pub extern "C" fn powhanire_plain(n: usize, rules: &[i32], choice: &mut [u8]) ->
     ensures output { choice.new ≡ plain_choice n rules.now choice.old }
     ensures meaning { NumbersMean (PlainMeans n rules.now choice.new) result }
 {
-    c_search_answers::of_searched(search_plain::search(n, rules, choice))
+    c_answers::answer_of(search_plain::search(n, rules, choice))
 }
 
 // The first nearest choice; the value is the least number of broken wishes.
@@ -45,5 +45,5 @@ pub extern "C" fn powhanire_nearest(
     ensures output { choice.new ≡ nearest_choice n rules.now row.now choice.old }
     ensures meaning { NumbersMean (NearestMeans n rules.now row.now choice.new) result }
 {
-    c_search_answers::of_searched(search_nearest::search(n, rules, row, choice))
+    c_answers::answer_of(search_nearest::search(n, rules, row, choice))
 }

@@ -1,7 +1,6 @@
 -- How large a rewritten list is.
-use Rattle.std.specs.Prelude.{◌≡◌, List, ℕ, ◌≤◌, ℤ, length}
+use Rattle.std.specs.Prelude.{◌≡◌, List, ℕ, ◌≤◌, ℤ, length, None}
 use Rattle.std.proofs.Common.{ap, arith, length-append}
-use Rattle.std.proofs.Math.Option.{none}
 use Rattle.formula.specs.Formula.{clauses, literals}
 use Rattle.limits.specs.Limits.{max_clauses, max_literals, max_wish_clauses, max_wish_literals}
 use Rattle.rule_list.specs.Sound.{SoundList}
@@ -13,7 +12,7 @@ use Rattle.totalizer.proofs.Rows.{leaves-length}
 use Rattle.totalizer.proofs.Sizes.{at_most_most}
 use Rattle.totalizer.proofs.Rewritten.{rewritten-clauses}
 
-pub rewritten_sizes : (n : ℕ) (list : List ℤ) (row : List ℕ) (d : ℕ) → SoundList n list → length row ≡ n → bad_wish 0 0 row ≡ none
+pub rewritten_sizes : (n : ℕ) (list : List ℤ) (row : List ℕ) (d : ℕ) → SoundList n list → length row ≡ n → bad_wish 0 0 row ≡ None
     → length (clauses list) ≤ max_wish_clauses → literals (clauses list) ≤ max_wish_literals
     → (length (clauses (rewritten n list row d)) ≤ max_clauses) × (literals (clauses (rewritten n list row d)) ≤ max_literals)
 rewritten_sizes n list row d ok long w few small =

@@ -1,7 +1,6 @@
 -- What document 01 says of rewriting into plain rules.
-use Rattle.std.specs.Prelude.{◌≡◌, refl, ◌↔◌, Bool, true, List, [], ◌++◌, ℕ, ◌+◌, ◌≤◌, ℤ, length, take}
+use Rattle.std.specs.Prelude.{◌≡◌, refl, ◌↔◌, Bool, true, List, [], ◌++◌, ℕ, ◌+◌, ◌≤◌, ℤ, length, take, None}
 use Rattle.std.proofs.Common.{sym, ap, ◌∙◌, arith}
-use Rattle.std.proofs.Math.Option.{none}
 use Rattle.literal.specs.Literal.{holds}
 use Rattle.formula.specs.Formula.{any, all, clauses, literals, models}
 use Rattle.distance.specs.Distance.{disagreement}
@@ -84,13 +83,13 @@ adds_none n row h =
     (omega (arith, added_1 (leaves row) m), clauses_1 n (leaves row) m)
 
 -- What is admitted to rewriting stays within the limits of the file, whatever the row and d.
-pub rewritten_variables_lem : (n : ℕ) (row : List ℕ) → n ≤ max_wish_variables → bad_wish 0 0 row ≡ none → rewritten_variables n row ≤ max_variables
+pub rewritten_variables_lem : (n : ℕ) (row : List ℕ) → n ≤ max_wish_variables → bad_wish 0 0 row ≡ None → rewritten_variables n row ≤ max_variables
 rewritten_variables_lem n row h w =
     let m : length (leaves row) ≤ 64 = omega (arith, leaves-length row, sound_weight row w) in
     omega (arith, added-most (leaves row) m)
 
 -- The rewritten list is sound for its number of variables: "On admitted input no call named here is refused except with 15."
-pub rewritten_sound : (n : ℕ) (list : List ℤ) (row : List ℕ) (d : ℕ) → SoundList n list → length row ≡ n → bad_wish 0 0 row ≡ none
+pub rewritten_sound : (n : ℕ) (list : List ℤ) (row : List ℕ) (d : ℕ) → SoundList n list → length row ≡ n → bad_wish 0 0 row ≡ None
     → length (clauses list) ≤ max_wish_clauses → literals (clauses list) ≤ max_wish_literals → SoundList (rewritten_variables n row) (rewritten n list row d)
 rewritten_sound n list row d ok long w few small =
     let N : ℕ = rewritten_variables n row in

@@ -133,3 +133,6 @@ module _ (f : ℕ → List (List ℤ)) where
 
     pub wrote_below : {n : List ℤ} {j : ℕ} → Wrote (flat (f k)) m at n j → Wrote (flat (below (k + 1) f)) l from n j
     wrote_below next = rw (add-one k) (wrote_both (below k f) (f k) before next)
+
+    pub wrote_last : {n : List ℤ} {j : ℕ} (q : ℕ) → k ≡ q → Wrote (flat (f k)) m at n j → Wrote (flat (below (suc q) f)) l from n j
+    wrote_last q e next = wrote_as (ap (λ (i : ℕ). flat (below (suc i) f)) e) (wrote_both (below k f) (f k) before next)

@@ -59,11 +59,9 @@ fn put_row(g: Adder, i: usize, out: &mut [i32], from: usize) -> usize
     ensures { Wrote (flat (row g i)) out.old from out.new result }
 {
     let mut at = from;
-    let mut j = 0;
-    while j <= g.q {
+    for j in 0..=g.q {
         at = put_up(g, i, j, out, at);
         at = put_down(g, i, j, out, at);
-        j += 1;
     }
     at
 }
@@ -74,10 +72,8 @@ pub fn put_adder(g: Adder, out: &mut [i32], from: usize) -> usize
     ensures { Wrote (flat (clauses g)) out.old from out.new result }
 {
     let mut at = from;
-    let mut i = 0;
-    while i <= g.p {
+    for i in 0..=g.p {
         at = put_row(g, i, out, at);
-        i += 1;
     }
     at
 }

@@ -1,3 +1,4 @@
 pub mod Causes
+pub mod Replies
 pub mod Rewrite
 pub mod Writing

@@ -1,33 +1,30 @@
 -- The writing of the rewritten list, part by part: the given rules, then the clauses over the leaves.
-use Rattle.std.specs.Prelude.{◌≡◌, List, [], ◌∷◌, ℕ, zero, suc, ◌+◌, ◌≤◌, ℤ, length, take}
-use Rattle.std.proofs.Common.{sym, ap, ap₂, ◌∙◌, zero-add, arith, length-append}
-use Rattle.std.proofs.Math.Option.{none}
+use Rattle.std.specs.Prelude.{◌≡◌, List, [], ◌∷◌, ℕ, zero, suc, ◌+◌, ◌≤◌, ℤ, length, take, None}
+use Rattle.std.proofs.Common.{ap, ap₂, ◌∙◌, zero-add, arith, length-append}
 use Rattle.refusal.specs.Reply.{filled}
-use Rattle.replies.specs.Rewritten.{done}
+use Rattle.replies.specs.declared.Sizes.{Sizes}
 use Rattle.limits.specs.Limits.{max_variables, max_wishes}
-use Rattle.wish.specs.Wish.{total_weight}
 use Rattle.refusal_causes.specs.Admitted.{Admitted}
 use Rattle.refusal_causes.specs.Lent.{wished_problem}
 use Rattle.rule_list_soundness.specs.Flat.{flat}
 use Rattle.writing.specs.Wrote.{Wrote, wrote_as, wrote_more, wrote_length, wrote_whole, wrote_front}
-use Rattle.totalizer.specs.Totalizer.{leaves, tree, added, at_most, rewritten_variables, rewritten}
+use Rattle.totalizer.specs.Totalizer.{leaves, tree, added, at_most, rewritten}
 use Rattle.totalizer.specs.Trees as trees
-use Rattle.totalizer.proofs.Rows.{leaves-length, leaves-within}
+use Rattle.totalizer.proofs.Rows.{leaves-within}
 use Rattle.totalizer.proofs.Sizes.{added-most}
 use Rattle.totalizer_groups.specs.Groups.{LeavesFit}
 use Rattle.totalizer_encoding.specs.Causes.{few_leaves}
+use Rattle.totalizer_encoding.specs.Rewrite.{rewritten_sizes}
+
+-- two sizes
+abbrev sizes : ℕ → ℕ → Sizes
+sizes variables size = record { variables = variables; length = size }
 
 -- literals of the variables 1 to n are within the limit, if n is
 within : (n : ℕ) (l : List ℤ) → n ≤ max_variables → trees.Within n l → LeavesFit l
 within n [] h w i = omega arith
 within n (x ∷ l) h w zero = omega (arith, w.1)
 within n (x ∷ l) h w (suc i) = within n l h w.2 i
-
--- the length of the rewritten list, from that of the rules and of what any so many leaves add
-pub rewritten-length : (n : ℕ) (rules : List ℤ) (row : List ℕ) (d m r : ℕ) → m ≡ total_weight row
-    → ((k : ℕ) (l : List ℤ) → length l ≡ m → r ≡ length (flat (at_most k l d))) → length rules + r ≡ length (rewritten n rules row d)
-rewritten-length n rules row d m r e f =
-    omega (arith, f n (leaves row) (leaves-length row ∙ sym e), length-append rules (flat (at_most n (leaves row) d)))
 
 module _ (n : ℕ) (rules : List ℤ) (row : List ℕ) (d : ℕ) (out : List ℤ) (ok : Admitted (wished_problem n rules row d) × (length (rewritten n rules row d) ≤ length out)) where
   abbrev own : List ℤ → List ℤ
@@ -55,9 +52,9 @@ module _ (n : ℕ) (rules : List ℤ) (row : List ℕ) (d : ℕ) (out : List ℤ
       )
 
       pub all_written : {p : List ℤ} {last at : ℕ} → Wrote (own (take m found)) o from p at × (last ≡ n + added (tree (take m found)))
-          → (done last at ≡ done (rewritten_variables n row) (length (rewritten n rules row d))) × (p ≡ filled none (rewritten n rules row d) out)
+          → (sizes last at ≡ rewritten_sizes n rules row d) × (p ≡ filled None (rewritten n rules row d) out)
       all_written {p} {last} {at} e =
           let whole : Wrote (rewritten n rules row d) out 0 p at = wrote_more copied (wrote_as (ap own these) e.0) in (
-            ap₂ done (e.1 ∙ ap (λ (l : List ℤ). n + added (tree l)) these) (whole.place ∙ zero-add (length (rewritten n rules row d))),
+            ap₂ sizes (e.1 ∙ ap (λ (l : List ℤ). n + added (tree l)) these) (whole.place ∙ zero-add (length (rewritten n rules row d))),
             wrote_whole whole ok.1,
           )

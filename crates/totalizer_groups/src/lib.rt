@@ -35,10 +35,7 @@ pub fn added_by(m: usize) -> usize
 fn only(leaves: &[i32]) -> Outputs
     ensures { result ≡ Outputs.Leaf (get_or leaves.now 0 (pos 0)) }
 {
-    if leaves.len() == 0 {
-        return Outputs::Leaf(0);
-    }
-    Outputs::Leaf(leaves[0])
+    Outputs::Leaf(leaves.first().copied().unwrap_or(0))
 }
 
 // Writes the own clauses of a group of two parts, with p and q leaves.

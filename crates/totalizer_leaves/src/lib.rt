@@ -2,19 +2,12 @@
 #![tactic(auto)]
 
 ghost use Rattle.std.specs.Prelude.{◌≡◌, ◌≤◌, length};
-ghost use Rattle.limits.specs.Limits.{max_variables, max_wishes};
+ghost use Rattle.limits.specs.Limits.{max_variables};
 ghost use Rattle.writing.specs.Wrote.{Wrote};
 ghost use Rattle.wish.specs.Wish.{breaking};
 ghost use Rattle.totalizer.specs.Totalizer.{leaves};
 
 use literal::Variable;
-
-// A list for all leaves that a row can have.
-pub fn no_leaves() -> [i32; 64]
-    ensures { length result ≡ max_wishes }
-{
-    [0; 64]
-}
 
 // The literal that breaks a wish.
 pub fn breaking_of(v: Variable, wish: u8) -> i32
@@ -30,12 +23,9 @@ pub fn put_leaves(row: &[u8], out: &mut [i32]) -> usize
     ensures { Wrote (leaves row.now) out.old 0 out.new result }
 {
     let mut at = 0;
-    let mut i = 0;
-    while i < row.len() {
-        let wish = row[i];
-        let leaf = breaking_of(Variable(i + 1), wish);
-        at = totalizer_output::put_times(leaf, wish::weight_of(wish), out, at);
-        i += 1;
+    for (i, wish) in row.iter().enumerate() {
+        let leaf = breaking_of(Variable(i + 1), *wish);
+        at = totalizer_output::put_times(leaf, wish::weight_of(*wish), out, at);
     }
     at
 }

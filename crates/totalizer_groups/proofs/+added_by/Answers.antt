@@ -1,4 +1,4 @@
-use Rattle.std.proofs.Common.{◌≡◌, ℕ, ◌-◌, ◌/◌, ◌<◌, length, take, drop, arith}
+use Rattle.std.proofs.Common.{◌≡◌, ◌-◌, ◌/◌, ◌<◌, length, take, drop, arith}
 use Rattle.totalizer_groups.specs.Laws.{added_split, left_length, right_length, added_bound}
 use Rattle.totalizer_groups.proofs.+added_by.Goals as goal
 

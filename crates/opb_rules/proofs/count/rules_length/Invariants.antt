@@ -2,7 +2,6 @@
 use mathlib.Core.Path.{◌≡◌}
 use Prim.Native.Nat.{◌+◌, ◌-◌, ◌*◌, ◌≤◌}
 use lib.ListN.{length, drop}
-use borrow.Author.Rules.{rules}
 use Rattle.opb_rules.specs.Lines.{rule_lines}
 use Rattle.opb_rules.proofs.count.rules_length.Given as goal
 

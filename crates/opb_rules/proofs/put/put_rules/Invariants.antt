@@ -1,7 +1,6 @@
 -- `opb_rules::put::put_rules` meets its contract. The loop's invariant: the lines of the clauses from an index on are still to be put.
 use Prim.Native.Nat.{◌-◌}
 use lib.ListN.{length, drop}
-use borrow.Author.Rules.{rules}
 use Rattle.writing.specs.Wrote.{Remaining}
 use Rattle.opb_rules.specs.Lines.{rule_lines}
 use Rattle.opb_rules.proofs.put.put_rules.Given as goal

@@ -1,7 +1,4 @@
-use mathlib.Core.Path.{ap}
-use Prim.Native.Nat.{◌+◌, ◌-◌}
-use lib.IntN.{ℤ, pos}
-use lib.ListN.{get_or, drop}
+use Rattle.std.proofs.Common.{ℤ, pos, ◌+◌, get_or, drop, ap}
 use Rattle.literal.specs.Laws.{as_read}
 use Rattle.writing.specs.Wrote.{wrote_as, remaining_next}
 use Rattle.opb_pseudo_boolean.specs.Export.{term}
@@ -9,8 +6,9 @@ use Rattle.opb_format.specs.Opb.{term_text}
 use Rattle.opb_rules.specs.Lines.{clause_terms, terms_split}
 use Rattle.opb_rules.proofs.put.put_terms.Goals as goal
 
-pub loop-i-preserved : goal.loop-i-preserved
-loop-i-preserved c =
-    let same = as_read (get_or c.args.clause.now c.loop-i.i (pos 0)) c.put_term-arg-1.given in
-    remaining_next (clause_terms (drop (c.loop-i.i + 1) c.args.clause.now)) c.loop-i.invariant (terms_split c.args.clause.now c.loop-i.i c.loop-i-test.true)
+pub loop-x-preserved : goal.loop-x-preserved
+loop-x-preserved c =
+    let i = c.loop-x.x-index in
+    let same = as_read (get_or c.args.clause.now i (pos 0)) c.put_term-arg-1.given in
+    remaining_next (clause_terms (drop (i + 1) c.args.clause.now)) c.loop-x.invariant (terms_split c.args.clause.now i c.loop-x-test.true)
     (wrote_as (ap (λ (z : ℤ). term_text (term 1 z)) same) c.put_term-at.ensures)

@@ -1,6 +1,5 @@
 -- `opb_wishes::put::put_wishes` meets its contract: nothing without a wish, else the terms and the bound.
 use Rattle.writing.specs.Wrote.{wrote_more, wrote_as}
-use Rattle.wish.specs.Wish.{wished_on}
 use Rattle.opb_wishes.specs.Line.{line_parts}
 use Rattle.opb_wishes.proofs.put.put_wishes.Goals as goal
 

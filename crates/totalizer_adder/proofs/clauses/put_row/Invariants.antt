@@ -1,5 +1,4 @@
 -- `totalizer_adder::clauses::put_row` meets its contract. The loop's invariant: the clauses of the lower j were written.
-use Prim.Native.Nat.{suc, ◌-◌, ◌≤◌}
 use Rattle.writing.specs.Wrote.{Wrote}
 use Rattle.rule_list_soundness.specs.Flat.{flat}
 use Rattle.totalizer.specs.Totalizer.{below}
@@ -7,7 +6,4 @@ use Rattle.totalizer_adder.specs.Adder.{pair}
 use Rattle.totalizer_adder.proofs.clauses.put_row.Given as goal
 
 abbrev pub invariant-loop-j : goal.invariant-loop-j
-invariant-loop-j l = (l.j ≤ suc l.g.q) × Wrote (flat (below l.j (pair l.g l.i))) l.initial.out l.from l.out l.at
-
-abbrev pub decreases-loop-j : goal.decreases-loop-j
-decreases-loop-j l = suc l.g.q - l.j
+invariant-loop-j l = Wrote (flat (below l.j (pair l.g l.i))) l.initial.out l.from l.out l.at
