@@ -4,27 +4,33 @@
 // `diagnostic` in program_diagnostics/specs/Diagnostic.antt.
 #![tactic(auto)]
 
-ghost use Rattle.std.specs.Prelude.{◌≡◌, ◌≤◌, length};
+ghost use Rattle.std.specs.Prelude.{◌≤◌, length};
 ghost use Rattle.program_solution_text.specs.Lines.{longest};
 
-use program_input::FilesRead;
-use program_options::Asked;
+use program_run::Program;
 use std::io;
 use std::io::ErrorKind;
 use std::rt::Env;
 
-fn main(rt: HostRuntime) {
-    let out = rt.stdout();
-    let err = rt.stderr();
-    match program_options::first_asked(&rt) {
-        Asked::Help => program_options::print_help(
-            &out,
-            &err,
-            b"usage: nearest [RULES WISH]\n\nPrints the least number of wishes that a permitted choice breaks, and the first such choice:\n`o` and the number, `s OPTIMUM FOUND`, and on `v` lines each setting's number, with a minus\nwhere it is off; or `s UNSATISFIABLE` where no choice meets the rules.\n\nRULES is a rule file and WISH a wish file, of at most 65536 bytes each; without them,\nrules.cnf and wish.txt of the current folder.\n",
-        ),
-        Asked::Version => program_options::print_version(&out, &err, b"nearest"),
-        Asked::Nothing => run_files(&rt),
+struct Nearest;
+
+impl Program for Nearest {
+    const NAME: &'static [u8] = b"nearest";
+
+    const USAGE: &'static [u8] =
+        b"usage: nearest [RULES WISH]\n\nPrints the least number of wishes that a permitted choice breaks, and the first such choice:\n`o` and the number, `s OPTIMUM FOUND`, and on `v` lines each setting's number, with a minus\nwhere it is off; or `s UNSATISFIABLE` where no choice meets the rules.\n\nRULES is a rule file and WISH a wish file, of at most 65536 bytes each; without them,\nrules.cnf and wish.txt of the current folder.\n";
+
+    const ASKS_ENTRIES: bool = false;
+
+    ghost longest = { longest };
+
+    fn print(rules: &[u8], wishes: &[u8], out: &mut [u8]) -> usize {
+        program_nearest_text::print_nearest(rules, wishes, out)
     }
+}
+
+fn main(rt: HostRuntime) {
+    program_run::start::<Nearest, _>(&rt, &rt.stderr(), || run_files(&rt));
 }
 
 // Runs on the files of the current folder, or on those that the arguments name.
@@ -60,38 +66,5 @@ fn say_too_long(rt: &HostRuntime, argument: &[u8]) {
 fn run(rt: &HostRuntime, rules_path: &[u8], wish_path: &[u8])
     requires { (length rules_path.now ≤ 4096) × (length wish_path.now ≤ 4096) }
 {
-    let mut rules = program_input::space();
-    let mut wishes = program_input::space();
-    let FilesRead::Bytes(k, w) = program_input::read_files(
-        rt,
-        &rt.stderr(),
-        rules_path,
-        wish_path,
-        &mut rules,
-        &mut wishes,
-    ) else {
-        return;
-    };
-    tell(rt, rules_path, wish_path, &rules[..k], &wishes[..w]);
-}
-
-// Prints the answer, and says why if it is a refusal.
-fn tell(rt: &HostRuntime, rules_path: &[u8], wish_path: &[u8], rules: &[u8], wishes: &[u8])
-    requires { (length rules_path.now ≤ 4096) × (length wish_path.now ≤ 4096) }
-{
-    show(rt, rules, wishes);
-    program_explain::explain_refusal(&rt.stderr(), rules_path, wish_path, rules, wishes, false);
-}
-
-fn show(rt: &HostRuntime, rules: &[u8], wishes: &[u8]) {
-    let mut out = text();
-    let n = program_nearest_text::print_nearest(rules, wishes, &mut out);
-    program_failure::say_unless_printed(&rt.stderr(), rt.write_all(&out[..n]));
-}
-
-// Space for the longest text.
-fn text() -> [u8; 2048]
-    ensures { longest ≡ length result }
-{
-    [0; 2048]
+    program_run::run::<Nearest, 2048>(rt, &rt.stderr(), rules_path, wish_path);
 }

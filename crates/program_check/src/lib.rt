@@ -3,61 +3,43 @@
 
 ghost use Rattle.std.specs.Prelude.{◌≡◌};
 ghost use Rattle.program_files.specs.Problem.{problem};
-ghost use Rattle.program_check.specs.Check.{lent_of, verdict, of_admission, check_of};
-ghost use Rattle.refusal_causes.specs.Lent.{unadmitted};
+ghost use Rattle.program_check.specs.Check.{lent_of, check_of};
+ghost use Rattle.admission_steps.specs.Admission.{admission};
 
-use admission_steps::Admission;
-use program_files::ReadProblem;
+use admission_steps::Counts;
+use program_files::{FileError, LIST, ROW};
 use refusal::Refusal;
 
-// A file that is too long, refused, or neither.
-#[derive(Clone, Copy)]
-pub enum ProblemCheck {
-    TooLong,
-    Refused(Refusal),
-    Passed,
-}
-
 // Reads both files, and looks at what the call would be lent; some calls ask that every rule has entries.
-pub fn check_files(rules_file: &[u8], wish_file: &[u8], asks_entries: bool) -> ProblemCheck
+pub fn check_files(rules_file: &[u8], wish_file: &[u8], asks_entries: bool) -> Result<(), FileError>
     ensures { result ≡ check_of asks_entries (problem rules_file.now wish_file.now) }
 {
-    let mut rules = program_files::list();
-    let mut row = program_files::row();
-    match program_files::read_problem(rules_file, wish_file, &mut rules, &mut row) {
-        ReadProblem::TooLong => ProblemCheck::TooLong,
-        ReadProblem::Refused(r) => ProblemCheck::Refused(r),
-        ReadProblem::Read(sizes) => {
-            let k = sizes.length;
-            let w = sizes.wished;
-            check_call(
-                sizes.variables,
-                &rules[..k],
-                &row[..w],
-                sizes.limit,
-                asks_entries,
-            )
-        }
-    }
+    let mut rules = [0; LIST];
+    let mut row = [0; ROW];
+    let sizes = program_files::read_problem(rules_file, wish_file, &mut rules, &mut row)?;
+    check_call(
+        sizes.variables,
+        &rules[..sizes.length],
+        &row[..sizes.wished],
+        sizes.limit,
+        asks_entries,
+    )?;
+    Ok(())
 }
 
 // What the call would be refused for.
-fn check_call(n: usize, rules: &[i32], row: &[u8], d: usize, asks_entries: bool) -> ProblemCheck
-    ensures { result ≡ verdict (unadmitted (lent_of asks_entries n rules.now row.now d)) }
+fn check_call(
+    n: usize,
+    rules: &[i32],
+    row: &[u8],
+    d: usize,
+    asks_entries: bool,
+) -> Result<Counts, Refusal>
+    ensures { result ≡ admission (lent_of asks_entries n rules.now row.now d) }
 {
     if asks_entries {
-        of_admission(admission::admit_export(n, rules, row, d))
+        admission::admit_export(n, rules, row, d)
     } else {
-        of_admission(admission::admit_wishes(n, rules, row, d))
-    }
-}
-
-// What an admission comes to.
-fn of_admission(a: Admission) -> ProblemCheck
-    ensures { result ≡ of_admission a }
-{
-    match a {
-        Admission::Refused(r) => ProblemCheck::Refused(r),
-        Admission::Admitted(_) => ProblemCheck::Passed,
+        admission::admit_wishes(n, rules, row, d)
     }
 }

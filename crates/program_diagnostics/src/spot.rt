@@ -4,38 +4,22 @@ ghost use Rattle.program_diagnostics.specs.Diagnostic.{spot_of, spot_too_long};
 
 use program_files::MAX_FILE;
 
-// A place in the wish file, or in the rule file.
+// A place in the rule file, or in the wish file.
 #[derive(Clone, Copy)]
-pub struct Spot {
-    pub wishes: bool,
-    pub place: usize,
+pub enum Spot {
+    Rules(usize),
+    Wishes(usize),
 }
 
 // The spot of a refusal's number and place.
 pub fn spot_of(number: usize, place: usize, rules: &[u8]) -> Spot
     ensures { result ≡ spot_of number place rules.now }
 {
-    if number <= 7 {
-        return Spot {
-            wishes: false,
-            place,
-        };
-    }
-    if number <= 11 {
-        return Spot {
-            wishes: true,
-            place,
-        };
-    }
-    if number == 12 {
-        return Spot {
-            wishes: false,
-            place: rule_file_header::past_comments(rules),
-        };
-    }
-    Spot {
-        wishes: false,
-        place: program_empty_rule::find_empty(rules),
+    match number {
+        0..=7 => Spot::Rules(place),
+        8..=11 => Spot::Wishes(place),
+        12 => Spot::Rules(rule_file_header::past_comments(rules)),
+        _ => Spot::Rules(program_empty_rule::find_empty(rules)),
     }
 }
 
@@ -43,8 +27,9 @@ pub fn spot_of(number: usize, place: usize, rules: &[u8]) -> Spot
 pub fn too_long(rules: &[u8]) -> Spot
     ensures { result ≡ spot_too_long rules.now }
 {
-    Spot {
-        wishes: rules.len() <= MAX_FILE,
-        place: MAX_FILE,
+    if rules.len() <= MAX_FILE {
+        Spot::Wishes(MAX_FILE)
+    } else {
+        Spot::Rules(MAX_FILE)
     }
 }

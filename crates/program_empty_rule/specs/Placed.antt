@@ -1,6 +1,5 @@
 -- The place in the file and refusal 16 (document 02, L2), whose place is an index in the list: in a file that was read they name the same closing zero, and where there is no such refusal no place is found.
-use Rattle.std.specs.Prelude.{◌≡◌, true, List, ◌∷◌, ◌++◌, map, ℕ, ◌+◌, length}
-use Rattle.std.proofs.Math.Option.{Option, none, some}
+use Rattle.std.specs.Prelude.{◌≡◌, true, List, ◌∷◌, ◌++◌, map, ℕ, ◌+◌, length, Option, None, Some}
 use Rattle.formula.specs.Formula.{closes}
 use Rattle.rule_list.specs.Sound.{Scan}
 use Rattle.rule_file.specs.Format.{element, stored}
@@ -17,5 +16,5 @@ pub record Closing (s : Scan) (i : ℕ) (ts : List Token) (j place : ℕ) : Type
 
 -- what a place says of a file of so many bytes, by the index that is refused, if one is
 abbrev pub Placed : Scan → ℕ → ℕ → List Token → ℕ → Option ℕ → Type 0
-Placed s i size ts place none = place ≡ size
-Placed s i size ts place (some j) = Closing s i ts j place
+Placed s i size ts place None = place ≡ size
+Placed s i size ts place (Some j) = Closing s i ts j place

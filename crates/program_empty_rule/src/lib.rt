@@ -5,8 +5,7 @@ ghost use Rattle.std.specs.Prelude.{false, ◌≡◌, length};
 ghost use Rattle.rule_file.specs.Tokens.{tokens_from};
 ghost use Rattle.program_empty_rule.specs.Empty.{empty_among, empty_rule};
 
-use rule_file_header::ReadHeader;
-use rule_file_tokens::NextToken;
+use rule_file_token_stream::TokenStream;
 
 // The place of the 0 that closes the first rule without entries. It is asked of files that were read and
 // have one; where none comes first, it is the place where the search ends: the file's end, a malformed
@@ -16,12 +15,8 @@ pub fn find_empty(file: &[u8]) -> usize
 {
     let place = rule_file_header::past_comments(file);
     match rule_file_header::header_at(file, place) {
-        ReadHeader::Malformed => place,
-        ReadHeader::Found {
-            variables: _,
-            clauses: _,
-            next,
-        } => empty_from(file, next),
+        None => place,
+        Some(header) => empty_from(file, header.next),
     }
 }
 
@@ -30,25 +25,17 @@ fn empty_from(file: &[u8], from: usize) -> usize
     ensures { result ≡ empty_among false (length file.now) (tokens_from file.now from) }
 {
     let mut filled = false;
-    let mut at = from;
+    let mut tokens = TokenStream::from_offset(file, from);
     loop {
-        match rule_file_token_stream::next_token(file, at) {
-            NextToken::End => {
-                return file.len();
-            }
-            NextToken::Malformed(place) => {
-                return place;
-            }
-            NextToken::Element { place, value, next } => {
-                if literal::closes(value) {
-                    if !filled {
-                        return place;
-                    }
-                    filled = false;
-                } else {
-                    filled = true;
+        match tokens.next_token() {
+            Err(malformed) => return malformed.place,
+            Ok(None) => return file.len(),
+            Ok(Some(token)) => {
+                let closes = literal::closes(token.value);
+                if closes && !filled {
+                    return token.place;
                 }
-                at = next;
+                filled = !closes;
             }
         }
     }

@@ -17,18 +17,13 @@ pub fn position_of(file: &[u8], place: usize) -> Position
 {
     let mut line = 1;
     let mut column = 1;
-    let mut i = 0;
-    while i < file.len() {
-        if i == place {
-            return Position { line, column };
-        }
-        if file[i] == b'\n' {
+    for b in file.iter().take(place) {
+        if *b == b'\n' {
             line += 1;
             column = 1;
         } else {
             column += 1;
         }
-        i += 1;
     }
     Position { line, column }
 }

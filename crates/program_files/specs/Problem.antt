@@ -1,6 +1,5 @@
 -- What a program makes of a rule file and a wish file (document 01, "Examples").
-use Rattle.std.specs.Prelude.{Bool, cond, ◌||◌, List, [], ℕ, ltb, ℤ, length}
-use Rattle.std.proofs.Math.Option.{Option, none, some}
+use Rattle.std.specs.Prelude.{Bool, cond, ◌||◌, List, [], ℕ, ltb, ℤ, length, Option, None, Some}
 use Rattle.refusal.specs.declared.Refusal.{Refusal}
 use Rattle.program_report.specs.Report.{refusal_line}
 use Rattle.rule_file.specs.Format as rule
@@ -33,8 +32,8 @@ problem rules wishes = cond (too_long rules wishes) silent (together (rule.readi
 
 -- the line of a refusal, or the text of an answer
 abbrev pub unless_refused : Option Refusal → List ℕ → List ℕ
-unless_refused none text = text
-unless_refused (some r) text = refusal_line r
+unless_refused None text = text
+unless_refused (Some r) text = refusal_line r
 
 -- What is printed for two files by a program that says what it prints for a number of variables, a rule list, a wish row and a limit: "On a refusal it prints the number, a space, the place and a line feed instead".
 abbrev pub printed_for : (ℕ → List ℤ → List ℕ → ℕ → List ℕ) → Problem → List ℕ

@@ -1,7 +1,6 @@
 -- What the readers' answers tell, where the list and the row have room for every good file: the file is refused for itself, or what it gives stands at the front.
-use Rattle.std.specs.Prelude.{◌≡◌, refl, List, ◌++◌, ℕ, ◌≤◌, ◌<◌, ℤ, length, take, drop}
+use Rattle.std.specs.Prelude.{◌≡◌, refl, List, ◌++◌, ℕ, ◌≤◌, ◌<◌, ℤ, length, take, drop, Option, None}
 use Rattle.std.proofs.Common.{ap, ◌∙◌, arith, length-append, take_at, le-ltb, lt-ltb}
-use Rattle.std.proofs.Math.Option.{Option, none}
 use Rattle.refusal.specs.declared.Refusal.{Refusal}
 use Rattle.refusal.specs.Laws.{room_enough}
 use Rattle.refusal.specs.Reply.{refusing, answering, unless, too_short, filled}
@@ -21,7 +20,7 @@ front l out result k e f =
 
 -- a rule file, read into a list
 module _ (file : List ℕ) (out : List ℤ) (room : 40000 ≤ length out) where
-  fits : (n c : ℕ) (l : List ℤ) → rule.reading file ≡ rule.gives n c l → too_short (length l) (length out) ≡ none
+  fits : (n c : ℕ) (l : List ℤ) → rule.reading file ≡ rule.gives n c l → too_short (length l) (length out) ≡ None
   fits n c l e =
       room_enough (length l) (length out) (omega (arith, sound_length n l (accepted-rules.accepted file n c l e).sound))
 
@@ -51,7 +50,7 @@ module _ (file : List ℕ) (out : List ℤ) (room : 40000 ≤ length out) where
 
 -- a wish file, read into a row
 module _ (file out : List ℕ) (room : 256 ≤ length out) where
-  fits_row : (n m d : ℕ) (row : List ℕ) → wish.reading file ≡ wish.gives n m d row → too_short n (length out) ≡ none
+  fits_row : (n m d : ℕ) (row : List ℕ) → wish.reading file ≡ wish.gives n m d row → too_short n (length out) ≡ None
   fits_row n m d row e = room_enough n (length out) (omega (arith, (accepted-wishes.accepted file n m d row e).most))
 
   pub row_refused : (r : Refusal) → refusing r ≡ wishes.read_reply file (length out) → wish.reading file ≡ wish.refuses r

@@ -1,7 +1,6 @@
 -- A call with wishes is refused for what it is lent, or only for want of room: with room for its output, 15 is no answer.
-use Rattle.std.specs.Prelude.{◌≡◌, refl, List, ℕ, ◌≤◌, ℤ}
+use Rattle.std.specs.Prelude.{◌≡◌, refl, List, ℕ, ◌≤◌, ℤ, Option, None, Some}
 use Rattle.std.proofs.Common.{sym, ◌∙◌, le_refl}
-use Rattle.std.proofs.Math.Option.{Option, none, some}
 use Rattle.refusal.specs.declared.Refusal.{Refusal}
 use Rattle.refusal.specs.Laws.{room_enough}
 use Rattle.refusal_causes.specs.Admitted as lent
@@ -17,11 +16,11 @@ module _ (n : ℕ) (rules : List ℤ) (row : List ℕ) (d : ℕ) where
   enough needed room h = go (unadmitted s) refl
     where
       go : (o : Option Refusal) → unadmitted s ≡ o → refusal_of (with_room needed room s) ≡ refusal_of (with_room needed needed s)
-      go (some r) e = refused-lent s needed room r e ∙ sym (refused-lent s needed needed r e)
-      go none e =
+      go (Some r) e = refused-lent s needed room r e ∙ sym (refused-lent s needed needed r e)
+      go None e =
           room_decides s needed room e ∙ room_enough needed room (h (admitted s e))
           ∙ sym (room_decides s needed needed e ∙ room_enough needed needed (le_refl needed))
 
   -- what is not refused is admitted
-  pub unrefused : (needed room : ℕ) → refusal_of (with_room needed room s) ≡ none → Admitted s
+  pub unrefused : (needed room : ℕ) → refusal_of (with_room needed room s) ≡ None → Admitted s
   unrefused needed room e = (lent.unrefused s needed room e).0

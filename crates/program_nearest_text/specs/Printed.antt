@@ -1,6 +1,5 @@
 -- What the program `nearest` prints: the lines of the first nearest choice or that there is none, or the line of a refusal.
-use Rattle.std.specs.Prelude.{List, ℕ, ℤ, replicate}
-use Rattle.std.proofs.Math.Option.{Option}
+use Rattle.std.specs.Prelude.{List, ℕ, ℤ, replicate, Option}
 use Rattle.distance.specs.Distance.{nearest}
 use Rattle.refusal.specs.declared.Refusal.{Refusal}
 use Rattle.refusal_causes.specs.Lent.{refusal_of}

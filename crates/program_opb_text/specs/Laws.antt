@@ -1,7 +1,6 @@
 -- What the call's replies come to in the printed text.
-use Rattle.std.specs.Prelude.{◌≡◌, refl, Bool, true, false, List, ℕ, ◌≤◌, ltb, ℤ, length}
+use Rattle.std.specs.Prelude.{◌≡◌, refl, Bool, true, false, List, ℕ, ◌≤◌, ltb, ℤ, length, Option, None, Some}
 use Rattle.std.proofs.Common.{sym, ap, subst, ◌∙◌, le_refl, arith}
-use Rattle.std.proofs.Math.Option.{Option, none, some}
 use Rattle.refusal.specs.declared.Refusal.{Refusal}
 use Rattle.refusal.specs.Laws.{room_enough}
 use Rattle.refusal.specs.Reply.{refusing, answering, unless, cause, filled, too_short}
@@ -22,15 +21,15 @@ module _ (n : ℕ) (rules : List ℤ) (row : List ℕ) (d : ℕ) where
   file = opb_of n rules row d
 
   -- refused for what was lent: the text is the line of that refusal, and its number is not 15
-  line_of : (q : Refusal) → unadmitted s ≡ some q → refusal_line q ≡ opb_text n rules row d
+  line_of : (q : Refusal) → unadmitted s ≡ Some q → refusal_line q ≡ opb_text n rules row d
   line_of q e = sym (ap (λ (o : Option Refusal). unless_refused o file) (refused-lent s (length file) (length file) q e))
 
   -- admitted: the text is the file
-  file_of : unadmitted s ≡ none → file ≡ opb_text n rules row d
+  file_of : unadmitted s ≡ None → file ≡ opb_text n rules row d
   file_of e =
       sym (ap (λ (o : Option Refusal). unless_refused o file) (room_decides s (length file) (length file) e ∙ room_enough (length file) (length file) (le_refl (length file))))
 
-  file_most : unadmitted s ≡ none → length file ≤ longest
+  file_most : unadmitted s ≡ None → length file ≤ longest
   file_most e = opb_most n rules row d (export_wished n rules row d (admitted s e))
 
   -- the text's length was told, and it was put where it fits
@@ -38,7 +37,7 @@ module _ (n : ℕ) (rules : List ℤ) (row : List ℕ) (d : ℕ) where
   Said r out result =
       (r ≡ length (opb_text n rules row d)) × ((result ≡ fitted (opb_text n rules row d) out) × (r ≤ longest))
 
-  said_file : unadmitted s ≡ none → (r : ℕ) (out result : List ℕ) → r ≡ length file → result ≡ fitted file out → Said r out result
+  said_file : unadmitted s ≡ None → (r : ℕ) (out result : List ℕ) → r ≡ length file → result ≡ fitted file out → Said r out result
   said_file ok r out result e f =
       subst (λ (text : List ℕ). (r ≡ length text) × ((result ≡ fitted text out) × (r ≤ longest))) (file_of ok) (e, (f, omega (arith, file_most ok)))
 
@@ -47,10 +46,10 @@ module _ (n : ℕ) (rules : List ℤ) (row : List ℕ) (d : ℕ) where
     abbrev refused_in : Option Refusal
     refused_in = refusal_of (lent_to_write n rules row d (length out))
 
-    refuses_early : (q : Refusal) → unadmitted s ≡ some q → refused_in ≡ some q
+    refuses_early : (q : Refusal) → unadmitted s ≡ Some q → refused_in ≡ Some q
     refuses_early q e = refused-lent s (length file) (length out) q e
 
-    refuses_late : unadmitted s ≡ none → refused_in ≡ too_short (length file) (length out)
+    refuses_late : unadmitted s ≡ None → refused_in ≡ too_short (length file) (length out)
     refuses_late e = room_decides s (length file) (length out) e
 
     left : (o : Option Refusal) → refused_in ≡ o → result ≡ filled o file out
@@ -63,15 +62,15 @@ module _ (n : ℕ) (rules : List ℤ) (row : List ℕ) (d : ℕ) where
       pub said_short : q.number ≡ 15 → Said q.place out result
       said_short z = go (unadmitted s) refl
         where
-          short : unadmitted s ≡ none → (b : Bool) → refusing q ≡ unless (cause b 15 (length file)) (answering 1 (length file) 0 0) → q.place ≡ length file
+          short : unadmitted s ≡ None → (b : Bool) → refusing q ≡ unless (cause b 15 (length file)) (answering 1 (length file) 0 0) → q.place ≡ length file
           short ok true g = cc
           short ok false g = absurd (let w : ◌≡◌ {A = ℕ} 0 1 = cc in omega arith)
 
           go : (o : Option Refusal) → unadmitted s ≡ o → Said q.place out result
-          go (some r) g =
-              let same : r ≡ q = (let h = replied (some r) (refuses_early r g) in cc) in
+          go (Some r) g =
+              let same : r ≡ q = (let h = replied (Some r) (refuses_early r g) in cc) in
               absurd ((lent-number s r g).1 (ap (λ (p : Refusal). p.number) same ∙ z))
-          go none g =
+          go None g =
               let late = refuses_late g in
               said_file g q.place out result (short g (ltb (length out) (length file)) (replied (too_short (length file) (length out)) late)) (left (too_short (length file) (length out)) late)
 
@@ -83,10 +82,10 @@ module _ (n : ℕ) (rules : List ℤ) (row : List ℕ) (d : ℕ) where
           never false g = let w : ◌≡◌ {A = ℕ} 0 1 = cc in omega arith
 
           go : (o : Option Refusal) → unadmitted s ≡ o → (result ≡ out) × (refusal_line q ≡ opb_text n rules row d)
-          go (some r) g =
-              let same : r ≡ q = (let h = replied (some r) (refuses_early r g) in cc) in
-              (left (some r) (refuses_early r g), ap refusal_line (sym same) ∙ line_of r g)
-          go none g = absurd (never (ltb (length out) (length file)) (replied (too_short (length file) (length out)) (refuses_late g)))
+          go (Some r) g =
+              let same : r ≡ q = (let h = replied (Some r) (refuses_early r g) in cc) in
+              (left (Some r) (refuses_early r g), ap refusal_line (sym same) ∙ line_of r g)
+          go None g = absurd (never (ltb (length out) (length file)) (replied (too_short (length file) (length out)) (refuses_late g)))
 
     pub said_written : (r : ℕ) → answering 1 r 0 0 ≡ write_reply n rules row d (length out) → Said r out result
     said_written r e = go (unadmitted s) refl
@@ -99,7 +98,7 @@ module _ (n : ℕ) (rules : List ℤ) (row : List ℕ) (d : ℕ) where
         long false g = cc
 
         go : (o : Option Refusal) → unadmitted s ≡ o → Said r out result
-        go (some q) g = absurd (let h = replies (some q) (refuses_early q g) in let w : ◌≡◌ {A = ℕ} 0 1 = cc in omega arith)
-        go none g =
+        go (Some q) g = absurd (let h = replies (Some q) (refuses_early q g) in let w : ◌≡◌ {A = ℕ} 0 1 = cc in omega arith)
+        go None g =
             let late = refuses_late g in
             said_file g r out result (long (ltb (length out) (length file)) (replies (too_short (length file) (length out)) late)) (left (too_short (length file) (length out)) late)

@@ -1,6 +1,5 @@
 -- What the program opb prints: as the rewriting program does (document 01, "Examples"), with the OPB file (document 02, L2) in place of the rewritten one.
-use Rattle.std.specs.Prelude.{List, ℕ, ℤ, length}
-use Rattle.std.proofs.Math.Option.{Option}
+use Rattle.std.specs.Prelude.{List, ℕ, ℤ, length, Option}
 use Rattle.refusal.specs.declared.Refusal.{Refusal}
 use Rattle.refusal_causes.specs.Lent.{refusal_of}
 use Rattle.opb_format.specs.Opb.{opb_of}

@@ -1,9 +1,9 @@
 -- The equations by which proofs compare two lists byte by byte.
-use Rattle.std.specs.Prelude.{◌≡◌, refl, Bool, true, false, cond, List, [], ◌∷◌, ℕ, ◌+◌, ◌≤◌, ◌<◌, eqb, length, get_or, drop}
+use Rattle.std.specs.Prelude.{◌≡◌, refl, Bool, true, false, cond, List, [], ◌∷◌, ℕ, ◌+◌, ◌≤◌, ◌<◌, eqb, length, get_or, drop, Option, None, Some}
 use Rattle.std.proofs.Common.{sym, ap, ap₂, add-one, arith, drop_of_length-le, drop-cons, eq-eqb, ne_eqb}
 use Rattle.std.proofs.Math.Bool.{and-false}
 use Rattle.words.specs.Words.{ascii}
-use Rattle.program_options.specs.declared.Asked.TheVariants.{Help, Version, Nothing}
+use Rattle.program_options.specs.declared.Asked.TheVariants.{Help, Version}
 use Rattle.program_options.specs.declared.Asked.{Asked}
 use Rattle.program_options.specs.Options.{same_bytes, asked_by}
 
@@ -28,11 +28,11 @@ module _ (a b : List ℕ) (i : ℕ) where
 
 -- what a word asks for, by whether it is one of the two
 module _ (word : List ℕ) where
-  abbrev unhelped : Bool → Asked
-  unhelped v = cond v Version Nothing
+  abbrev unhelped : Bool → Option Asked
+  unhelped v = cond v (Some Version) None
 
-  pub by_help : same_bytes word (ascii "--help") ≡ true → Help ≡ asked_by word
-  by_help e = sym (ap (λ (h : Bool). cond h Help (unhelped (same_bytes word (ascii "--version")))) e)
+  pub by_help : same_bytes word (ascii "--help") ≡ true → Some Help ≡ asked_by word
+  by_help e = sym (ap (λ (h : Bool). cond h (Some Help) (unhelped (same_bytes word (ascii "--version")))) e)
 
   pub by_version : (v : Bool) → same_bytes word (ascii "--help") ≡ false → same_bytes word (ascii "--version") ≡ v → unhelped v ≡ asked_by word
-  by_version v e f = sym (ap₂ (λ (h w : Bool). cond h Help (unhelped w)) e f)
+  by_version v e f = sym (ap₂ (λ (h w : Bool). cond h (Some Help) (unhelped w)) e f)

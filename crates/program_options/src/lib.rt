@@ -2,18 +2,17 @@
 #![tactic(auto)]
 
 ghost use Rattle.std.specs.Prelude.{◌≡◌};
-ghost use Rattle.program_options.specs.Options.{same_bytes, asked_by};
+ghost use Rattle.program_options.specs.Options.{asked_by};
 
 use std::env::FillError;
 use std::io;
 use std::rt::Env;
 
-// How to call the program, which version it is, or nothing of the kind.
+// How to call the program, or which version it is.
 #[derive(Clone, Copy)]
 pub enum Asked {
     Help,
     Version,
-    Nothing,
 }
 
 // How many arguments the program was started with, its own name among them.
@@ -27,41 +26,25 @@ pub fn argument_count(env: &impl Env) -> usize {
 }
 
 // What the first argument asks for. One that is absent or too long asks for nothing.
-pub fn first_asked(env: &impl Env) -> Asked {
+pub fn first_asked(env: &impl Env) -> Option<Asked> {
     let mut word = [0u8; 4096];
     match env.arg(1, &mut word) {
         Ok(k) => asked_by(&word[..k]),
-        Err(_) => Asked::Nothing,
+        Err(_) => None,
     }
 }
 
 // What a word asks for.
-fn asked_by(word: &[u8]) -> Asked
+fn asked_by(word: &[u8]) -> Option<Asked>
     ensures { result ≡ asked_by word.now }
 {
-    if same_bytes(word, b"--help") {
-        return Asked::Help;
+    if word == b"--help".as_slice() {
+        return Some(Asked::Help);
     }
-    if same_bytes(word, b"--version") {
-        return Asked::Version;
+    if word == b"--version".as_slice() {
+        return Some(Asked::Version);
     }
-    Asked::Nothing
-}
-
-fn same_bytes(a: &[u8], b: &[u8]) -> bool
-    ensures { result ≡ same_bytes a.now b.now }
-{
-    if a.len() != b.len() {
-        return false;
-    }
-    let mut i = 0;
-    while i < a.len() {
-        if a[i] != b[i] {
-            return false;
-        }
-        i += 1;
-    }
-    true
+    None
 }
 
 // Prints how to call the program, and what all programs have in common.

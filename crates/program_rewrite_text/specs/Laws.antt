@@ -1,7 +1,6 @@
 -- What the calls' replies come to in the printed text.
-use Rattle.std.specs.Prelude.{◌≡◌, refl, Bool, true, false, List, ℕ, ◌≤◌, ◌<◌, ltb, ℤ, length, take}
+use Rattle.std.specs.Prelude.{◌≡◌, refl, Bool, true, false, List, ℕ, ◌≤◌, ◌<◌, ltb, ℤ, length, take, Option, None, Some}
 use Rattle.std.proofs.Common.{sym, ap, subst, ◌∙◌, arith}
-use Rattle.std.proofs.Math.Option.{Option, none, some}
 use Rattle.refusal.specs.declared.Refusal.{Refusal}
 use Rattle.refusal.specs.Reply.{refusing, answering, cause, unless, too_short, filled}
 use Rattle.refusal_causes.specs.Lent.{refusal_of, plain_problem, wished_problem}
@@ -61,8 +60,8 @@ module _ (n : ℕ) (rules : List ℤ) (row : List ℕ) (d : ℕ) where
     rewriting_refused_lem r e = go (refusal_of (lent_to_rewrite n rules row d (length blank))) e ∙ ap text same_cause
       where
         go : (o : Option Refusal) → refusing r ≡ unless o (answering 1 N (length R) 0) → refusal_line r ≡ text o
-        go (some q) f = let same : q ≡ r = cc in ap refusal_line (sym same)
-        go none f = let z : ◌≡◌ {A = ℕ} 0 1 = cc in absurd (omega arith)
+        go (Some q) f = let same : q ≡ r = cc in ap refusal_line (sym same)
+        go None f = let z : ◌≡◌ {A = ℕ} 0 1 = cc in absurd (omega arith)
 
     -- a list at the front of what was lent, which can be written, and its file
     pub record Rewrote (v k : ℕ) (result : List ℤ) : Type 0 where
@@ -78,8 +77,8 @@ module _ (n : ℕ) (rules : List ℤ) (row : List ℕ) (d : ℕ) where
       where
         go : (o : Option Refusal) → refusal_of (lent_to_rewrite n rules row d (length blank)) ≡ o → answering 1 v k 0 ≡ unless o (answering 1 N (length R) 0) → result ≡ filled o R blank
             → Rewrote v k result
-        go (some q) g h i = absurd (let z : ◌≡◌ {A = ℕ} 0 1 = cc in omega arith)
-        go none g h i =
+        go (Some q) g h i = absurd (let z : ◌≡◌ {A = ℕ} 0 1 = cc in omega arith)
+        go None g h i =
             let a : Admitted (wished_problem n rules row d) = unrefused n rules row d (length R) (length blank) g in
             let v-is : N ≡ v = cc in
             let k-is : length R ≡ k = cc in

@@ -1,6 +1,5 @@
 -- What the rewriting program prints (document 01, "Examples"): "The rewriting program reads `rules.cnf` and `wish.txt` and prints the rewritten file. On a refusal it prints the number, a space, the place and a line feed instead; `rules.cnf` is read first. If either file is longer than 65,536 bytes it prints nothing."
-use Rattle.std.specs.Prelude.{List, ℕ, ℤ, length}
-use Rattle.std.proofs.Math.Option.{Option}
+use Rattle.std.specs.Prelude.{List, ℕ, ℤ, length, Option}
 use Rattle.refusal.specs.declared.Refusal.{Refusal}
 use Rattle.refusal_causes.specs.Lent.{refusal_of}
 use Rattle.rule_file.specs.Written.{written}

@@ -1,6 +1,5 @@
 -- How long the file of a sound list can be.
-use Rattle.std.specs.Prelude.{◌≡◌, refl, Bool, true, false, cond, ◌&&◌, List, [], ◌∷◌, ℕ, suc, ◌*◌, ◌≤◌, leb, ltb, ℤ, length}
-use Rattle.std.proofs.Math.Option.{none}
+use Rattle.std.specs.Prelude.{◌≡◌, refl, Bool, true, false, cond, ◌&&◌, List, [], ◌∷◌, ℕ, suc, ◌*◌, ◌≤◌, leb, ltb, ℤ, length, None}
 use Rattle.std.proofs.Common.{arith, length-append, leb-true, eqb-true}
 use Rattle.literal.specs.Literal.{variable}
 use Rattle.formula.specs.Formula.{closes, clauses}
@@ -22,7 +21,7 @@ stands-within n s x e = go (closes x) refl e
     go true f g = omega (arith, eqb-true (variable x) 0 f)
     go false f g = leb-true (variable x) n (and_left (leb (variable x) n) (ltb s.literals max_literals && may_join s.clause x) g)
 
-body-most : (l : List ℤ) (n : ℕ) (s : Scan) (i : ℕ) → n ≤ max_variables → bad_rule n s i l ≡ none → length (body l) ≤ 5 * length l
+body-most : (l : List ℤ) (n : ℕ) (s : Scan) (i : ℕ) → n ≤ max_variables → bad_rule n s i l ≡ None → length (body l) ≤ 5 * length l
 body-most [] n s i h e = omega arith
 body-most (x ∷ l) n s i h e =
     let step = sound_step n s i x l e in

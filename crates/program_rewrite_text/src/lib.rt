@@ -9,9 +9,10 @@ ghost use Rattle.rule_file.specs.Written.{written};
 ghost use Rattle.program_report.specs.Report.{fitted};
 ghost use Rattle.program_rewrite_text.specs.Printed.{longest, rewritten_text, printed};
 ghost use Rattle.program_rewrite_text.specs.FileSize.{size_of};
+ghost use Rattle.std.proofs.Common.{rules};
 
-use program_files::ReadProblem;
-use replies::{Rewritten, Written};
+use program_files::{Answer, LIST};
+use refusal::Refusal;
 
 // Puts what is printed for a rule file and a wish file into the lent bytes, if it fits, and gives
 // its length.
@@ -20,32 +21,33 @@ pub fn print_rewritten(rules_file: &[u8], wish_file: &[u8], out: &mut [u8]) -> u
     ensures output { out.new ≡ fitted (printed rules_file.now wish_file.now) out.old }
     ensures bound { result ≤ longest }
 {
-    let mut rules = program_files::list();
-    let mut row = program_files::row();
-    match program_files::read_problem(rules_file, wish_file, &mut rules, &mut row) {
-        ReadProblem::TooLong => 0,
-        ReadProblem::Refused(r) => program_report::put_refusal(r, out),
-        ReadProblem::Read(sizes) => {
-            let k = sizes.length;
-            let w = sizes.wished;
-            put_rewritten(sizes.variables, &rules[..k], &row[..w], sizes.limit, out)
-        }
-    }
+    program_files::print_for::<RewrittenRules>(rules_file, wish_file, out)
 }
 
 // The file of the rewritten rules, or the line of the refusal.
+struct RewrittenRules;
+
+impl Answer for RewrittenRules {
+    ghost text = { rewritten_text };
+
+    ghost longest = { longest };
+
+    fn put(n: usize, rules: &[i32], row: &[u8], d: usize, out: &mut [u8]) -> usize {
+        put_rewritten(n, rules, row, d, out)
+    }
+
+    ghost line_fits = { Prim.search rules };
+}
+
 fn put_rewritten(n: usize, rules: &[i32], row: &[u8], d: usize, out: &mut [u8]) -> usize
     ensures length { result ≡ length (rewritten_text n rules.now row.now d) }
     ensures output { out.new ≡ fitted (rewritten_text n rules.now row.now d) out.old }
     ensures bound { result ≤ longest }
 {
-    let mut list = program_files::list();
+    let mut list = [0; LIST];
     match totalizer_encoding::rewrite(n, rules, row, d, &mut list) {
-        Rewritten::Refused(r) => program_report::put_refusal(r, out),
-        Rewritten::Done(sizes) => {
-            let k = sizes.length;
-            put_file(sizes.variables, &list[..k], out)
-        }
+        Err(r) => program_report::put_refusal(r, out),
+        Ok(sizes) => put_file(sizes.variables, &list[..sizes.length], out),
     }
 }
 
@@ -60,11 +62,11 @@ fn put_file(n: usize, rules: &[i32], out: &mut [u8]) -> usize
 }
 
 // The length of a file that was written, or that had no room.
-fn size_of(reply: Written) -> usize
+fn size_of(reply: Result<usize, Refusal>) -> usize
     ensures { result ≡ size_of (reply_of reply) }
 {
     match reply {
-        Written::Refused(r) => r.place,
-        Written::Done(length) => length,
+        Err(r) => r.place,
+        Ok(length) => length,
     }
 }

@@ -1,7 +1,6 @@
 -- What follows from the definitions of specs/Same.antt.
-use Rattle.std.specs.Prelude.{◌≡◌, refl, Bool, true, false, cond, ◌||◌, List, ℕ, ◌≤◌, ◌<◌, ltb, leb, ℤ, length}
+use Rattle.std.specs.Prelude.{◌≡◌, refl, Bool, true, false, cond, ◌||◌, List, ℕ, ◌≤◌, ◌<◌, ltb, leb, ℤ, length, Option, None, Some, Ok, Err}
 use Rattle.std.proofs.Common.{sym, ap, ◌∙◌, true≢false, le_refl, arith, le-ltb, ltb-true, ltb-false, le-leb}
-use Rattle.std.proofs.Math.Option.{Option, none, some}
 use Rattle.std.proofs.lemmas.Bool.{lt-leb}
 use Rattle.refusal.specs.declared.Refusal.{Refusal}
 use Rattle.refusal.specs.Laws.{room_enough}
@@ -19,8 +18,8 @@ use Rattle.program_solution_text.specs.Lines.{solution}
 use Rattle.program_report.specs.Report.{refusal_line}
 use Rattle.program_files.specs.Problem.{Problem, max_file, silent, refuses, gives, too_long, together, with_wishes, problem, unless_refused, printed_for}
 use Rattle.program_check.specs.Check.{lent_of, refused_for, verdict, check_of}
-use Rattle.program_check.specs.declared.ProblemCheck.TheVariants.{Refused, Passed}
-use Rattle.program_diagnostics.specs.Diagnostic.{Named, spot_too_long, said_of}
+use Rattle.program_files.specs.declared.FileError.TheVariants.{Refused}
+use Rattle.program_diagnostics.specs.Diagnostic.{Named, in_rules, in_wishes, spot_too_long, file_at, said_of}
 use Rattle.program_nearest_text.specs.Printed.{nearest_refused, chosen, nearest_printed}
 use Rattle.program_rewrite_text.specs.Printed.{rewriting_refused, printed}
 use Rattle.program_opb_text.specs.Printed.{export_refused, opb_printed}
@@ -31,8 +30,8 @@ with_room_lem : (s : Lent) (needed : ℕ) → refusal_of (with_room needed neede
 with_room_lem s needed = go (unadmitted s) refl
   where
     go : (o : Option Refusal) → unadmitted s ≡ o → refusal_of (with_room needed needed s) ≡ o
-    go (some r) e = refused-lent s needed needed r e
-    go none e = room_decides s needed needed e ∙ room_enough needed needed (le_refl needed)
+    go (Some r) e = refused-lent s needed needed r e
+    go None e = room_decides s needed needed e ∙ room_enough needed needed (le_refl needed)
 
 -- a program whose call is refused for the first cause of what it is lent
 module _ (asks_entries : Bool) (refused_by : ℕ → List ℤ → List ℕ → ℕ → Option Refusal) (text : ℕ → List ℤ → List ℕ → ℕ → List ℕ) where
@@ -44,13 +43,13 @@ module _ (asks_entries : Bool) (refused_by : ℕ → List ℤ → List ℕ → �
   Checked p =
       (n : ℕ) (l : List ℤ) (row : List ℕ) (d : ℕ) → p ≡ gives n l row d → refused_by n l row d ≡ unadmitted (lent_of asks_entries n l row d)
 
-  prints : (p : Problem) → Checked p → (r : Refusal) → refused_for asks_entries p ≡ some r → (printed_for answer p ≡ refusal_line r) × (check_of asks_entries p ≡ Refused r)
+  prints : (p : Problem) → Checked p → (r : Refusal) → refused_for asks_entries p ≡ Some r → (printed_for answer p ≡ refusal_line r) × (check_of asks_entries p ≡ Err (Refused r))
   prints silent same r e = absurd (let z : ◌≡◌ {A = ℕ} 0 1 = cc in omega arith)
-  prints (refuses q) same r e = let z : q ≡ r = cc in (ap refusal_line z, ap Refused z)
+  prints (refuses q) same r e = let z : q ≡ r = cc in (ap refusal_line z, ap (λ (q : Refusal). Err (Refused q)) z)
   prints (gives n l row d) same r e = (ap (λ (o : Option Refusal). unless_refused o (text n l row d)) (same n l row d refl ∙ e), ap verdict e)
 
-  passes : (p : Problem) → Checked p → (n : ℕ) (l : List ℤ) (row : List ℕ) (d : ℕ) → p ≡ gives n l row d → refused_for asks_entries (gives n l row d) ≡ none
-      → (printed_for answer p ≡ text n l row d) × (check_of asks_entries p ≡ Passed)
+  passes : (p : Problem) → Checked p → (n : ℕ) (l : List ℤ) (row : List ℕ) (d : ℕ) → p ≡ gives n l row d → refused_for asks_entries (gives n l row d) ≡ None
+      → (printed_for answer p ≡ text n l row d) × (check_of asks_entries p ≡ Ok tt)
   passes p same n l row d e f = (
     ap (printed_for answer) e ∙ ap (λ (o : Option Refusal). unless_refused o (text n l row d)) (same n l row d e ∙ f),
     ap (check_of asks_entries) e ∙ ap verdict f,
@@ -103,10 +102,10 @@ nearest_alike f =
     (λ n l row d e. with_room_lem (wished_problem n l row 0) n ∙ limit_alike n l row d (limit_read f.rules f.wishes n l row d e))
 
 -- of two files of which one is too long, the one that is named is: the byte at the place is there
-pub long_named : (rules wishes : List ℕ) → problem rules wishes ≡ silent → max_file < length (cond (spot_too_long rules).wishes wishes rules)
+pub long_named : (rules wishes : List ℕ) → problem rules wishes ≡ silent → max_file < length (file_at (spot_too_long rules) rules wishes)
 long_named rules wishes e = long (too_long rules wishes) refl e
   where
-    named : (a b : Bool) → ltb max_file (length rules) ≡ a → ltb max_file (length wishes) ≡ b → a || b ≡ true → max_file < length (cond (leb (length rules) max_file) wishes rules)
+    named : (a b : Bool) → ltb max_file (length rules) ≡ a → ltb max_file (length wishes) ≡ b → a || b ≡ true → max_file < length (file_at (cond (leb (length rules) max_file) (in_wishes max_file) (in_rules max_file)) rules wishes)
     named true b f g h = rw (lt-leb (length rules) max_file (ltb-true max_file (length rules) f)) (ltb-true max_file (length rules) f)
     named false true f g h = rw (le-leb (length rules) max_file (ltb-false max_file (length rules) f)) (ltb-true max_file (length wishes) g)
     named false false f g h = absurd (true≢false (sym h))
@@ -116,6 +115,6 @@ long_named rules wishes e = long (too_long rules wishes) refl e
     gone (rule.gives m c k) (wish.refuses q) f = (let z : ◌≡◌ {A = ℕ} 0 1 = cc in omega arith)
     gone (rule.gives m c k) (wish.gives v n d row) f = (let z : ◌≡◌ {A = ℕ} 0 1 = cc in omega arith)
 
-    long : (b : Bool) → too_long rules wishes ≡ b → cond b silent (together (rule.reading rules) (wish.reading wishes)) ≡ silent → max_file < length (cond (spot_too_long rules).wishes wishes rules)
+    long : (b : Bool) → too_long rules wishes ≡ b → cond b silent (together (rule.reading rules) (wish.reading wishes)) ≡ silent → max_file < length (file_at (spot_too_long rules) rules wishes)
     long true f g = named (ltb max_file (length rules)) (ltb max_file (length wishes)) refl refl f
     long false f g = absurd (gone (rule.reading rules) (wish.reading wishes) g)

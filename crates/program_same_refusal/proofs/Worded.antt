@@ -1,7 +1,7 @@
 -- What follows from the definitions of specs/Worded.antt.
-use Rattle.std.specs.Prelude.{◌≡◌, refl, Bool, true, false, cond, not, List, ℕ, ◌≤◌, ltb, leb, ℤ, length}
+use Rattle.std.specs.Prelude.{◌≡◌, refl, Bool, true, false, cond, not, List, ℕ, ◌≤◌, ltb, leb, ℤ, length, None, Some}
 use Rattle.std.proofs.Common.{sym, true≢false, arith, ltb-true}
-use Rattle.std.proofs.Math.Option.{none, some, some-ne-none}
+use Rattle.std.proofs.lemmas.Option.{none-some}
 use Rattle.std.proofs.lemmas.Bool.{not-true}
 use Rattle.formula.specs.Formula.{all}
 use Rattle.refusal.specs.declared.Refusal.{Refusal}
@@ -24,8 +24,8 @@ use Rattle.program_diagnostics.specs.Diagnostic.{in_rules, in_wishes, spot_of}
 use Rattle.program_same_refusal.specs.Worded.{joint_causes, program_causes}
 
 -- Two good files: what was read of them is in range (not 14) and sound (not 13).
-joint_number : (n : ℕ) (l : List ℤ) (row : List ℕ) (d : ℕ) → 1 ≤ n → n ≤ max_variables → d ≤ max_limit → SoundList n l → bad_wish 0 0 row ≡ none → (asks_entries : Bool) (r : Refusal)
-    → unadmitted (lent_of asks_entries n l row d) ≡ some r → among (joint_causes asks_entries) r.number ≡ true
+joint_number : (n : ℕ) (l : List ℤ) (row : List ℕ) (d : ℕ) → 1 ≤ n → n ≤ max_variables → d ≤ max_limit → SoundList n l → bad_wish 0 0 row ≡ None → (asks_entries : Bool) (r : Refusal)
+    → unadmitted (lent_of asks_entries n l row d) ≡ Some r → among (joint_causes asks_entries) r.number ≡ true
 joint_number n l row d p m h a b true r e = (sound_left (among (joint_causes true)) n l row d true p m h a b refl refl (λ f. refl)).number r e
 joint_number n l row d p m h a b false r e =
     (sound_left (among (joint_causes false)) n l row d false p m h a b refl refl (λ f. absurd (true≢false (sym f)))).number r e
@@ -42,27 +42,27 @@ joint_programs true k e = each (among (program_causes true)) (joint_causes true)
 joint_programs false k e = each (among (program_causes false)) (joint_causes false) k refl e
 
 -- Whatever two files a program refuses, the number is one of these.
-pub program_number : (asks_entries : Bool) (rules wishes : List ℕ) (r : Refusal) → refused_for asks_entries (problem rules wishes) ≡ some r
+pub program_number : (asks_entries : Bool) (rules wishes : List ℕ) (r : Refusal) → refused_for asks_entries (problem rules wishes) ≡ Some r
     → among (program_causes asks_entries) r.number ≡ true
 program_number asks_entries rules wishes r e = long (too_long rules wishes) e
   where
-    told : (q : Refusal) → among (program_causes asks_entries) q.number ≡ true → some q ≡ some r → among (program_causes asks_entries) r.number ≡ true
+    told : (q : Refusal) → among (program_causes asks_entries) q.number ≡ true → Some q ≡ Some r → among (program_causes asks_entries) r.number ≡ true
     told q t f = (some-cause {test = among (program_causes asks_entries)} q t).number r f
 
     both : (n c : ℕ) (l : List ℤ) → rule.reading rules ≡ rule.gives n c l → (w : wish.Reading) → wish.reading wishes ≡ w
-        → refused_for asks_entries (with_wishes n l w) ≡ some r → among (program_causes asks_entries) r.number ≡ true
+        → refused_for asks_entries (with_wishes n l w) ≡ Some r → among (program_causes asks_entries) r.number ≡ true
     both n c l f (wish.refuses q) g h = told q (wish_programs asks_entries q.number (wish_number wishes q g)) h
     both n c l f (wish.gives v m d row) g h =
         let a = accepted-rules.accepted rules n c l f in
         let b = accepted-wishes.accepted wishes v m d row g in
         joint_programs asks_entries r.number (joint_number n l row d a.least a.most b.limit a.sound b.sound asks_entries r h)
 
-    read : (g : rule.Reading) → rule.reading rules ≡ g → refused_for asks_entries (together g (wish.reading wishes)) ≡ some r → among (program_causes asks_entries) r.number ≡ true
+    read : (g : rule.Reading) → rule.reading rules ≡ g → refused_for asks_entries (together g (wish.reading wishes)) ≡ Some r → among (program_causes asks_entries) r.number ≡ true
     read (rule.refuses q) f h = told q (rule_programs asks_entries q.number (rule_number rules q f)) h
     read (rule.gives n c l) f h = both n c l f (wish.reading wishes) refl h
 
-    long : (b : Bool) → refused_for asks_entries (cond b silent (together (rule.reading rules) (wish.reading wishes))) ≡ some r → among (program_causes asks_entries) r.number ≡ true
-    long true h = absurd (some-ne-none r (sym h))
+    long : (b : Bool) → refused_for asks_entries (cond b silent (together (rule.reading rules) (wish.reading wishes))) ≡ Some r → among (program_causes asks_entries) r.number ≡ true
+    long true h = absurd (none-some r (sym (sym h)))
     long false h = read (rule.reading rules) refl h
 
 -- Each of these numbers has words: no program refuses two files without a reason.
@@ -77,7 +77,7 @@ worded asks_entries at_end k t e =
     all_worded false true = refl
     all_worded false false = refl
 
-pub program_worded : (asks_entries : Bool) (rules wishes : List ℕ) (r : Refusal) → refused_for asks_entries (problem rules wishes) ≡ some r
+pub program_worded : (asks_entries : Bool) (rules wishes : List ℕ) (r : Refusal) → refused_for asks_entries (problem rules wishes) ≡ Some r
     → (at_end : Bool) → length (reason r.number at_end) ≡ 0 → ⊥
 program_worded asks_entries rules wishes r e at_end = worded asks_entries at_end r.number (program_number asks_entries rules wishes r e)
 

@@ -1,8 +1,6 @@
 -- Whatever two files a program refuses, its line on standard error has a sentence (`program_number`, `program_worded`), and where a file was refused in reading it names that file and the place in it (`rule_spot`, `wish_spot`).
 use Rattle.std.specs.Prelude.{Bool, cond, List, [], ◌∷◌, ◌++◌, ℕ}
-use Rattle.formula.specs.Formula.{all}
 use Rattle.file_causes.specs.Causes.{rule_causes, wish_causes}
-use Rattle.program_files.specs.Problem.{together}
 
 -- The numbers (document 01, "Refusals"; 16 is document 02's, L2) of the causes to refuse two good files together: 16 only where the program asks that every rule has an entry.
 abbrev pub joint_causes : Bool → List ℕ

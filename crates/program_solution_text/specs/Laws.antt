@@ -1,6 +1,5 @@
 -- The equations by which proofs put the values of a choice, one after the other, and how long a text can be.
-use Rattle.std.specs.Prelude.{◌≡◌, refl, Bool, true, false, cond, ◌&&◌, List, [], ◌∷◌, ◌++◌, ℕ, zero, suc, ◌+◌, ◌*◌, ◌%◌, ◌^◌, ◌≤◌, ◌<◌, eqb, ltb, length, get_or, drop}
-use Rattle.std.proofs.Math.Option.{some}
+use Rattle.std.specs.Prelude.{◌≡◌, refl, Bool, true, false, cond, ◌&&◌, List, [], ◌∷◌, ◌++◌, ℕ, zero, suc, ◌+◌, ◌*◌, ◌%◌, ◌^◌, ◌≤◌, ◌<◌, eqb, ltb, length, get_or, drop, Some}
 use Rattle.std.proofs.Common.{add-one, arith, length-append, drop_of_length-le, drop-cons, eq-eqb, ne_eqb, lt-ltb, le-ltb}
 use Rattle.literal.specs.Literal.{variable, literal}
 use Rattle.decimal.specs.Decimal.{decimal}
@@ -62,7 +61,7 @@ values-most (b ∷ choice) i h =
 
 -- the lines of a choice, in their parts
 pub solution-length : (broken : ℕ) (choice : List ℕ)
-    → length (solution (some broken) choice) ≡ length opening + (length (decimal broken) + (length optimum + (length (values 0 choice) + length closing)))
+    → length (solution (Some broken) choice) ≡ length opening + (length (decimal broken) + (length optimum + (length (values 0 choice) + length closing)))
 solution-length broken choice =
     omega (
       arith,
@@ -72,6 +71,6 @@ solution-length broken choice =
       length-append (values 0 choice) closing,
     )
 
-pub solution-most : (broken : ℕ) (choice : List ℕ) → broken < 2 ^ 64 → length choice ≤ 256 → length (solution (some broken) choice) ≤ longest
+pub solution-most : (broken : ℕ) (choice : List ℕ) → broken < 2 ^ 64 → length choice ≤ 256 → length (solution (Some broken) choice) ≤ longest
 solution-most broken choice h k =
     omega (arith, solution-length broken choice, digits-most broken h, values-most choice 0 (omega arith))

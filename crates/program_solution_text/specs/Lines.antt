@@ -1,6 +1,5 @@
 -- The lines of a choice, as solvers of optimization problems print them: the least count, that it is the least, and the choice; or that there is none.
-use Rattle.std.specs.Prelude.{cond, ◌&&◌, List, [], ◌∷◌, ◌++◌, ℕ, suc, ◌%◌, eqb, ltb}
-use Rattle.std.proofs.Math.Option.{Option, none, some}
+use Rattle.std.specs.Prelude.{cond, ◌&&◌, List, [], ◌∷◌, ◌++◌, ℕ, suc, ◌%◌, eqb, ltb, Option, None, Some}
 use Rattle.literal.specs.Literal.{literal}
 use Rattle.decimal.specs.Decimal.{decimal}
 use Rattle.text.specs.Text.{numeral}
@@ -38,8 +37,8 @@ closing = 32 ∷ 48 ∷ 10 ∷ []
 
 -- no choice; or the count, the answer and the values
 abbrev pub solution : Option ℕ → List ℕ → List ℕ
-solution none choice = unsatisfiable
-solution (some broken) choice = opening ++ (decimal broken ++ (optimum ++ (values 0 choice ++ closing)))
+solution None choice = unsatisfiable
+solution (Some broken) choice = opening ++ (decimal broken ++ (optimum ++ (values 0 choice ++ closing)))
 
 -- no text is longer
 abbrev pub longest : ℕ

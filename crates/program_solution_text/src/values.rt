@@ -13,10 +13,7 @@ fn put_break(i: usize, out: &mut [u8], at: usize) -> usize
     requires { at + length (line_break i) ≤ length out.old }
     ensures { Wrote (line_break i) out.old at out.new result }
 {
-    if i == 0 {
-        return at;
-    }
-    if i % PER_LINE != 0 {
+    if i == 0 || i % PER_LINE != 0 {
         return at;
     }
     text::put_bytes(b"\nv", out, at)
@@ -38,10 +35,8 @@ pub fn put_values(choice: &[u8], out: &mut [u8], from: usize) -> usize
     ensures { Wrote (values 0 choice.now) out.old from out.new result }
 {
     let mut at = from;
-    let mut i = 0;
-    while i < choice.len() {
-        at = put_value(i, choice[i], out, at);
-        i += 1;
+    for (i, value) in choice.iter().enumerate() {
+        at = put_value(i, *value, out, at);
     }
     at
 }

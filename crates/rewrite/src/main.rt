@@ -3,68 +3,31 @@
 // is said of a refusal on standard error `diagnostic` in program_diagnostics/specs/Diagnostic.antt.
 #![tactic(auto)]
 
-ghost use Rattle.std.specs.Prelude.{◌≡◌, ◌≤◌, length};
 ghost use Rattle.program_rewrite_text.specs.Printed.{longest};
 
-use program_input::FilesRead;
-use program_options::Asked;
+use program_run::Program;
 
-fn main(rt: HostRuntime) {
-    let out = rt.stdout();
-    let err = rt.stderr();
-    match program_options::first_asked(&rt) {
-        Asked::Help => program_options::print_help(
-            &out,
-            &err,
-            b"usage: rewrite\n\nPrints a rule file of plain rules: a choice can be completed to meet them exactly when it\nmeets the given rules and breaks no more wishes than the limit of the wish file.\n\nThe files are rules.cnf and wish.txt of the current folder, of at most 65536 bytes each.\n",
-        ),
-        Asked::Version => program_options::print_version(&out, &err, b"rewrite"),
-        Asked::Nothing => {
-            program_options::warn_of_arguments(
-                &rt,
-                &err,
-                b"rewrite: it takes no file names, and reads rules.cnf and wish.txt of the current folder\n",
-            );
-            run(&rt, b"rules.cnf", b"wish.txt");
-        }
+struct Rewrite;
+
+impl Program for Rewrite {
+    const NAME: &'static [u8] = b"rewrite";
+
+    const USAGE: &'static [u8] =
+        b"usage: rewrite\n\nPrints a rule file of plain rules: a choice can be completed to meet them exactly when it\nmeets the given rules and breaks no more wishes than the limit of the wish file.\n\nThe files are rules.cnf and wish.txt of the current folder, of at most 65536 bytes each.\n";
+
+    const ASKS_ENTRIES: bool = false;
+
+    ghost longest = { longest };
+
+    fn print(rules: &[u8], wishes: &[u8], out: &mut [u8]) -> usize {
+        program_rewrite_text::print_rewritten(rules, wishes, out)
     }
 }
 
-fn run(rt: &HostRuntime, rules_path: &[u8], wish_path: &[u8])
-    requires { (length rules_path.now ≤ 4096) × (length wish_path.now ≤ 4096) }
-{
-    let mut rules = program_input::space();
-    let mut wishes = program_input::space();
-    let FilesRead::Bytes(k, w) = program_input::read_files(
-        rt,
+fn main(rt: HostRuntime) {
+    program_run::run_in_folder::<Rewrite, 200015>(
+        &rt,
         &rt.stderr(),
-        rules_path,
-        wish_path,
-        &mut rules,
-        &mut wishes,
-    ) else {
-        return;
-    };
-    tell(rt, rules_path, wish_path, &rules[..k], &wishes[..w]);
-}
-
-// Prints the answer, and says why if it is a refusal.
-fn tell(rt: &HostRuntime, rules_path: &[u8], wish_path: &[u8], rules: &[u8], wishes: &[u8])
-    requires { (length rules_path.now ≤ 4096) × (length wish_path.now ≤ 4096) }
-{
-    show(rt, rules, wishes);
-    program_explain::explain_refusal(&rt.stderr(), rules_path, wish_path, rules, wishes, false);
-}
-
-fn show(rt: &HostRuntime, rules: &[u8], wishes: &[u8]) {
-    let mut out = text();
-    let n = program_rewrite_text::print_rewritten(rules, wishes, &mut out);
-    program_failure::say_unless_printed(&rt.stderr(), rt.write_all(&out[..n]));
-}
-
-// Space for the longest text.
-fn text() -> [u8; 200015]
-    ensures { longest ≡ length result }
-{
-    [0; 200015]
+        b"rewrite: it takes no file names, and reads rules.cnf and wish.txt of the current folder\n",
+    );
 }

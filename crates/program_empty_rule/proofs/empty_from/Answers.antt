@@ -1,89 +1,41 @@
-use mathlib.Core.Path.{◌≡◌, sym, ap, ◌∙◌}
-use mathlib.Core.Bool.{Bool, false}
-use mathlib.Core.List.{List}
-use Prim.Native.Nat.{ℕ, ◌-◌}
-use native.Mathlib.Omega.{arith}
-use lib.IntN.{ℤ}
-use borrow.Author.Tests.{not-false}
-use Rattle.literal.specs.Literal.{closes}
-use Rattle.rule_file.specs.Tokens.{tokens_from}
-use Rattle.rule_file_tokens.specs.declared.NextToken as T
-use Rattle.rule_file_tokens.specs.Laws.{number-held}
-use Rattle.rule_file_tokens.specs.NextToken.{next_of}
-use Rattle.program_empty_rule.proofs.Laws.{later, closes-filled, fills}
+use Rattle.std.specs.Prelude.{◌≡◌, true, not}
+use Rattle.std.proofs.Common.{sym, ap, ◌∙◌, true≢false, arith}
+use Rattle.rule_file_token_stream.specs.Turn.{same_file, unread, at_end, number, moved}
+use Rattle.program_empty_rule.specs.Laws.{empty_from}
+use Rattle.program_empty_rule.proofs.Laws.{at_end_lem, at_malformed, later, turned}
 use Rattle.program_empty_rule.proofs.empty_from.Goals as goal
+use Rattle.program_empty_rule.proofs.empty_from.Goals.{else-closes-via-then-closes+else-not-filled, else-closes-via-else-closes}
 
--- A turn with a number: the file, where the turn began, the number's place and value, and the offset past it.
-module _ (c : goal.Else-not-filled) where
-  abbrev turn-else-not-filled : goal.Else-not-filled
-  turn-else-not-filled = c
+pub returns-in-Err : goal.returns-in-Err
+returns-in-Err c =
+    sym (c.loop-malformed.invariant.so_far
+    ∙ at_malformed c.loop-malformed.filled c.args.file.now c.loop-malformed.tokens.at c.in-Err.malformed.place
+    (unread c.args.file.now c.loop-malformed.tokens c.loop-malformed.invariant.same_file c.in-Err.malformed c.in-Err.ensures.first))
 
-  abbrev file-else-not-filled : List ℕ
-  file-else-not-filled = turn-else-not-filled.args.file.now
+pub returns-in-Ok-None : goal.returns-in-Ok-None
+returns-in-Ok-None c =
+    sym (c.loop-malformed.invariant.so_far
+    ∙ at_end_lem c.loop-malformed.filled c.args.file.now c.loop-malformed.tokens.at
+    (at_end c.args.file.now c.loop-malformed.tokens c.loop-malformed.invariant.same_file c.in-Ok-None.field-0 c.in-Ok-None.ensures.first c.in-Ok-None.field-0-is))
 
-  abbrev filled-else-not-filled : Bool
-  filled-else-not-filled = turn-else-not-filled.loop-place.filled
+pub loop-malformed-smaller : goal.loop-malformed-smaller
+loop-malformed-smaller c =
+    let found = number c.args.file.now c.loop-malformed.tokens c.loop-malformed.invariant.same_file c.in-Ok-Some.field-0 c.in-Ok-Some.ensures.first c.in-Ok-Some.token c.in-Ok-Some.field-0-is in
+    let next = moved c.args.file.now c.loop-malformed.tokens c.loop-malformed.invariant.same_file c.in-Ok-Some.field-0 c.in-Ok-Some.ensures.first c.in-Ok-Some.token c.in-Ok-Some.field-0-is c.next_token.new.self c.in-Ok-Some.ensures.rest.1 in
+    omega (arith, later c.loop-malformed.filled c.args.file.now c.loop-malformed.tokens.at found, next)
 
-  abbrev at-else-not-filled : ℕ
-  at-else-not-filled = turn-else-not-filled.loop-place.at
-
-  abbrev place-else-not-filled : ℕ
-  place-else-not-filled = c.in-Element.place
-
-  abbrev value-else-not-filled : ℤ
-  value-else-not-filled = c.in-Element.value
-
-  abbrev next-else-not-filled : ℕ
-  next-else-not-filled = c.in-Element.next
-
-  found-else-not-filled : T.TheVariants.Element place-else-not-filled value-else-not-filled next-else-not-filled ≡ next_of (tokens_from file-else-not-filled at-else-not-filled)
-  found-else-not-filled = sym c.in-Element.is ∙ c.next_token.ensures
-
-  closing-else-not-filled : c.closes.result ≡ closes value-else-not-filled
-  closing-else-not-filled = c.closes.ensures ∙ ap closes (number-held file-else-not-filled at-else-not-filled found-else-not-filled)
-
-pub loop-place-smaller-else-not-filled : goal.loop-place-smaller-else-not-filled
-loop-place-smaller-else-not-filled c =
-    omega (arith, later (filled-else-not-filled c) (file-else-not-filled c) (at-else-not-filled c) (found-else-not-filled c))
-
-pub loop-place-preserved-else-not-filled : goal.loop-place-preserved-else-not-filled
-loop-place-preserved-else-not-filled c =
-    (turn-else-not-filled c).loop-place.invariant
-    ∙ closes-filled (filled-else-not-filled c) (file-else-not-filled c) (at-else-not-filled c) (found-else-not-filled c) (sym (closing-else-not-filled c) ∙ c.if-closes.true) (not-false (filled-else-not-filled c) c.if-not-filled.false-raw)
-
--- A turn with a number: the file, where the turn began, the number's place and value, and the offset past it.
-module _ (c : goal.Else-closes) where
-  abbrev turn-else-closes : goal.Else-closes
-  turn-else-closes = c
-
-  abbrev file-else-closes : List ℕ
-  file-else-closes = turn-else-closes.args.file.now
-
-  abbrev filled-else-closes : Bool
-  filled-else-closes = turn-else-closes.loop-place.filled
-
-  abbrev at-else-closes : ℕ
-  at-else-closes = turn-else-closes.loop-place.at
-
-  abbrev place-else-closes : ℕ
-  place-else-closes = c.in-Element.place
-
-  abbrev value-else-closes : ℤ
-  value-else-closes = c.in-Element.value
-
-  abbrev next-else-closes : ℕ
-  next-else-closes = c.in-Element.next
-
-  found-else-closes : T.TheVariants.Element place-else-closes value-else-closes next-else-closes ≡ next_of (tokens_from file-else-closes at-else-closes)
-  found-else-closes = sym c.in-Element.is ∙ c.next_token.ensures
-
-  closing-else-closes : c.closes.result ≡ closes value-else-closes
-  closing-else-closes = c.closes.ensures ∙ ap closes (number-held file-else-closes at-else-closes found-else-closes)
-
-pub loop-place-smaller : goal.loop-place-smaller
-loop-place-smaller c =
-    omega (arith, later (filled-else-closes c) (file-else-closes c) (at-else-closes c) (found-else-closes c))
-
-pub loop-place-preserved : goal.loop-place-preserved
-loop-place-preserved c =
-    (turn-else-closes c).loop-place.invariant ∙ fills (filled-else-closes c) (file-else-closes c) (at-else-closes c) (found-else-closes c) (sym (closing-else-closes c) ∙ c.if-closes.false)
+pub loop-malformed-preserved : goal.loop-malformed-preserved
+loop-malformed-preserved c =
+    let found = number c.args.file.now c.loop-malformed.tokens c.loop-malformed.invariant.same_file c.in-Ok-Some.field-0 c.in-Ok-Some.ensures.first c.in-Ok-Some.token c.in-Ok-Some.field-0-is in
+    let next = moved c.args.file.now c.loop-malformed.tokens c.loop-malformed.invariant.same_file c.in-Ok-Some.field-0 c.in-Ok-Some.ensures.first c.in-Ok-Some.token c.in-Ok-Some.field-0-is c.next_token.new.self c.in-Ok-Some.ensures.rest.1 in
+    let full : c.closes-closes.result ≡ true → c.loop-malformed.filled ≡ true = elim c.else-closes.branch [
+      | else-closes-via-then-closes+else-not-filled w ↦ λ h. w.if-not-filled.false
+      | else-closes-via-else-closes w ↦ λ h. absurd (true≢false (sym h ∙ w.if-closes.false))
+    ] in
+    record {
+      same_file = same_file c.args.file.now c.loop-malformed.tokens c.loop-malformed.invariant.same_file c.next_token.new.self c.in-Ok-Some.ensures.rest.0;
+      so_far =
+          c.loop-malformed.invariant.so_far
+          ∙ turned c.loop-malformed.filled c.args.file.now c.loop-malformed.tokens.at found c.closes-closes.result c.closes-closes.ensures full
+          ∙ ap (empty_from (not c.closes-closes.result) c.args.file.now) (sym next);
+    }

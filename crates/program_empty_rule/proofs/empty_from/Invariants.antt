@@ -1,13 +1,13 @@
 -- `program_empty_rule::empty_from` meets its contract. The loop's invariant: the place sought is the one sought from here on.
-use mathlib.Core.Path.{◌≡◌}
-use mathlib.Core.Bool.{false}
-use Prim.Native.Nat.{◌-◌}
-use lib.ListN.{length}
+use Rattle.std.specs.Prelude.{◌≡◌, false, ◌-◌, length}
 use Rattle.program_empty_rule.specs.Laws.{empty_from}
 use Rattle.program_empty_rule.proofs.empty_from.Given as goal
 
-abbrev pub invariant-loop-place : goal.invariant-loop-place
-invariant-loop-place l = empty_from false l.file l.from ≡ empty_from l.filled l.file l.at
+abbrev pub invariant-loop-malformed : goal.invariant-loop-malformed
+invariant-loop-malformed l = record {
+  same_file : l.tokens.file.now ≡ l.file;
+  so_far : empty_from false l.file l.from ≡ empty_from l.filled l.file l.tokens.at;
+}
 
-abbrev pub decreases-loop-place : goal.decreases-loop-place
-decreases-loop-place l = length l.file - l.at
+abbrev pub decreases-loop-malformed : goal.decreases-loop-malformed
+decreases-loop-malformed l = length l.file - l.tokens.at

@@ -6,7 +6,6 @@ use Rattle.rule_file.specs.Written.{written}
 use Rattle.program_rewrite_text.specs.FileSize.{size_of}
 use Rattle.program_rewrite_text.specs.Laws.{file_size_lem, file_put}
 use Rattle.program_rewrite_text.specs.Sizes.{written-most}
-use borrow.Author.Rules.{rules}
 use Rattle.program_rewrite_text.proofs.put_file.Goals as goal
 
 pub returns : goal.returns
