@@ -1,46 +1,50 @@
-// The calls, numbered as their names stand in `named`.
-pub const CHECK: usize = 0;
-
-pub const READ_RULES: usize = 1;
-
-pub const WRITE_RULES: usize = 2;
-
-pub const READ_WISHES: usize = 3;
-
-pub const WRITE_WISHES: usize = 4;
-
-pub const WRITE_OPB: usize = 5;
-
-pub const SEARCH: usize = 6;
-
-pub const PLAIN: usize = 7;
-
-pub const NEAREST: usize = 8;
-
-pub const REWRITE: usize = 9;
-
-pub const FORKS: usize = 10;
-
-// How many there are.
-pub const CALLS: usize = 11;
-
-// Which call a line names: their number where it names none.
-pub fn named(line: &[u8]) -> usize {
-    case_text::name_of(
-        line,
-        b"check\nread_rules\nwrite_rules\nread_wishes\nwrite_wishes\nwrite_opb\nsearch\nplain\nnearest\nrewrite\nforks\n",
-    )
+/// A call, by what it writes into the buffer that comes last.
+#[derive(Clone, Copy, Debug, PartialEq, Eq)]
+pub enum Call {
+    Nothing(NothingCall),
+    Bytes(BytesCall),
+    Numbers(NumbersCall),
 }
 
-// What a call writes into the buffer that comes last.
-pub const NOTHING: usize = 0;
+/// A call that writes nothing.
+#[derive(Clone, Copy, Debug, PartialEq, Eq)]
+pub enum NothingCall {
+    Check,
+    Forks,
+}
 
-pub const BYTES: usize = 1;
+/// A call that writes bytes.
+#[derive(Clone, Copy, Debug, PartialEq, Eq)]
+pub enum BytesCall {
+    File(FileCall),
+    Search(SearchCall),
+}
 
-pub const NUMBERS: usize = 2;
+/// A call that writes a file, or the row of one.
+#[derive(Clone, Copy, Debug, PartialEq, Eq)]
+pub enum FileCall {
+    WriteRules,
+    ReadWishes,
+    WriteWishes,
+    WriteOpb,
+}
 
-// Which values a case of a call has, in this order, and what buffer after them. A file that is read
-// stands as a row.
+/// A call that searches for a choice.
+#[derive(Clone, Copy, Debug, PartialEq, Eq)]
+pub enum SearchCall {
+    Wish,
+    Plain,
+    Nearest,
+}
+
+/// A call that writes a list of numbers.
+#[derive(Clone, Copy, Debug, PartialEq, Eq)]
+pub enum NumbersCall {
+    ReadRules,
+    Rewrite,
+}
+
+/// Which values a case of a call has, in this order, before the buffer. A file that is read stands as a row.
 #[derive(Clone, Copy)]
 pub struct Form {
     pub n: bool,
@@ -48,38 +52,140 @@ pub struct Form {
     pub row: bool,
     pub d: bool,
     pub choice: bool,
-    pub buffer: usize,
 }
 
-pub fn form_of(call: usize) -> Form {
-    match call {
-        CHECK => those(true, true, true, false, true, NOTHING),
-        READ_RULES => those(false, false, true, false, false, NUMBERS),
-        READ_WISHES => those(false, false, true, false, false, BYTES),
-        WRITE_RULES | PLAIN => those(true, true, false, false, false, BYTES),
-        WRITE_WISHES => those(true, false, true, true, false, BYTES),
-        NEAREST => those(true, true, true, false, false, BYTES),
-        REWRITE => those(true, true, true, true, false, NUMBERS),
-        FORKS => those(true, true, true, true, false, NOTHING),
-        _ => those(true, true, true, true, false, BYTES),
+// A form with no value.
+const NONE: Form = Form {
+    n: false,
+    rules: false,
+    row: false,
+    d: false,
+    choice: false,
+};
+
+impl Call {
+    /// The call of a name.
+    pub fn named(name: &[u8]) -> Option<Call> {
+        match name {
+            b"check" => Some(Call::Nothing(NothingCall::Check)),
+            b"read_rules" => Some(Call::Numbers(NumbersCall::ReadRules)),
+            b"write_rules" => Some(Call::Bytes(BytesCall::File(FileCall::WriteRules))),
+            b"read_wishes" => Some(Call::Bytes(BytesCall::File(FileCall::ReadWishes))),
+            b"write_wishes" => Some(Call::Bytes(BytesCall::File(FileCall::WriteWishes))),
+            b"write_opb" => Some(Call::Bytes(BytesCall::File(FileCall::WriteOpb))),
+            b"search" => Some(Call::Bytes(BytesCall::Search(SearchCall::Wish))),
+            b"plain" => Some(Call::Bytes(BytesCall::Search(SearchCall::Plain))),
+            b"nearest" => Some(Call::Bytes(BytesCall::Search(SearchCall::Nearest))),
+            b"rewrite" => Some(Call::Numbers(NumbersCall::Rewrite)),
+            b"forks" => Some(Call::Nothing(NothingCall::Forks)),
+            _ => None,
+        }
+    }
+
+    /// The values of a case of this call.
+    pub fn form(self) -> Form {
+        match self {
+            Call::Nothing(call) => call.form(),
+            Call::Bytes(BytesCall::File(call)) => call.form(),
+            Call::Bytes(BytesCall::Search(call)) => call.form(),
+            Call::Numbers(call) => call.form(),
+        }
+    }
+
+    /// The longest row of a case, or file that is read: a rule file may have more bytes.
+    pub fn longest_row(self) -> usize {
+        match self {
+            Call::Numbers(NumbersCall::ReadRules) => case_text::LONGEST_FILE,
+            Call::Nothing(_) | Call::Bytes(_) | Call::Numbers(NumbersCall::Rewrite) => {
+                case_text::LONGEST_ROW
+            }
+        }
     }
 }
 
-fn those(n: bool, rules: bool, row: bool, d: bool, choice: bool, buffer: usize) -> Form {
-    Form {
-        n,
-        rules,
-        row,
-        d,
-        choice,
-        buffer,
+impl NothingCall {
+    fn form(self) -> Form {
+        match self {
+            NothingCall::Check => Form {
+                n: true,
+                rules: true,
+                row: true,
+                choice: true,
+                ..NONE
+            },
+            NothingCall::Forks => Form {
+                n: true,
+                rules: true,
+                row: true,
+                d: true,
+                ..NONE
+            },
+        }
     }
 }
 
-// The longest row of a case, or file that is read: a rule file may have more bytes.
-pub fn longest_row(call: usize) -> usize {
-    if call == READ_RULES {
-        return 262144;
+impl FileCall {
+    fn form(self) -> Form {
+        match self {
+            FileCall::WriteRules => Form {
+                n: true,
+                rules: true,
+                ..NONE
+            },
+            FileCall::ReadWishes => Form { row: true, ..NONE },
+            FileCall::WriteWishes => Form {
+                n: true,
+                row: true,
+                d: true,
+                ..NONE
+            },
+            FileCall::WriteOpb => Form {
+                n: true,
+                rules: true,
+                row: true,
+                d: true,
+                ..NONE
+            },
+        }
     }
-    1024
+}
+
+impl SearchCall {
+    fn form(self) -> Form {
+        match self {
+            SearchCall::Wish => Form {
+                n: true,
+                rules: true,
+                row: true,
+                d: true,
+                ..NONE
+            },
+            SearchCall::Plain => Form {
+                n: true,
+                rules: true,
+                ..NONE
+            },
+            SearchCall::Nearest => Form {
+                n: true,
+                rules: true,
+                row: true,
+                ..NONE
+            },
+        }
+    }
+}
+
+impl NumbersCall {
+    fn form(self) -> Form {
+        match self {
+            NumbersCall::ReadRules => Form { row: true, ..NONE },
+            NumbersCall::Rewrite => Form {
+                n: true,
+                rules: true,
+                row: true,
+                d: true,
+                ..NONE
+            },
+        }
+    }
 }

@@ -1,30 +1,18 @@
 // The calls that write a list of numbers: the reader of the rule file, and rewriting.
-use crate::call::READ_RULES;
-use crate::show;
-use c_answers::Answer;
-use case_text::held;
+use crate::call::NumbersCall;
+use crate::{Lent, show};
+use std::io;
 
-pub fn answer(
-    to: &impl Print,
-    call: usize,
-    n: usize,
-    rules: &[i32],
-    row: &[u8],
-    d: usize,
-    out: &mut [i32],
-) {
-    let answer = called(call, n, rules, row, d, out);
-    if call == READ_RULES {
-        show::read(to, answer);
-    } else {
-        show::rewritten(to, answer);
+pub fn answer(to: &impl Print, call: NumbersCall, lent: Lent, out: &mut [i32]) -> io::Result<()> {
+    match call {
+        NumbersCall::ReadRules => {
+            let read = rule_file_reader::read_rules(lent.row, out);
+            show::read(to, c_answers::answer_of(read))?;
+        }
+        NumbersCall::Rewrite => {
+            let rewritten = totalizer_encoding::rewrite(lent.n, lent.rules, lent.row, lent.d, out);
+            show::rewritten(to, c_answers::answer_of(rewritten))?;
+        }
     }
-    held::numbers(to, out);
-}
-
-fn called(call: usize, n: usize, rules: &[i32], row: &[u8], d: usize, out: &mut [i32]) -> Answer {
-    if call == READ_RULES {
-        return c_file_answers::of_read_rules(rule_file_reader::read_rules(row, out));
-    }
-    c_search_answers::of_rewritten(totalizer_encoding::rewrite(n, rules, row, d, out))
+    case_text::held(to, out)
 }

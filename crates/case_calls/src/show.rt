@@ -1,49 +1,60 @@
 // Each call's answer, a line.
 use c_answers::Answer;
-use case_text::{report, words};
+use case_text::Refused;
+use std::io;
 
-// The answer of a search that found no choice.
-pub fn unfound(to: &impl Print, answer: Answer) {
-    if 0 < answer.refusal {
-        report::refused(to, answer.refusal, answer.place);
+// What a call answers where it is not refused.
+pub fn given(answer: Answer) -> Result<Answer, Refused> {
+    if answer.refusal == 0 {
+        Ok(answer)
     } else {
-        report::line(to, words::NONE);
+        Err(Refused {
+            number: answer.refusal,
+            place: answer.place,
+        })
     }
 }
 
-pub fn checked(to: &impl Print, answer: Answer) {
-    if answer.verdict == 0 {
-        one(to, answer, words::UNMET);
-    } else {
-        one(to, answer, words::MET);
+// The answer of a search that found no choice.
+pub fn unfound(to: &impl Print, answer: Answer) -> io::Result<()> {
+    match given(answer) {
+        Ok(_) => println!(to; "none"),
+        Err(refused) => println!(to; "{refused}"),
     }
+}
+
+pub fn checked(to: &impl Print, answer: Answer) -> io::Result<()> {
+    one(
+        to,
+        if answer.verdict == 0 { "unmet" } else { "met" },
+        answer,
+    )
 }
 
 // An answer with one value, after a word.
-pub fn one(to: &impl Print, answer: Answer, word: usize) {
-    if 0 < answer.refusal {
-        report::refused(to, answer.refusal, answer.place);
-    } else {
-        report::value_line(to, word, answer.value[0]);
+pub fn one(to: &impl Print, word: &str, answer: Answer) -> io::Result<()> {
+    match given(answer) {
+        Ok(answer) => println!(to; "{word} {}", answer.value[0]),
+        Err(refused) => println!(to; "{refused}"),
     }
 }
 
-pub fn read(to: &impl Print, answer: Answer) {
-    if 0 < answer.refusal {
-        report::refused(to, answer.refusal, answer.place);
-        return;
+pub fn read(to: &impl Print, answer: Answer) -> io::Result<()> {
+    match given(answer) {
+        Ok(answer) => {
+            let [first, second, third] = answer.value;
+            println!(to; "read {first} {second} {third}")
+        }
+        Err(refused) => println!(to; "{refused}"),
     }
-    words::write(to, words::READ);
-    report::value(to, words::BLANK, answer.value[0]);
-    report::value(to, words::BLANK, answer.value[1]);
-    report::value_line(to, words::BLANK, answer.value[2]);
 }
 
-pub fn rewritten(to: &impl Print, answer: Answer) {
-    if 0 < answer.refusal {
-        report::refused(to, answer.refusal, answer.place);
-        return;
+pub fn rewritten(to: &impl Print, answer: Answer) -> io::Result<()> {
+    match given(answer) {
+        Ok(answer) => {
+            let [variables, length, _] = answer.value;
+            println!(to; " {variables} rewritten to {length}")
+        }
+        Err(refused) => println!(to; "{refused}"),
     }
-    report::value(to, words::BLANK, answer.value[0]);
-    report::value_line(to, words::REWRITTEN, answer.value[1]);
 }

@@ -1,139 +1,63 @@
-// A case: its values are read one after the other, each by a function that passes them on.
-use case_calls::call::{BYTES, CALLS, Form, NUMBERS};
-use case_calls::{bytes_case, call, nothing_case, numbers_case};
-use case_text::report;
+// A case: a line of the name of a call and its values, which the crate case_text reads.
+use case_calls::call::{BytesCall, Call, NumbersCall};
+use case_calls::{Lent, bytes_case, nothing_case, numbers_case};
+use case_text::{LONGEST_FILE, LONGEST_LIST, LONGEST_ROW, Values};
+use std::io;
 
-pub fn run(to: &impl Print, line: &[u8], call: usize) {
-    if CALLS <= call {
-        report::malformed(to);
-        return;
+/// Runs the call of a case, and writes what it answers: None where the line is no case.
+pub fn run(to: &impl Print, line: &[u8]) -> Option<io::Result<()>> {
+    let (name, mut values) = Values::of(line);
+    let call = Call::named(name)?;
+    let has = call.form();
+    let mut rules = [0; LONGEST_LIST];
+    let mut row = [0; LONGEST_FILE];
+    let mut choice = [0; LONGEST_ROW];
+    let lent = Lent {
+        n: if has.n { values.number()? } else { 0 },
+        rules: values.list_if(has.rules, &mut rules)?,
+        row: values.list_if(has.row, &mut row)?,
+        d: if has.d { values.number()? } else { 0 },
+        choice: values.list_if(has.choice, &mut choice)?,
+    };
+    if call.longest_row() < lent.row.len() {
+        return None;
     }
-    let has = call::form_of(call);
-    let n = case_text::read_number_if(has.n, line, case_text::word_end(line));
-    with_n(to, line, call, has, n.value, n.next);
-}
-
-fn with_n(to: &impl Print, line: &[u8], call: usize, has: Form, n: usize, at: usize) {
-    let mut rules = case_text::numbers();
-    let filled = case_text::read_numbers_if(has.rules, line, at, &mut rules);
-    let end = filled.end;
-    with_rules(to, line, call, has, n, &rules[..end], filled.next);
-}
-
-fn with_rules(
-    to: &impl Print,
-    line: &[u8],
-    call: usize,
-    has: Form,
-    n: usize,
-    rules: &[i32],
-    at: usize,
-) {
-    let mut row = case_text::file();
-    let filled = case_text::read_bytes_if(has.row, line, at, &mut row);
-    let end = filled.end;
-    let d = case_text::read_number_if(has.d, line, filled.next);
-    with_row(to, line, call, has, n, rules, &row[..end], d.value, d.next);
-}
-
-fn with_row(
-    to: &impl Print,
-    line: &[u8],
-    call: usize,
-    has: Form,
-    n: usize,
-    rules: &[i32],
-    row: &[u8],
-    d: usize,
-    at: usize,
-) {
-    if call::longest_row(call) < row.len() {
-        report::malformed(to);
-        return;
-    }
-    let mut choice = case_text::bytes();
-    let filled = case_text::read_bytes_if(has.choice, line, at, &mut choice);
-    let end = filled.end;
-    with_choice(
-        to,
-        line,
-        call,
-        has.buffer,
-        n,
-        rules,
-        row,
-        d,
-        &choice[..end],
-        filled.next,
-    );
-}
-
-// The buffer comes last, if there is one.
-fn with_choice(
-    to: &impl Print,
-    line: &[u8],
-    call: usize,
-    buffer: usize,
-    n: usize,
-    rules: &[i32],
-    row: &[u8],
-    d: usize,
-    choice: &[u8],
-    at: usize,
-) {
-    match buffer {
-        NUMBERS => {
-            with_numbers(to, line, call, n, rules, row, d, at);
-        }
-        BYTES => {
-            with_bytes(to, line, call, n, rules, row, d, at);
-        }
-        _ => {
-            if at == line.len() {
-                nothing_case::answer(to, call, n, rules, row, d, choice);
-            } else {
-                report::malformed(to);
+    match call {
+        Call::Nothing(call) => {
+            if !values.is_done() {
+                return None;
             }
+            Some(nothing_case::answer(to, call, lent))
         }
+        Call::Bytes(call) => with_bytes(to, call, lent, values),
+        Call::Numbers(call) => with_numbers(to, call, lent, values),
     }
-}
-
-fn with_numbers(
-    to: &impl Print,
-    line: &[u8],
-    call: usize,
-    n: usize,
-    rules: &[i32],
-    row: &[u8],
-    d: usize,
-    at: usize,
-) {
-    let mut numbers = case_text::numbers();
-    let filled = case_text::read_numbers_if(true, line, at, &mut numbers);
-    if filled.next != line.len() {
-        report::malformed(to);
-        return;
-    }
-    let end = filled.end;
-    numbers_case::answer(to, call, n, rules, row, d, &mut numbers[..end]);
 }
 
 fn with_bytes(
     to: &impl Print,
-    line: &[u8],
-    call: usize,
-    n: usize,
-    rules: &[i32],
-    row: &[u8],
-    d: usize,
-    at: usize,
-) {
-    let mut bytes = case_text::file();
-    let filled = case_text::read_bytes_if(true, line, at, &mut bytes);
-    if filled.next != line.len() {
-        report::malformed(to);
-        return;
+    call: BytesCall,
+    lent: Lent,
+    mut values: Values,
+) -> Option<io::Result<()>> {
+    let mut space = [0; LONGEST_FILE];
+    let out = values.list(&mut space)?;
+    if !values.is_done() {
+        return None;
     }
-    let end = filled.end;
-    bytes_case::answer(to, call, n, rules, row, d, &mut bytes[..end]);
+    Some(bytes_case::answer(to, call, lent, out))
+}
+
+fn with_numbers(
+    to: &impl Print,
+    call: NumbersCall,
+    lent: Lent,
+    mut values: Values,
+) -> Option<io::Result<()>> {
+    let mut space = [0; LONGEST_LIST];
+    let out = values.list(&mut space)?;
+    if !values.is_done() {
+        return None;
+    }
+    Some(numbers_case::answer(to, call, lent, out))
 }

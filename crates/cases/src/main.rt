@@ -8,43 +8,48 @@ mod case;
 
 ghost use Rattle.std.specs.Prelude.{◌≡◌, length};
 
-use case_calls::call;
-use case_text::{report, words};
+use std::io;
+use std::io::Read;
 
 // The input must be shorter than this.
 const INPUT: usize = 1310720;
 
-fn input() -> [u8; 1310720]
-    ensures { 1310720 ≡ length result }
+// Apart from `main`: its length is a law in its proof, and the check does not go through the elements.
+fn input() -> [u8; INPUT]
+    ensures { INPUT ≡ length result }
 {
-    [0; 1310720]
+    [0; INPUT]
 }
 
 fn main(rt: HostRuntime) {
-    let mut stdin = rt.stdin();
-    let to = rt.stdout();
     let mut space = input();
-    let n = case_text::read_full(&mut stdin, &mut space);
-    if n < INPUT {
-        lines(&to, &space[..n]);
+    run(&rt.stdout(), &mut rt.stdin(), &mut space);
+}
+
+fn run(to: &impl Print, input: &mut impl Read, space: &mut [u8]) {
+    let n = case_text::read_full(input, space);
+    if n < space.len() {
+        lines(to, &space[..n]);
     } else {
-        report::line(&to, words::TOO_LONG);
+        let _ = println!(to; "the input is too long");
     }
 }
 
+// A write that fails is let go, with what is left of its line's answer: what is missing then shows where the
+// output is compared.
 fn lines(to: &impl Print, input: &[u8]) {
-    let mut from = 0;
-    while from < input.len() {
-        let end = case_text::line_end(input, from);
-        line(to, &input[from..end]);
-        from = end + 1;
+    for line in input.split_inclusive(|byte| *byte == b'\n') {
+        let _ = answer(to, line.strip_suffix(b"\n").unwrap_or(line));
     }
 }
 
-fn line(to: &impl Print, line: &[u8]) {
-    if case_text::past_byte(line, 0, b'#') <= line.len() {
-        report::label(to, line);
-        return;
+fn answer(to: &impl Print, line: &[u8]) -> io::Result<()> {
+    if line.starts_with(b"#") {
+        to.write_all(line)?;
+        return println!(to);
     }
-    case::run(to, line, call::named(line));
+    match case::run(to, line) {
+        Some(written) => written,
+        None => println!(to; "bad case"),
+    }
 }

@@ -1,82 +1,69 @@
 // The books of the input. Each has a line `book LIMITS RULES WISHES NAME`: how many limits the routes
 // are run with, the lengths of its two files, and its name. The rule file follows, the wish file, and a
 // line feed.
-ghost use Rattle.std.specs.Prelude.{◌≤◌, length};
+ghost use Rattle.std.specs.Prelude.{◌≡◌, ◌-◌, ◌≤◌, length};
 
-use crate::{book, words};
+use crate::book;
+use case_text::Values;
+use std::io;
 
-// What the first line of a book says. The name is the rest of the line from a place.
+// What the first line of a book says: 0 for a number that is missing.
 #[derive(Clone, Copy)]
-struct Heading {
+struct Heading<'a> {
     limits: usize,
     rules: usize,
     wishes: usize,
-    name: usize,
+    name: Option<&'a [u8]>,
 }
 
+// A write that fails is let go, with what is left of its book's line: what is missing then shows where the
+// output is compared.
 pub fn run(to: &impl Print, input: &[u8]) {
-    let mut from = 0;
-    while from < input.len() {
-        let end = case_text::line_end(input, from);
-        from = book(to, input, from, end) + 1;
+    let mut rest = input;
+    while !rest.is_empty() {
+        let (line, files) = cut(rest, line_length(rest));
+        let heading = Heading::of(line);
+        let (rules, after) = cut(past_feed(files), heading.rules);
+        let (wishes, after) = cut(after, heading.wishes);
+        let _ = book(to, heading, rules, wishes);
+        rest = past_feed(after);
     }
 }
 
-// One book, whose first line stands from one place to another. The place after it.
-fn book(to: &impl Print, input: &[u8], from: usize, end: usize) -> usize
-    requires { (from ≤ end) × (end ≤ length input.now) }
-    ensures { (end ≤ result) × (result ≤ length input.now) }
+fn line_length(text: &[u8]) -> usize {
+    text.iter()
+        .position(|byte| *byte == b'\n')
+        .unwrap_or(text.len())
+}
+
+// What follows the line feed with which a text begins.
+fn past_feed(text: &[u8]) -> &[u8]
+    ensures { length result.now ≡ length text.now - 1 }
 {
-    let line = &input[from..end];
-    let heading = heading_of(line);
-    name(to, line, heading.name);
-    files(to, input, end, heading)
+    text.get(1..).unwrap_or(text)
 }
 
-// Its two files, from the end of its first line on.
-fn files(to: &impl Print, input: &[u8], end: usize, heading: Heading) -> usize
-    requires { end ≤ length input.now }
-    ensures { (end ≤ result) × (result ≤ length input.now) }
+// A part of some size, and what follows it: the whole of an input that is cut.
+fn cut(text: &[u8], size: usize) -> (&[u8], &[u8])
+    ensures { length result.1.now ≤ length text.now }
 {
-    let rules = past(input, end, 1);
-    let wishes = past(input, rules, heading.rules);
-    let next = past(input, wishes, heading.wishes);
-    book::run(
-        to,
-        &input[rules..wishes],
-        &input[wishes..next],
-        heading.limits,
-    );
-    next
+    text.split_at(size.min(text.len()))
 }
 
-fn heading_of(line: &[u8]) -> Heading {
-    let limits = case_text::read_number(line, case_text::past_word(line, b"book"));
-    let rules = case_text::read_number(line, limits.next);
-    let wishes = case_text::read_number(line, rules.next);
-    Heading {
-        limits: limits.value,
-        rules: rules.value,
-        wishes: wishes.value,
-        name: case_text::past_byte(line, wishes.next, b' '),
-    }
+fn book(to: &impl Print, heading: Heading, rules: &[u8], wishes: &[u8]) -> io::Result<()> {
+    to.write_all(heading.name.unwrap_or(b"bad book"))?;
+    book::run(to, rules, wishes, heading.limits)?;
+    println!(to)
 }
 
-// The place after a part of some size, or the end of an input that is cut.
-fn past(input: &[u8], from: usize, size: usize) -> usize
-    requires { from ≤ length input.now }
-    ensures { (from ≤ result) × (result ≤ length input.now) }
-{
-    if size <= input.len() - from {
-        return from + size;
-    }
-    input.len()
-}
-
-fn name(to: &impl Print, line: &[u8], from: usize) {
-    if from <= line.len() {
-        case_text::write(to, &line[from..]);
-    } else {
-        words::write(to, words::BAD_BOOK);
+impl<'a> Heading<'a> {
+    fn of(line: &'a [u8]) -> Heading<'a> {
+        let mut values = Values::after(line, b"book");
+        Heading {
+            limits: values.number().unwrap_or(0),
+            rules: values.number().unwrap_or(0),
+            wishes: values.number().unwrap_or(0),
+            name: values.name(),
+        }
     }
 }

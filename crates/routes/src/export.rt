@@ -1,30 +1,20 @@
 // The export to OPB at a limit: the length of its file and a sum of its bytes, or its refusal.
-use crate::{report, words};
-use case_text::held;
-use replies::Written;
+use crate::problem::Problem;
+use case_text::{LONGEST_FILE, Refused};
+use std::io;
 
-pub fn at_limit(to: &impl Print, n: usize, rules: &[i32], row: &[u8], d: usize) {
-    let mut file = case_text::file();
-    into(to, n, rules, row, d, &mut file);
+pub fn at_limit(to: &impl Print, problem: Problem, d: usize) -> io::Result<()> {
+    let mut file = [0; LONGEST_FILE];
+    into(to, problem, d, &mut file)
 }
 
-fn into(to: &impl Print, n: usize, rules: &[i32], row: &[u8], d: usize, file: &mut [u8]) {
-    words::write(to, words::OPB);
-    match opb_writer::write_opb(n, rules, row, d, file) {
-        Written::Refused(r) => {
-            report::refused(to, r.number, r.place);
-        }
-        Written::Done(length) => {
-            summed(to, file, length);
-        }
+fn into(to: &impl Print, problem: Problem, d: usize, file: &mut [u8]) -> io::Result<()> {
+    print!(to; ", OPB")?;
+    match opb_writer::write_opb(problem.n, problem.rules, problem.row, d, file) {
+        Err(refusal) => print!(to; " {}", Refused::from(refusal)),
+        Ok(length) => match file.get(..length) {
+            Some(text) => print!(to; " of {length} bytes, sum {}", case_text::sum(text)),
+            None => print!(to; " no room"),
+        },
     }
-}
-
-fn summed(to: &impl Print, file: &[u8], length: usize) {
-    if file.len() < length {
-        words::write(to, words::NO_ROOM);
-        return;
-    }
-    report::value(to, words::OF, length);
-    report::value(to, words::SUM, held::sum_of_bytes(&file[0..length]));
 }

@@ -7,33 +7,35 @@ mod book;
 mod books;
 mod export;
 mod outcome;
-mod report;
+mod problem;
 mod route;
 mod single;
 mod survey;
-mod unset;
-mod words;
 
 ghost use Rattle.std.specs.Prelude.{◌≡◌, length};
+
+use std::io::Read;
 
 // The input must be shorter than this.
 const INPUT: usize = 1048576;
 
-fn input() -> [u8; 1048576]
-    ensures { 1048576 ≡ length result }
+// Apart from `main`: its length is a law in its proof, and the check does not go through the elements.
+fn input() -> [u8; INPUT]
+    ensures { INPUT ≡ length result }
 {
-    [0; 1048576]
+    [0; INPUT]
 }
 
 fn main(rt: HostRuntime) {
-    let mut stdin = rt.stdin();
-    let to = rt.stdout();
     let mut space = input();
-    let n = case_text::read_full(&mut stdin, &mut space);
-    if n < INPUT {
-        books::run(&to, &space[..n]);
+    run(&rt.stdout(), &mut rt.stdin(), &mut space);
+}
+
+fn run(to: &impl Print, input: &mut impl Read, space: &mut [u8]) {
+    let n = case_text::read_full(input, space);
+    if n < space.len() {
+        books::run(to, &space[..n]);
     } else {
-        words::write(&to, words::TOO_LONG);
-        case_text::line_feed(&to);
+        let _ = println!(to; "the input is too long");
     }
 }

@@ -2,15 +2,9 @@
 ghost use Rattle.std.specs.Prelude.{◌<◌};
 
 use crate::outcome::Outcome;
-use crate::{report, route, words};
-
-// What both routes say at a limit.
-#[derive(Clone, Copy)]
-enum Both {
-    Found,
-    Nothing,
-    Differ,
-}
+use crate::problem::Problem;
+use crate::route;
+use std::{fmt, io};
 
 // Below `agreed` the routes agree. Below `none` they both find none, and from there to below `found`
 // they both find a choice.
@@ -21,76 +15,79 @@ struct Survey {
     found: usize,
 }
 
-pub fn every(to: &impl Print, n: usize, rules: &[i32], row: &[u8], limits: usize) {
-    let mut survey = start();
-    for d in 0..limits {
-        let first = route::first(n, rules, row, d);
-        let second = route::second(n, rules, row, d);
-        survey = seen(survey, d, compare(first, second));
-    }
-    show(to, survey);
-}
-
-fn show(to: &impl Print, survey: Survey) {
-    report::range(to, words::AGREE, 0, survey.agreed);
-    report::range(to, words::BOTH_NONE, 0, survey.none);
-    report::range(to, words::BOTH_FOUND, survey.none, survey.found);
-}
-
-// No limit has been tried.
-fn start() -> Survey {
-    Survey {
+pub fn every(to: &impl Print, problem: Problem, limits: usize) -> io::Result<()> {
+    let mut survey = Survey {
         agreed: 0,
         none: 0,
         found: 0,
+    };
+    for d in 0..limits {
+        let outcome = route::first(problem, d);
+        if outcome == route::second(problem, d) {
+            survey.see(d, outcome);
+        }
     }
+    print!(to; "; {survey}")
 }
 
-fn compare(first: Outcome, second: Outcome) -> Both {
-    match first {
-        Outcome::Found => match second {
-            Outcome::Found => Both::Found,
-            _ => Both::Differ,
-        },
-        Outcome::Nothing => match second {
-            Outcome::Nothing => Both::Nothing,
-            _ => Both::Differ,
-        },
-        _ => Both::Differ,
-    }
-}
-
-fn seen(survey: Survey, d: usize, both: Both) -> Survey
-    requires { d < 18446744073709551615 }
-{
-    match both {
-        Both::Found => Survey {
-            agreed: extended(survey.agreed, d),
-            none: survey.none,
-            found: extended(greater(survey.none, survey.found), d),
-        },
-        Both::Nothing => Survey {
-            agreed: extended(survey.agreed, d),
-            none: extended(survey.none, d),
-            found: survey.found,
-        },
-        Both::Differ => survey,
+impl Survey {
+    // Takes in what both routes say at a limit.
+    fn see(&mut self, d: usize, outcome: Outcome)
+        requires { d < usize.MAX }
+    {
+        match outcome {
+            Outcome::Found => {
+                self.agreed = extended(self.agreed, d);
+                self.found = extended(self.found.max(self.none), d);
+            }
+            Outcome::Nothing => {
+                self.agreed = extended(self.agreed, d);
+                self.none = extended(self.none, d);
+            }
+            Outcome::Unmet | Outcome::Miscounted | Outcome::PastLimit | Outcome::Refused(_) => {}
+        }
     }
 }
 
 // A bound that reaches to a limit is moved past it. One that a gap keeps from it stays.
 fn extended(bound: usize, d: usize) -> usize
-    requires { d < 18446744073709551615 }
+    requires { d < usize.MAX }
 {
-    if bound == d {
-        return d + 1;
-    }
-    bound
+    if bound == d { d + 1 } else { bound }
 }
 
-fn greater(a: usize, b: usize) -> usize {
-    if a < b {
-        return b;
+impl fmt::Display for Survey {
+    fn fmt<W: fmt::Write>(&self, f: &mut fmt::Formatter<W>) -> fmt::Result {
+        let agree = Limits {
+            from: 0,
+            below: self.agreed,
+        };
+        let none = Limits {
+            from: 0,
+            below: self.none,
+        };
+        let found = Limits {
+            from: self.none,
+            below: self.found,
+        };
+        write!(f, "routes agree {agree}, none {none}, found {found}")
     }
-    a
+}
+
+// The limits from one to below another, written by the first and the last of them.
+#[derive(Clone, Copy)]
+struct Limits {
+    from: usize,
+    below: usize,
+}
+
+impl fmt::Display for Limits {
+    fn fmt<W: fmt::Write>(&self, f: &mut fmt::Formatter<W>) -> fmt::Result {
+        let from = self.from;
+        if self.below <= from {
+            return write!(f, "nowhere");
+        }
+        let last = self.below - 1;
+        write!(f, "{from}..{last}")
+    }
 }

@@ -9,9 +9,10 @@ use Rattle.case_calls.proofs.forks_case.walk.Goals as goal
 
 pub walk_into-requires : goal.walk_into-requires
 walk_into-requires g c =
-    let problem = wished_problem c.args.n c.args.rules.now c.args.row.now c.args.d in
+    let args = c.args.lent in
+    let problem = wished_problem args.n args.rules.now args.row.now args.d in
     let room = length c.args.choice.now in
-    let lent = with_room c.args.n room problem in
-    let told = c.with_room.ensures ∙ started c.admit_wishes-admitted.result problem c.args.n room c.admit_wishes-admitted.ensures in
-    let passed = (admitted_by (refusal_of lent) (counts_of lent) c.in-Admitted.field-0 (sym told ∙ c.in-Admitted.is)).0 in
-    startable problem room (unrefused problem c.args.n room passed)
+    let admissible = with_room args.n room problem in
+    let told = c.with_room.ensures ∙ started c.admit_wishes-admitted.result problem args.n room c.admit_wishes-admitted.ensures in
+    let passed = (admitted_by (refusal_of admissible) (counts_of admissible) c.in-Ok.field-0 (sym told ∙ c.in-Ok.is)).0 in
+    startable problem room (unrefused problem args.n room passed)

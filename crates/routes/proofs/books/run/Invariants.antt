@@ -1,9 +1,6 @@
--- `routes::books::run` meets its contract.
-use Rattle.std.proofs.Common.{length, ◌-◌}
+-- `routes::books::run` meets its contract: each book leaves less of the input.
+use Rattle.std.proofs.Common.{length}
 use Rattle.routes.proofs.books.run.Given as goal
 
-abbrev pub invariant-loop-from : goal.invariant-loop-from
-invariant-loop-from g l = Unit {0}
-
-abbrev pub decreases-loop-from : goal.decreases-loop-from
-decreases-loop-from g l = length l.input - l.from
+abbrev pub decreases-loop-rest : goal.decreases-loop-rest
+decreases-loop-rest g l = length l.rest

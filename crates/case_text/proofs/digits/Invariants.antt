@@ -1,9 +1,0 @@
--- `case_text::digits` meets its contract.
-use Rattle.std.proofs.Common.{◌-◌, length}
-use Rattle.case_text.proofs.digits.Given as goal
-
-abbrev pub invariant-loop-i : goal.invariant-loop-i
-invariant-loop-i l = Unit {0}
-
-abbrev pub decreases-loop-i : goal.decreases-loop-i
-decreases-loop-i l = length l.line - l.i

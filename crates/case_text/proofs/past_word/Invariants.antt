@@ -1,9 +1,0 @@
--- `case_text::past_word` meets its contract.
-use Rattle.std.proofs.Common.{◌-◌, length}
-use Rattle.case_text.proofs.past_word.Given as goal
-
-abbrev pub invariant-loop-i : goal.invariant-loop-i
-invariant-loop-i l = Unit {0}
-
-abbrev pub decreases-loop-i : goal.decreases-loop-i
-decreases-loop-i l = length l.word - l.i
