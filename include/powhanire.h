@@ -36,9 +36,9 @@
  *
  * The calls keep no state and use no heap, so several threads may call at once. They may share what is only read; a
  * buffer that is written is one thread's alone.
- * Stack, measured by tests/interface/run at the deepest inputs there are: plain up to 323,888 bytes
- * (288 for each fork on a path, of which 640 settings allow 639), nearest up to 223,120, search up to
- * 212,704, the other calls up to 4,096. A thread with 512 KB suffices for all.
+ * Stack, measured by tests/interface/run at the deepest inputs there are: plain up to 303,440 bytes
+ * (256 for each fork on a path, of which 640 settings allow 639), nearest up to 227,232, search up to
+ * 204,528, the other calls up to 4,096. A thread with 512 KB suffices for all.
  */
 #ifndef POWHANIRE_H
 #define POWHANIRE_H
