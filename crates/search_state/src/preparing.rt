@@ -12,6 +12,6 @@ pub fn prepare(n: usize, rules: &[i32], arrangement: &mut [u16], witnesses: &mut
     ensures { Prepared n rules.now arrangement.new witnesses.new result }
 {
     walk_occurrences::arrange(n, rules, &mut *arrangement);
-    witnesses.copy_from_slice(walk_occurrences::begins_of(&*arrangement));
+    writing::put_all(walk_occurrences::begins_of(&*arrangement), witnesses, 0);
     walk_occurrences::clause_count(&*arrangement)
 }

@@ -26,12 +26,14 @@ pub fn put_times<T: Copy>(x: T, times: usize, out: &mut [T], from: usize) -> usi
     at
 }
 
-// Writes a copy of a list.
+// Writes a copy of a list, one element after the other: for `copy_from_slice` the compiler calls C's `memmove`, which the
+// archive does without.
 pub fn put_all<T: Copy>(list: &[T], out: &mut [T], at: usize) -> usize
     requires { at + length list.now ≤ length out.old }
     ensures { Wrote list.now out.old at out.new result }
 {
-    let end = at + list.len();
-    out[at..end].copy_from_slice(list);
-    end
+    for (i, x) in list.iter().enumerate() {
+        put(*x, out, at + i);
+    }
+    at + list.len()
 }

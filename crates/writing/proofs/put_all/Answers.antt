@@ -1,9 +1,10 @@
-use Rattle.std.proofs.Common.{◌+◌, ◌-◌, length, arith}
-use Rattle.writing.specs.Wrote.{wrote_part}
+use Rattle.std.proofs.Common.{[], ◌∷◌, ◌+◌, arith, subst}
+use Rattle.writing.specs.Wrote.{Wrote, wrote_next}
 use Rattle.writing.proofs.put_all.Goals as goal
 
-pub returns : goal.returns
-returns g c =
-    let list = c.args.list.now in
-    let at = c.args.at in
-    wrote_part list c.args.out.now c.copy_from_slice.new.self at (at + length list - at) c.copy_from_slice.ensures.after (omega arith) c.requires
+pub loop-i-preserved : goal.loop-i-preserved
+loop-i-preserved g c =
+    let i = c.loop-i.i in
+    let one = subst (λ (x : g.row.T.Denot). Wrote (x ∷ []) c.loop-i.out (c.args.at + i) c.put.new.out c.put.result) c.index-list-i.is c.put.ensures in
+    let next = wrote_next c.args.list.now i c.index-list-i.result c.loop-i-test.true c.loop-i.invariant one in
+    record { place = omega (arith, next.place, c.put.ensures.place); list = next.list }
