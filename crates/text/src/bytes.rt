@@ -10,8 +10,7 @@ pub fn put_byte(b: u8, out: &mut [u8], at: usize) -> usize
     writing::put(b, out, at)
 }
 
-// Puts a copy of some bytes: one by one, so that those of a short text stand in the code, and not in read-only data as
-// for `writing::put_all`.
+// Puts a copy of some bytes: one by one, so that those of a short text stand in the code, and not in read-only data.
 pub fn put_bytes(bytes: &[u8], out: &mut [u8], from: usize) -> usize
     requires { from + length bytes.now ≤ length out.old }
     ensures { Wrote bytes.now out.old from out.new result }

@@ -23,9 +23,11 @@ pub fn put_number(v: usize, out: &mut [u8], at: usize) -> usize
 {
     let end = at + number_length(v);
     let mut rest = v;
-    for i in (at..end).rev() {
+    // The first digit stands apart: a number of one digit has no turn.
+    for i in (at + 1..end).rev() {
         out[i] = b'0' + (rest % 10) as u8;
         rest = rest / 10;
     }
+    out[at] = b'0' + (rest % 10) as u8;
     end
 }

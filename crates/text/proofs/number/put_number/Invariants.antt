@@ -1,9 +1,8 @@
--- `text::number::put_number` meets its contract. The loop's invariant: with the digits that are still to be put, the buffer is what it is to be.
+-- `text::number::put_number` meets its contract. The loop's invariant: with the digits of what is left before it, the buffer is what it is to be.
 use Rattle.std.proofs.Common.{◌≡◌, ◌++◌, ◌+◌, length, take, drop}
 use Rattle.std.proofs.lemmas.List.Edits.{sets}
 use Rattle.decimal.specs.Decimal.{decimal}
-use Rattle.text.specs.Laws.{still}
 use Rattle.text.proofs.number.put_number.Given as goal
 
 abbrev pub invariant-loop-i : goal.invariant-loop-i
-invariant-loop-i l = (l.i ≡ l.at + length (still l.at l.i l.rest)) × (take l.at l.out ++ (still l.at l.i l.rest ++ drop l.i l.out) ≡ sets l.initial.out l.at (decimal l.v))
+invariant-loop-i l = (l.i ≡ l.at + length (decimal l.rest)) × (take l.at l.out ++ (decimal l.rest ++ drop l.i l.out) ≡ sets l.initial.out l.at (decimal l.v))
