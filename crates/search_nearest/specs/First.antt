@@ -74,3 +74,11 @@ module _ (n : ℕ) (rules : List ℤ) (sound : SoundList n rules) (row : List �
         go : (o : Option Answer) → Some k ≡ broken_by o → choice_after None o n after ≡ choice_after None o n start
         go None g = absurd (none-some k (sym g))
         go (Some y) g = ap (λ (l : List ℕ). y.choice ++ l) (h.rest ∙ same)
+
+-- none, where the limit is all that the wishes weigh
+module _ (n : ℕ) (rules : List ℤ) (sound : SoundList n rules) (row : List ℕ) (e : (walk n (clauses rules) row (total_weight row)).answer ≡ None) where
+  pub unmet_answered : None ≡ broken_by (nearest_answer n rules row)
+  unmet_answered = none_answered n rules sound row (total_weight row) refl e
+
+  pub unmet_written : (bytes : List ℕ) → bytes ≡ choice_after None (nearest_answer n rules row) n bytes
+  unmet_written bytes = none_written n rules sound row (total_weight row) refl e bytes

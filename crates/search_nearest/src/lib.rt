@@ -66,6 +66,7 @@ fn first_nearest(
 
 // One walk with all that the wishes weigh for a limit, which no choice exceeds, tells whether the rules can be
 // met. Then the least count is found, and the first choice that has it: as none has less, the first within it.
+#[tactic(auto, using(crate::specs::First::unmet_answered, crate::specs::First::unmet_written))]
 fn nearest_with(
     rules: &[i32],
     arrangement: &[u16],

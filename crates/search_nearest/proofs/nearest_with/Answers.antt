@@ -1,32 +1,20 @@
 -- `search_nearest::nearest_with` meets its contract: the least count is the nearest count, and the first choice within it is the first nearest.
-use Rattle.std.specs.Prelude.{Option, None, Some}
+use Rattle.std.specs.Prelude.{None, Some}
 use Rattle.std.proofs.Common.{◌≡◌, sym, ap, subst, ◌∙◌, ℕ, List, ◌≤◌, arith, length, take}
 use Rattle.formula.specs.Formula.{clauses}
 use Rattle.choices.specs.Choices.{Model}
 use Rattle.distance.specs.Distance.{disagreement, first_within}
 use Rattle.search_meaning.specs.Searches.{choice_after, with_broken}
-use Rattle.walk.specs.Walk.{Answer, walk}
+use Rattle.walk.specs.Walk.{walk}
 use Rattle.search_state.specs.Tried.{answer_in}
-use Rattle.search_nearest.specs.First.{none_answered, none_written, found_model, found_rest, first_answered, first_written}
+use Rattle.search_nearest.specs.First.{found_model, found_rest, first_answered, first_written}
 use Rattle.search_nearest.specs.Least.{Least}
 use Rattle.search_nearest.proofs.nearest_with.Goals as goal
-use Rattle.search_nearest.proofs.nearest_with.Goals.{In_err-most, In_ok-most, After-least_count-least}
+use Rattle.search_nearest.proofs.nearest_with.Goals.{In_ok-most, After-least_count-least}
 
--- the walk found nothing, or a number
-nothing : (c : In_err-most) → (walk (length c.args.a.now) (clauses c.args.rules.now) c.args.row.now c.args.total).answer ≡ None
-nothing c = c.walk_from_root-tried.ensures.root.0 ∙ ap (answer_in c.walk_from_root-tried.new.a) c.in_err-most.was
-
+-- the walk found a number
 there : (c : In_ok-most) → (walk (length c.args.a.now) (clauses c.args.rules.now) c.args.row.now c.args.total).answer ≡ Some (record { choice = c.walk_from_root-tried.new.a; broken = c.in_ok-most.most })
 there c = c.walk_from_root-tried.ensures.root.0 ∙ ap (answer_in c.walk_from_root-tried.new.a) c.in_ok-most.was
-
-pub returns-in_err-most-clause-answer : goal.returns-in_err-most-clause-answer
-returns-in_err-most-clause-answer c =
-    c.from_residual.ensures
-    ∙ none_answered (length c.args.a.now) c.args.rules.now c.requires.trail_len.1.sound c.args.row.now c.args.total c.requires.a_in_bounds.1 (nothing (goal.at.returns-in_err-most-clause-answer c).In_err-most)
-
-pub returns-in_err-most-clause-output : goal.returns-in_err-most-clause-output
-returns-in_err-most-clause-output c =
-    none_written (length c.args.a.now) c.args.rules.now c.requires.trail_len.1.sound c.args.row.now c.args.total c.requires.a_in_bounds.1 (nothing (goal.at.returns-in_err-most-clause-output c).In_err-most) c.args.choice.now
 
 pub least_count-least-requires-clause-a_in_bounds : goal.least_count-least-requires-clause-a_in_bounds
 least_count-least-requires-clause-a_in_bounds c =
