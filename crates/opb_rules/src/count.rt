@@ -8,10 +8,14 @@ ghost use Rattle.opb_format.specs.Opb.{terms_text, line_text, lines_text};
 pub fn negatives_of(clause: &[i32]) -> usize
     ensures { result ≡ negatives clause.now }
 {
-    clause
-        .iter()
-        .filter(|x| literal::wanted_by(**x) == 0)
-        .count()
+    // no chain: its `filter` branches at each entry, and senses come as they like
+    let mut count = 0;
+    for x in clause {
+        if literal::wanted_by(*x) == 0 {
+            count += 1;
+        }
+    }
+    count
 }
 
 // How many bytes the terms of a clause take.
